@@ -1,0 +1,157 @@
+-- The whole call: what a tick and a reset answer and what they leave, refusals in their order. Document 01, "What a call can say".
+use mathlib.Core.Bool.{Bool, true, false, cond, not, _||_}
+use mathlib.Core.List.{List, map}
+use mathlib.Core.List
+use Prim.Native.Nat.{ℕ, zero, suc, _+_, _-_, _%_, _^_}
+use lib.Dec.{leb, ltb, eqb}
+use lib.Ieee.{Float, binary64}
+use lib.ListN.{length, drop}
+use Rattle.rules.specs.declared.status.Status.{Status}
+use Rattle.rules.specs.declared.status.Status.the-variants.{Running, Success, Failure}
+use Rattle.rules.specs.declared.event.Event.{Event}
+use Rattle.rules.specs.declared.event.Event.the-variants.{Update, Other}
+use Rattle.rules.specs.declared.answer.Answer.{Answer}
+use Rattle.rules.specs.declared.answer.Answer.the-variants.{Ticked, Asked, Finished, BadTable, TooShort, BadTime, BadAnswer, OutOfFuel, BadCell}
+use Rattle.rules.specs.declared.answer.ResetAnswer.{ResetAnswer}
+use Rattle.rules.specs.declared.answer.ResetAnswer.the-variants as resets
+use Rattle.rules.specs.declared.answer.Record.{Record}
+use Rattle.rules.specs.Tree.{Cell, Tree, fresh, size}
+use Rattle.rules.specs.Outcome.{World, world, Out, done, asks, short, statusOf}
+use Rattle.rules.specs.State.{tick}
+use Rattle.rules.specs.Table.{mostDeep, number, Table, good, bad, table}
+use Rattle.rules.specs.Cells.{cells, withCells, column, timeOf, placeOf, markOf, boardOf, Found, faulty, none, badCell}
+
+-- a run of cells, as it is lent
+pub record Run : Type 0 where
+  pub times : List Float
+  pub places : List ℕ
+  pub marks : List ℕ
+
+abbrev pub run : List Float → List ℕ → List ℕ → Run
+run ts ps ms = record { times = ts; places = ps; marks = ms }
+
+-- how many cells a run has
+abbrev pub runLength : Run → ℕ
+runLength r = length (cells (r .times) (r .places) (r .marks))
+
+-- what a tick is given
+pub record Given : Type 0 where
+  pub kinds : List ℕ
+  pub ns : List ℕ
+  pub limits : List Float
+  pub record' : Record
+  pub cells' : Run
+  pub spare : Run
+  pub board : List ℕ
+  pub event : Event
+  pub fuel : ℕ
+  pub statuses : List ℕ
+  pub leftovers : List Float
+
+-- what it leaves
+pub record Left : Type 0 where
+  pub answer : Answer
+  pub record' : Record
+  pub cells' : Run
+  pub spare : Run
+  pub board : List ℕ
+
+abbrev pub left : Answer → Record → Run → Run → List ℕ → Left
+left a r c s b = record { answer = a; record' = r; cells' = c; spare = s; board = b }
+
+-- ---- the answers that are lent
+unfoldable pub answers : List ℕ → List Float → List (Status × Float)
+answers List.[] ls = List.[]
+answers (List._∷_ s ss) List.[] = List.[]
+answers (List._∷_ s ss) (List._∷_ l ls) = List._∷_ (statusOf s, l) (answers ss ls)
+
+abbrev pub answerAllowed : ℕ → Float → Bool
+answerAllowed s l = cond (leb 1 s) (cond (leb s 3) (number l) false) false
+
+-- the first answer with a status other than 1 to 3, or a leftover that is no number; or none
+unfoldable pub badAnswer : ℕ → List ℕ → List Float → Found
+badAnswer i List.[] ls = none i
+badAnswer i (List._∷_ s ss) List.[] = none i
+badAnswer i (List._∷_ s ss) (List._∷_ l ls) = cond (answerAllowed s l) (badAnswer (suc i) ss ls) (faulty i)
+
+abbrev pub timeAllowed : Event → Bool
+timeAllowed (Update x) = number x
+timeAllowed Other = true
+
+-- ---- what is left
+-- a tree's cells at the start of a run; memory past the table's length is untouched
+unfoldable pub ontoRun : Tree → Run → Run
+ontoRun t r = run (column timeOf t (drop (size t) (r .times))) (column placeOf t (drop (size t) (r .places))) (column markOf t (drop (size t) (r .marks)))
+
+unfoldable pub ontoBoard : Tree → List ℕ → List ℕ
+ontoBoard t b = column boardOf t (drop (size t) b)
+
+-- "At the end the tick count goes from its largest number to 0"; a status other than Running at the root sets finished
+abbrev pub ended : Status → Bool
+ended Running = false
+ended Success = true
+ended Failure = true
+
+unfoldable pub counted : Status → Record → Record
+counted s r = record { finished = ended s; ticks = (r .ticks + 1) % 2 ^ 64 }
+
+-- everything stays
+abbrev pub refused : Given → Answer → Left
+refused g a = left a (g .record') (g .cells') (g .spare) (g .board)
+
+-- the walk of the tree t, whose cells are those at entry
+abbrev pub walked : Given → Tree → Out Tree → Left
+walked g t (done s r t' (world f ans)) = left
+    (Ticked s r (g .fuel - f) (length (answers (g .statuses) (g .leftovers)) - length ans))
+    (counted s (g .record')) (ontoRun t' (g .cells')) (ontoRun t (g .spare)) (ontoBoard t' (g .board))
+walked g t (asks n x) = left (Asked n x) (g .record') (g .cells') (ontoRun t (g .spare)) (g .board)
+walked g t short = left OutOfFuel (g .record') (g .cells') (ontoRun t (g .spare)) (g .board)
+
+-- the tree with its cells; 5, 6 and 2, and then the walk
+unfoldable pub tickTree : Given → Tree → Left
+unfolding tick answers badAnswer counted ontoRun ontoBoard
+tickTree g t = cond (timeAllowed (g .event))
+    (elim (badAnswer 0 (g .statuses) (g .leftovers)) [
+      | faulty i ↦ refused g (BadAnswer i)
+      | none _ ↦ cond (g .record' .finished)
+          (refused g Finished)
+          (walked g t (tick binary64 mostDeep t (g .event) (world (g .fuel) (answers (g .statuses) (g .leftovers)))))
+    ])
+    (refused g BadTime)
+
+abbrev pub tooShort : Given → ℕ → Bool
+tooShort g n = not (leb n (runLength (g .cells'))) || not (leb n (runLength (g .spare))) || not (leb n (length (g .board)))
+
+-- 3, 4 and 9 come first
+unfoldable pub tickCall : Given → Left
+unfolding tickTree table withCells badCell cells
+tickCall g = elim (table (g .kinds) (g .ns) (g .limits)) [
+  | bad p ↦ refused g (BadTable p)
+  | good t₀ ↦ cond (tooShort g (size t₀))
+      (refused g TooShort)
+      (let t = withCells t₀ (cells (g .cells' .times) (g .cells' .places) (g .cells' .marks)) .0 in
+      elim (badCell false false 0 t) [
+        | faulty p ↦ refused g (BadCell p)
+        | none _ ↦ tickTree g t
+      ])
+]
+
+-- ---- a reset: it looks only at table and cells, and writes neither spare nor board
+pub record ResetLeft : Type 0 where
+  pub answer : ResetAnswer
+  pub record' : Record
+  pub cells' : Run
+
+abbrev pub resetLeft : ResetAnswer → Record → Run → ResetLeft
+resetLeft a r c = record { answer = a; record' = r; cells' = c }
+
+unfoldable pub resetCall : List ℕ → List ℕ → List Float → Record → Run → ResetLeft
+unfolding table ontoRun
+resetCall kinds ns limits r c = elim (table kinds ns limits) [
+  | bad p ↦ resetLeft (resets.BadTable p) r c
+  | good t ↦ cond (leb (size t) (runLength c))
+      (resetLeft resets.Reset (record { finished = false; ticks = r .ticks }) (ontoRun t c))
+      (resetLeft resets.TooShort r c)
+]
+
+-- ---- document 01's numbers: no, status, time, visits, used, extra; every field that a line doesn't name is 0

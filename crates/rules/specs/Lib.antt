@@ -1,0 +1,12 @@
+pub mod Kinds
+pub mod Tree
+pub mod Outcome
+pub mod Sequence
+pub mod WhenAll
+pub mod Loops
+pub mod State
+pub mod Table
+pub mod Cells
+pub mod Call
+pub mod Bound
+pub mod Cases

@@ -1,0 +1,14 @@
+// The kinds of nodes, what a node answers and what it is asked with: the types that the rules in
+// specs/ speak of.
+mod answer;
+mod behavior;
+mod event;
+mod status;
+
+pub use answer::Answer;
+pub use answer::BoundAnswer;
+pub use answer::Record;
+pub use answer::ResetAnswer;
+pub use behavior::Kind;
+pub use event::Event;
+pub use status::Status;
