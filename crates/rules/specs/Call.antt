@@ -15,8 +15,9 @@ use Rattle.rules.specs.declared.answer.Answer.the-variants.{Ticked, Aske
 use Rattle.rules.specs.declared.answer.ResetAnswer.{ResetAnswer}
 use Rattle.rules.specs.declared.answer.ResetAnswer.the-variants as resets
 use Rattle.rules.specs.declared.answer.Record.{Record}
-use Rattle.rules.specs.Tree.{Cell, Tree, fresh, size}
-use Rattle.rules.specs.Outcome.{World, world, Out, done, asks, short, statusOf}
+use Rattle.rules.specs.declared.answer.Said.{Said}
+use Rattle.rules.specs.Tree.{zeroTime, Tree, size}
+use Rattle.rules.specs.Outcome.{World, world, Out, done, asks, short, byte, statusOf}
 use Rattle.rules.specs.State.{tick}
 use Rattle.rules.specs.Table.{mostDeep, number, Table, good, bad, table}
 use Rattle.rules.specs.Cells.{cells, withCells, column, timeOf, placeOf, markOf, boardOf, Found, faulty, none, badCell}
@@ -47,6 +48,9 @@ pub record Given : Type 0 where
   pub fuel : ℕ
   pub statuses : List ℕ
   pub leftovers : List Float
+
+abbrev pub given : Record → List ℕ → List ℕ → List Float → Run → Run → List ℕ → Event → ℕ → List ℕ → List Float → Given
+given r ks ns ls c s b e f ss xs = record { kinds = ks; ns = ns; limits = ls; record' = r; cells' = c; spare = s; board = b; event = e; fuel = f; statuses = ss; leftovers = xs }
 
 -- what it leaves
 pub record Left : Type 0 where
@@ -154,4 +158,22 @@ resetCall kinds ns limits r c = elim (table kinds ns limits) [
       (resetLeft resets.TooShort r c)
 ]
 
--- ---- document 01's numbers: no, status, time, visits, used, extra; every field that a line doesn't name is 0
+-- ---- document 01's numbers: "every field that a line doesn't name is 0"
+abbrev pub numbers : ℕ → ℕ → ℕ → ℕ → ℕ → Float → Said
+numbers n s v u x t = record { no = n; status = s; visits = v; used = u; extra = x; time = t }
+
+abbrev pub saidOf : Answer → Said
+saidOf (Ticked s r v u) = numbers 0 (byte s) v u 0 r
+saidOf (Asked n x) = numbers 1 0 0 0 n x
+saidOf Finished = numbers 2 0 0 0 0 zeroTime
+saidOf (BadTable p) = numbers 3 0 0 0 p zeroTime
+saidOf TooShort = numbers 4 0 0 0 0 zeroTime
+saidOf BadTime = numbers 5 0 0 0 0 zeroTime
+saidOf (BadAnswer i) = numbers 6 0 0 0 i zeroTime
+saidOf OutOfFuel = numbers 7 0 0 0 0 zeroTime
+saidOf (BadCell p) = numbers 9 0 0 0 p zeroTime
+
+abbrev pub saidOfReset : ResetAnswer → Said
+saidOfReset resets.Reset = numbers 0 0 0 0 0 zeroTime
+saidOfReset (resets.BadTable p) = numbers 3 0 0 0 p zeroTime
+saidOfReset resets.TooShort = numbers 4 0 0 0 0 zeroTime

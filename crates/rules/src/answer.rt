@@ -45,3 +45,14 @@ pub enum BoundAnswer {
     BadTable(usize),
     NoBound,
 }
+
+// An answer in document 01's numbers; a field that its line does not name is 0.
+#[repr(C)]
+pub struct Said {
+    pub no: u8,
+    pub status: u8,
+    pub visits: u32,
+    pub used: usize,
+    pub extra: usize,
+    pub time: f64,
+}

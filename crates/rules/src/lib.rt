@@ -9,6 +9,7 @@ pub use answer::Answer;
 pub use answer::BoundAnswer;
 pub use answer::Record;
 pub use answer::ResetAnswer;
+pub use answer::Said;
 pub use behavior::Kind;
 pub use event::Event;
 pub use status::Status;

@@ -1,0 +1,4 @@
+pub mod Joins
+pub mod Laws
+pub mod Rows
+pub mod Calls

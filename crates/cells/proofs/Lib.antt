@@ -1,0 +1,4 @@
+mod Held
+mod Run
+mod Still
+mod Turn

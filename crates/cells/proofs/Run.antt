@@ -1,0 +1,330 @@
+-- The cell check's loop: the open nodes as frames, each with the trees that are still to be checked in it.
+use mathlib.Core.Path.{_≡_, refl, sym, ap, subst, _∙_}
+use mathlib.Core.Bool.{Bool, true, false, not, cond, _&&_, _||_}
+use mathlib.Core.List.{List}
+use mathlib.Core.List
+use Prim.Native.Nat.{ℕ, zero, suc, _+_, _-_, _≤_, _<_}
+use native.Mathlib.Numerals.{add-one}
+use native.Mathlib.Omega.{arith}
+use borrow.Author.Tests.{lt-ltb, le-ltb, not-true, not-false, eqb-true}
+use lib.Dec.{ltb, eqb}
+use lib.Ieee.{Float}
+use lib.ListN.{length, getD, set}
+use lib.Seq.{getD-set-same, getD-set-other}
+use Rattle.rules.specs.declared.behavior.Kind.{Kind}
+use Rattle.rules.specs.Kinds.{kindOf, marksChildren}
+use Rattle.rules.specs.Tree.{Cell, cell, Tree, node, Forest, [], _∷_}
+use Rattle.rules.specs.Table.{zeroBits}
+use Rattle.rules.specs.Cells.{cellAllowed, endedIn, Found, faulty, none, badCell, badCells}
+use Rattle.cells.specs.declared.check.Found.the-variants.{Faulty, Fine}
+use Rattle.cells.specs.Check.{said, stillOpen}
+use Rattle.cells.proofs.Still.{one, top-stays, top-drops}
+use Rattle.cells.proofs.Held.{cellAt, Node, Held, Helds, held-lt, helds-le}
+
+-- ---- what follows a part without a bad cell
+after : Found → (ℕ → Found) → Found
+after (faulty p) f = faulty p
+after (none at) f = f at
+
+after-after : (x : Found) (f g : ℕ → Found) → after (after x f) g ≡ after x (λ at. after (f at) g)
+unfolding after
+after-after (faulty p) f g = refl
+after-after (none at) f g = refl
+
+-- ended, may-end, the trees, and where they end
+data Frame : Type 0 where
+  frame : Bool → Bool → Forest → ℕ → Frame
+
+unfoldable run : List Frame → ℕ → Found
+run List.[] at = none at
+run (List._∷_ (frame e m ts stop) σ) at = after (badCells e m at ts) (run σ)
+
+split : (x : Found) (f : ℕ → Found) → elim x [ faulty p ↦ faulty p | none at ↦ f at ] ≡ after x f
+unfolding after
+split (faulty p) f = refl
+split (none at) f = refl
+
+run-none : (e m : Bool) (stop : ℕ) (σ : List Frame) (at : ℕ) → run (List._∷_ (frame e m [] stop) σ) at ≡ run σ at
+unfolding run badCell after
+run-none e m stop σ at = refl
+
+bad-cons : (e m : Bool) (at : ℕ) (t : Tree) (us : Forest) → badCells e m at (t ∷ us) ≡ after (badCell e m at t) (λ a. badCells e m a us)
+unfolding badCell
+bad-cons e m at t us = split (badCell e m at t) (λ a. badCells e m a us)
+
+module _ (e m : Bool) (k : Kind) (n : ℕ) (l : Float) (c : Cell) (b : ℕ) (ts us : Forest) (stop : ℕ) (σ : List Frame) (at : ℕ) where
+  inner : Found
+  inner = badCells (e || endedIn c) (marksChildren k) (suc at) ts
+
+  bad-node : badCell e m at (node k n l c b ts) ≡ cond (cellAllowed e m k n c) inner (faulty at)
+  unfolding badCell inner
+  bad-node = refl
+
+  at-node : (x : Bool) → cellAllowed e m k n c ≡ x → run (List._∷_ (frame e m (node k n l c b ts ∷ us) stop) σ) at ≡ after (after (cond x inner (faulty at)) (λ a. badCells e m a us)) (run σ)
+  unfolding run
+  at-node x h = ap (λ (y : Found). after y (run σ)) (bad-cons e m at (node k n l c b ts) us ∙ ap (λ (y : Found). after y (λ a. badCells e m a us)) (bad-node ∙ ap (λ (z : Bool). cond z inner (faulty at)) h))
+
+  run-bad : cellAllowed e m k n c ≡ false → run (List._∷_ (frame e m (node k n l c b ts ∷ us) stop) σ) at ≡ faulty at
+  unfolding after
+  run-bad h = at-node false h
+
+  run-good : (stop' : ℕ) → cellAllowed e m k n c ≡ true → run (List._∷_ (frame e m (node k n l c b ts ∷ us) stop) σ) at ≡ run (List._∷_ (frame (e || endedIn c) (marksChildren k) ts stop') (List._∷_ (frame e m us stop) σ)) (suc at)
+  unfolding run inner
+  run-good stop' h = at-node true h ∙ after-after inner (λ a. badCells e m a us) (run σ)
+
+-- ---- the frames in the code's arrays
+-- all that is left below an ended child ends by `until`; otherwise nothing is left before it
+abbrev Flag : Bool → ℕ → ℕ → ℕ → Type 0
+Flag true until at stop = stop ≤ until
+Flag false until at stop = until ≤ at
+
+module _ (kinds ns ends : List ℕ) (times : List Float) (places marks : List ℕ) (n : ℕ) where
+  abbrev Zip : List ℕ → List Bool → ℕ → List Frame → ℕ → ℕ → Type 0
+  Zip stops may until List.[] d at = at ≡ n
+  Zip stops may until (List._∷_ (frame e m ts stop) σ) d at = Helds kinds ns ends times places marks ts d at stop × ((getD stops (length σ) 0 ≡ stop) × ((getD may (length σ) false ≡ m) × (Flag e until at stop × Zip stops may until σ (suc d) stop)))
+
+  -- in front of the cell at `at`
+  pub record Scanned (stops : List ℕ) (may : List Bool) (open' until at : ℕ) (answer : Found) : Type 0 where
+    deep : ℕ
+    frames : List Frame
+    level : open' ≡ length frames
+    levels : deep + length frames ≡ 17
+    zip : Zip stops may until frames deep at
+    runs : run frames at ≡ answer
+
+  -- ... which is there, in the last open node
+  pub record Ready (stops : List ℕ) (may : List Bool) (open' until at : ℕ) (answer : Found) : Type 0 where
+    deep : ℕ
+    e : Bool
+    m : Bool
+    k : Kind
+    n' : ℕ
+    l : Float
+    c : Cell
+    b : ℕ
+    kids : Forest
+    us : Forest
+    stop : ℕ
+    frames : List Frame
+    level : open' ≡ suc (length frames)
+    levels : deep + open' ≡ 16
+    here : Node kinds ns ends times places marks at k n' c
+    below : Helds kinds ns ends times places marks kids deep (suc at) (getD ends at 0)
+    beside : Helds kinds ns ends times places marks us (suc deep) (getD ends at 0) stop
+    stops-is : getD stops (length frames) 0 ≡ stop
+    may-is : getD may (length frames) false ≡ m
+    flag : Flag e until at stop
+    zip : Zip stops may until frames (suc (suc deep)) stop
+    runs : run (List._∷_ (frame e m (node k n' l c b kids ∷ us) stop) frames) at ≡ answer
+
+  zip-le : (stops : List ℕ) (may : List Bool) (until : ℕ) (σ : List Frame) (d at : ℕ) → Zip stops may until σ d at → at ≤ n
+  zip-le stops may until List.[] d at z = omega arith
+  zip-le stops may until (List._∷_ (frame e m ts stop) σ) d at (h, (s, (y, (f, z)))) = omega (arith, helds-le kinds ns ends times places marks ts d at stop h, zip-le stops may until σ (suc d) stop z)
+
+  -- behind the last cell nothing is left
+  ends-all : (stops : List ℕ) (may : List Bool) (until : ℕ) (σ : List Frame) (d at : ℕ) → Zip stops may until σ d at → n ≤ at → run σ at ≡ none at
+  unfolding run
+  ends-all stops may until List.[] d at z h = refl
+  ends-all stops may until (List._∷_ (frame e m [] stop) σ) d at (w, (s, (y, (f, z)))) h = run-none e m stop σ at ∙ ends-all stops may until σ (suc d) at (rw (← w) at z) h
+  ends-all stops may until (List._∷_ (frame e m (t ∷ ts) stop) σ) d at (w, (s, (y, (f, z)))) h = absurd (omega (arith, held-lt kinds ns ends times places marks t d at (w .0), helds-le kinds ns ends times places marks ts d (getD ends at 0) stop (w .1), zip-le stops may until σ (suc d) stop z))
+
+  pub finished : (stops : List ℕ) (may : List Bool) (open' until at : ℕ) (answer : Found) → Scanned stops may open' until at answer → n ≤ at → Fine ≡ said answer
+  finished stops may open' until at answer s h = ap said (sym (ends-all stops may until (s .frames) (s .deep) at (s .zip) h) ∙ s .runs)
+
+  root : (x : Found) → after (after x (λ a. none a)) (λ a. none a) ≡ x
+  unfolding after
+  root (faulty p) = refl
+  root (none at) = refl
+
+  pub start : (stops : List ℕ) (may : List Bool) (t : Tree) → Held kinds ns ends times places marks t 16 0 → getD ends 0 0 ≡ n → getD stops 0 0 ≡ n → getD may 0 false ≡ false → Scanned stops may 1 0 0 (badCell false false 0 t)
+  unfolding run badCell
+  start stops may t h e s y = record {
+    deep = 16;
+    frames = List._∷_ (frame false false (t ∷ []) n) List.[];
+    level = refl;
+    levels = refl;
+    zip = ((h, e), (s, (y, (omega arith, refl))));
+    runs = ap (λ (x : Found). after x (run List.[])) (bad-cons false false 0 t []) ∙ root (badCell false false 0 t);
+  }
+
+  -- ---- the node whose cell is next
+  module _ (stops : List ℕ) (may : List Bool) (until at : ℕ) (answer : Found) where
+    build : (e m : Bool) (t : Tree) (us : Forest) (stop : ℕ) (σ : List Frame) (d : ℕ) → d + suc (length σ) ≡ 17 → Zip stops may until (List._∷_ (frame e m (t ∷ us) stop) σ) d at → run (List._∷_ (frame e m (t ∷ us) stop) σ) at ≡ answer → Ready stops may (suc (length σ)) until at answer
+    build e m (node k n' l c b kids) us stop σ zero ups (w, (s, (y, (f, z)))) r = absurd (w .0)
+    build e m (node k n' l c b kids) us stop σ (suc d) ups (w, (s, (y, (f, z)))) r = record {
+      deep = d;
+      e = e;
+      m = m;
+      k = k;
+      n' = n';
+      l = l;
+      c = c;
+      b = b;
+      kids = kids;
+      us = us;
+      stop = stop;
+      frames = σ;
+      level = refl;
+      levels = omega arith;
+      here = w .0 .0;
+      below = w .0 .1;
+      beside = w .1;
+      stops-is = s;
+      may-is = y;
+      flag = f;
+      zip = z;
+      runs = r;
+    }
+
+    opened : {o o' : ℕ} → o ≡ o' → Ready stops may o' until at answer → Ready stops may o until at answer
+    opened e r = subst (λ (o : ℕ). Ready stops may o until at answer) (sym e) r
+
+    ready-at : (σ : List Frame) (d : ℕ) → d + length σ ≡ 17 → Zip stops may until σ d at → run σ at ≡ answer → at < n → Ready stops may (stillOpen stops at (length σ)) until at answer
+    ready-at List.[] d ups z r h = absurd (omega arith)
+    ready-at (List._∷_ (frame e m [] stop) List.[]) d ups (w, (s, (y, (f, z)))) r h = absurd (omega arith)
+    ready-at (List._∷_ (frame e m (t ∷ us) stop) List.[]) d ups z r h = opened (one stops at) (build e m t us stop List.[] d ups z r)
+    ready-at (List._∷_ (frame e m [] stop) (List._∷_ g σ)) d ups (w, (s, (y, (f, z)))) r h =
+        opened (top-drops stops at (length σ) (omega arith)) (ready-at (List._∷_ g σ) (suc d) (omega arith) (subst (λ (x : ℕ). Zip stops may until (List._∷_ g σ) (suc d) x) (sym w) z) (sym (run-none e m stop (List._∷_ g σ) at) ∙ r) h)
+    ready-at (List._∷_ (frame e m (t ∷ us) stop) (List._∷_ g σ)) d ups (w, (s, (y, (f, z)))) r h =
+        opened (top-stays stops at (length σ) (omega (arith, held-lt kinds ns ends times places marks t d at (w .0), helds-le kinds ns ends times places marks us d (getD ends at 0) stop (w .1)))) (build e m t us stop (List._∷_ g σ) d ups (w, (s, (y, (f, z)))) r)
+
+    pub ready : (open' : ℕ) → Scanned stops may open' until at answer → at < n → Ready stops may (stillOpen stops at open') until at answer
+    ready open' s h = rw (s .level) (ready-at (s .frames) (s .deep) (s .levels) (s .zip) (s .runs) h)
+
+  -- ---- lower frames keep what is known of them
+  zip-keeps : (stops stops' : List ℕ) (may may' : List Bool) (until : ℕ) (σ : List Frame) (d at : ℕ) → Zip stops may until σ d at → ((i : ℕ) → i < length σ → getD stops' i 0 ≡ getD stops i 0) → ((i : ℕ) → i < length σ → getD may' i false ≡ getD may i false) → Zip stops' may' until σ d at
+  zip-keeps stops stops' may may' until List.[] d at z ss sm = z
+  zip-keeps stops stops' may may' until (List._∷_ (frame e m ts stop) σ) d at (w, (s, (y, (f, z)))) ss sm = (w, (ss (length σ) (omega arith) ∙ s, (sm (length σ) (omega arith) ∙ y, (f, zip-keeps stops stops' may may' until σ (suc d) stop z (λ i h. ss i (omega arith)) (λ i h. sm i (omega arith))))))
+
+  flag-later : (e : Bool) (until until' at stop : ℕ) → until ≤ until' → until' ≤ at → Flag e until at stop → Flag e until' at stop
+  flag-later true until until' at stop a b f = omega arith
+  flag-later false until until' at stop a b f = b
+
+  zip-later : (stops : List ℕ) (may : List Bool) (until until' : ℕ) (σ : List Frame) (d at : ℕ) → until ≤ until' → until' ≤ at → Zip stops may until σ d at → Zip stops may until' σ d at
+  zip-later stops may until until' List.[] d at a b z = z
+  zip-later stops may until until' (List._∷_ (frame e m ts stop) σ) d at a b (w, (s, (y, (f, z)))) = (w, (s, (y, (flag-later e until until' at stop a b f, zip-later stops may until until' σ (suc d) stop a (omega (arith, helds-le kinds ns ends times places marks ts d at stop w)) z))))
+
+  -- ---- a mark moves `until`: below the node, beside it and around it
+  flag-below : (e x : Bool) (until at end stop : ℕ) → (e ≡ true → x ≡ false) → at < end → end ≤ stop → Flag e until at stop → Flag (e || x) (cond x end until) (suc at) end
+  flag-below true true until at end stop h a b f = let z : _≡_ {A = Bool} true false = h refl in let y : _≡_ {A = ℕ} 0 1 = cc in absurd (omega arith)
+  flag-below true false until at end stop h a b f = omega arith
+  flag-below false true until at end stop h a b f = omega arith
+  flag-below false false until at end stop h a b f = omega arith
+
+  flag-beside : (e x : Bool) (until at end stop : ℕ) → (e ≡ true → x ≡ false) → at < end → end ≤ stop → Flag e until at stop → Flag e (cond x end until) end stop
+  flag-beside true true until at end stop h a b f = let z : _≡_ {A = Bool} true false = h refl in let y : _≡_ {A = ℕ} 0 1 = cc in absurd (omega arith)
+  flag-beside true false until at end stop h a b f = f
+  flag-beside false true until at end stop h a b f = omega arith
+  flag-beside false false until at end stop h a b f = omega arith
+
+  zip-around : (stops : List ℕ) (may : List Bool) (σ : List Frame) (d : ℕ) (e x : Bool) (until at end stop : ℕ) → (e ≡ true → x ≡ false) → at < end → end ≤ stop → Flag e until at stop → Zip stops may until σ d stop → Zip stops may (cond x end until) σ d stop
+  zip-around stops may σ d true true until at end stop h a b f z = let z : _≡_ {A = Bool} true false = h refl in let y : _≡_ {A = ℕ} 0 1 = cc in absurd (omega arith)
+  zip-around stops may σ d false true until at end stop h a b f z = zip-later stops may until end σ d stop (omega arith) b z
+  zip-around stops may σ d true false until at end stop h a b f z = z
+  zip-around stops may σ d false false until at end stop h a b f z = z
+
+  both-true : (p q : Bool) → p && q ≡ true → q ≡ true
+  both-true true q h = h
+  both-true false q h = let y : _≡_ {A = ℕ} 0 1 = cc in absurd (omega arith)
+
+  -- below an ended child no cell has a mark
+  unmarked : (e m : Bool) (k : Kind) (n' : ℕ) (c : Cell) → cellAllowed e m k n' c ≡ true → e ≡ true → endedIn c ≡ false
+  unfolding cellAllowed
+  unmarked true m k n' (cell x p y) h t = rw (eqb-true y 0 (both-true (zeroBits x && eqb p 0) (eqb y 0) h))
+  unmarked false m k n' (cell x p y) h t = let y : _≡_ {A = ℕ} 0 1 = cc in absurd (omega arith)
+
+  -- ---- a turn
+  module _ (stops : List ℕ) (may : List Bool) (open' until at : ℕ) (answer : Found) (r : Ready stops may open' until at answer) where
+    abbrev end : ℕ
+    end = getD ends at 0
+
+    past : at < end
+    past = helds-le kinds ns ends times places marks (r .kids) (r .deep) (suc at) end (r .below)
+
+    inside : end ≤ r .stop
+    inside = helds-le kinds ns ends times places marks (r .us) (suc (r .deep)) end (r .stop) (r .beside)
+
+    flag-is : (e : Bool) (stop : ℕ) → at < stop → Flag e until at stop → ltb at until ≡ e
+    flag-is true stop h f = lt-ltb at until (omega arith)
+    flag-is false stop h f = le-ltb at until f
+
+    top : open' - 1 ≡ length (r .frames)
+    top = omega (arith, r .level)
+
+    -- the code's own test is the rules'
+    module _ (k : Kind) (kind : k ≡ kindOf (getD kinds at 0)) (a : Bool) (is : a ≡ cellAllowed (ltb at until) (getD may (open' - 1) false) k (getD ns at 0) (cellAt times places marks at)) where
+      k-is : k ≡ r .k
+      k-is = kind ∙ r .here .kind
+
+      same : a ≡ cellAllowed (r .e) (r .m) (r .k) (r .n') (r .c)
+      same =
+          let f = flag-is (r .e) (r .stop) (omega (arith, past, inside)) (r .flag) in
+          let y : getD may (open' - 1) false ≡ r .m = rw top (r .may-is) in
+          let z = r .here .number in
+          let w = r .here .held in
+          is ∙ cc
+
+      pub refuses : not a ≡ true → Faulty at ≡ said answer
+      refuses h = ap said (sym (run-bad (r .e) (r .m) (r .k) (r .n') (r .l) (r .c) (r .b) (r .kids) (r .us) (r .stop) (r .frames) at (sym same ∙ not-true a h)) ∙ r .runs)
+
+      module _ (taken : not a ≡ false) where
+        ok : cellAllowed (r .e) (r .m) (r .k) (r .n') (r .c) ≡ true
+        ok = sym same ∙ not-false a taken
+
+        abbrev x : Bool
+        x = eqb (getD marks at 0) 1
+
+        mark-is : endedIn (r .c) ≡ x
+        mark-is = ap endedIn (r .here .held)
+
+        plain : r .e ≡ true → x ≡ false
+        plain h = sym mark-is ∙ unmarked (r .e) (r .m) (r .k) (r .n') (r .c) ok h
+
+        abbrev until' : ℕ
+        until' = cond x end until
+
+        goes-on : run (List._∷_ (frame (r .e || x) (marksChildren (r .k)) (r .kids) end) (List._∷_ (frame (r .e) (r .m) (r .us) (r .stop)) (r .frames))) (at + 1) ≡ answer
+        goes-on = rw (add-one at, ← mark-is) (sym (run-good (r .e) (r .m) (r .k) (r .n') (r .l) (r .c) (r .b) (r .kids) (r .us) (r .stop) (r .frames) at end ok) ∙ r .runs)
+
+        around : Zip stops may until' (List._∷_ (frame (r .e) (r .m) (r .us) (r .stop)) (r .frames)) (suc (r .deep)) end
+        around = (r .beside, (r .stops-is, (r .may-is, (flag-beside (r .e) x until at end (r .stop) plain past inside (r .flag), zip-around stops may (r .frames) (suc (suc (r .deep))) (r .e) x until at end (r .stop) plain past inside (r .flag) (r .zip)))))
+
+        -- a node with children opens
+        pub opens : (m : Bool) → m ≡ marksChildren k → at + 1 < end → open' < 16 → length stops ≡ 16 → length may ≡ 16 → Scanned (set stops open' end) (set may open' m) (open' + 1) until' (at + 1) answer
+        opens m ms h room ls lm =
+            let lev = r .level in
+            let m-is : m ≡ marksChildren (r .k) = ms ∙ ap marksChildren k-is in
+            record {
+              deep = r .deep;
+              frames = List._∷_ (frame (r .e || x) (marksChildren (r .k)) (r .kids) end) (List._∷_ (frame (r .e) (r .m) (r .us) (r .stop)) (r .frames));
+              level = omega arith;
+              levels = omega (arith, r .levels);
+              zip = (subst (λ (i : ℕ). Helds kinds ns ends times places marks (r .kids) (r .deep) i end) (sym (add-one at)) (r .below), (subst (λ (i : ℕ). getD (set stops open' end) i 0 ≡ end) lev (getD-set-same stops open' end 0 (omega arith)), (subst (λ (i : ℕ). getD (set may open' m) i false ≡ marksChildren (r .k)) lev (getD-set-same may open' m false (omega arith) ∙ m-is), (subst (λ (i : ℕ). Flag (r .e || x) until' i end) (sym (add-one at)) (flag-below (r .e) x until at end (r .stop) plain past inside (r .flag)), zip-keeps stops (set stops open' end) may (set may open' m) until' (List._∷_ (frame (r .e) (r .m) (r .us) (r .stop)) (r .frames)) (suc (r .deep)) end around (λ i z. getD-set-other stops open' i end 0 (omega arith)) (λ i z. getD-set-other may open' i m false (omega arith))))));
+              runs = goes-on;
+            }
+
+        no-kids : (kids : Forest) (d : ℕ) → Helds kinds ns ends times places marks kids d (suc at) end → end ≤ at + 1 → kids ≡ []
+        no-kids [] d h le = refl
+        no-kids (t ∷ ts) d h le = absurd (omega (arith, held-lt kinds ns ends times places marks t d (suc at) (h .0), helds-le kinds ns ends times places marks ts d (getD ends (suc at) 0) end (h .1)))
+
+        -- a leaf leaves the open nodes as they are
+        pub passes : end ≤ at + 1 → Scanned stops may open' until' (at + 1) answer
+        passes le =
+            let none' = no-kids (r .kids) (r .deep) (r .below) le in
+            let e : end ≡ at + 1 = omega (arith, past) in
+            record {
+              deep = suc (r .deep);
+              frames = List._∷_ (frame (r .e) (r .m) (r .us) (r .stop)) (r .frames);
+              level = r .level;
+              levels = omega (arith, r .levels, r .level);
+              zip = subst (λ (i : ℕ). Zip stops may until' (List._∷_ (frame (r .e) (r .m) (r .us) (r .stop)) (r .frames)) (suc (r .deep)) i) e around;
+              runs = sym (run-none (r .e || x) (marksChildren (r .k)) end (List._∷_ (frame (r .e) (r .m) (r .us) (r .stop)) (r .frames)) (at + 1)) ∙ subst (λ (ts : Forest). run (List._∷_ (frame (r .e || x) (marksChildren (r .k)) ts end) (List._∷_ (frame (r .e) (r .m) (r .us) (r .stop)) (r .frames))) (at + 1) ≡ answer) none' goes-on;
+            }
+
+        no-level : (kids : Forest) → Helds kinds ns ends times places marks kids 0 (suc at) end → at + 1 < end → ⊥
+        no-level [] h lt = omega arith
+        no-level (node k n l c b ts ∷ us) h lt = h .0
+
+        -- there are no more levels
+        pub never : at + 1 < end → 16 ≤ open' → ⊥
+        never lt h = let z : r .deep ≡ 0 = omega (arith, r .levels) in no-level (r .kids) (subst (λ (d : ℕ). Helds kinds ns ends times places marks (r .kids) d (suc at) end) z (r .below)) lt

@@ -1,0 +1,97 @@
+// One pass over the cells, with the open nodes on a stack of fixed size.
+use crate::cell::cell_allowed;
+use rules::Kind;
+ghost use mathlib.Core.Path.{_≡_};
+ghost use mathlib.Core.Bool.{cond};
+ghost use Prim.Native.Nat.{_≤_};
+ghost use lib.Dec.{eqb};
+ghost use Rattle.cells.specs.Check.{Room, Checks, stillOpen};
+
+pub enum Found {
+    Faulty(usize),
+    Fine,
+}
+
+fn wide(x: u16) -> usize
+    ensures { λ r. ⌜ r ≡ x ⌝ }
+{
+    x as usize
+}
+
+// How many nodes are open at a place, of those that were: the others end there.
+fn still_open(stops: &[usize; 16], count: usize, at: usize) -> usize
+    requires { ⌜ count ≤ 16 ⌝ }
+    ensures { λ r. ⌜ r ≡ stillOpen (now (stops .entry)) at count ⌝ }
+{
+    let mut left = count;
+    while 1 < left {
+        let top = left - 1;
+        if at < stops[top] {
+            return left;
+        }
+        left = top;
+    }
+    left
+}
+
+// Up to where all cells are below a child that has ended, once a cell with a mark is passed.
+fn ended_until(mark: u8, stop: usize, until: usize) -> usize
+    ensures { λ r. ⌜ r ≡ cond (eqb mark 1) stop until ⌝ }
+{
+    if mark == 1 { stop } else { until }
+}
+
+// The smallest place of a bad cell in the tree of n nodes that stands in kinds and ns, whose
+// subtrees end as ends says.
+pub fn check_cells(
+    kinds: &[u8],
+    ns: &[u16],
+    ends: &[u16; 256],
+    times: &[f64],
+    places: &[u16],
+    marks: &[u8],
+    n: usize,
+) -> Found
+    requires { ⌜ Room (now kinds) (now ns) (now times) (now places) (now marks) n ⌝ }
+    ensures { λ r. ⌜ Checks (now (kinds .entry)) (now (ns .entry)) (now (ends .entry)) (now (times .entry)) (now (places .entry)) (now (marks .entry)) n r ⌝ }
+{
+    // The open nodes, the first of which stands for the root's parent: where each ends, and whether
+    // its children may be marked.
+    let mut stops = [0usize; 16];
+    let mut may = [false; 16];
+    stops[0] = n;
+    let mut open: usize = 1;
+    // Up to where all cells are below a child that has ended.
+    let mut until: usize = 0;
+    let mut at: usize = 0;
+    while at < n {
+        open = still_open(&stops, open, at);
+        let kind = Kind::of(kinds[at]);
+        let may_end = may[open - 1];
+        let mark = marks[at];
+        if !cell_allowed(
+            at < until,
+            may_end,
+            kind,
+            ns[at],
+            times[at],
+            places[at],
+            mark,
+        ) {
+            return Found::Faulty(at);
+        }
+        let begin = at;
+        let stop = wide(ends[begin]);
+        until = ended_until(mark, stop, until);
+        at += 1;
+        if at < stop {
+            if 16 <= open {
+                return Found::Faulty(begin);
+            }
+            stops[open] = stop;
+            may[open] = kind.marks_children();
+            open += 1;
+        }
+    }
+    Found::Fine
+}

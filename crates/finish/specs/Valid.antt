@@ -1,0 +1,64 @@
+-- What every tree that started fresh and has not ended keeps to, in the parts that are in progress.
+use mathlib.Core.Bool.{Bool, true, false, not, _||_}
+use Prim.Native.Nat.{ℕ, zero, suc, _≤_}
+use lib.Dec.{T}
+use lib.Ieee.{Format}
+use Rattle.rules.specs.declared.behavior.Kind.the-variants.{Wait, WaitForever, Action, Invert, AlwaysSucceed, Timeout, Select, If, Sequence, MemorylessSequence, MemorylessSelector, While, WhileAll, WhenAll, WhenAny, After, Race}
+use Rattle.rules.specs.Tree.{cell, Tree, node, Forest, [], _∷_, marked}
+use Rattle.rules.specs.Bound.{num}
+use Rattle.whole.specs.Times.{W}
+use Rattle.finish.specs.Enough.{unless}
+
+-- one at least has no mark; or there is none
+abbrev pub someOpen : Forest → Bool
+someOpen [] = false
+someOpen (t ∷ ts) = not (marked t) || someOpen ts
+
+abbrev pub openOrNone : Forest → Bool
+openOrNone [] = true
+openOrNone (t ∷ ts) = someOpen (t ∷ ts)
+
+module _ (F : Format) where
+  -- what a tree that has not ended keeps to
+  abbrev mutual
+    pub Valid : Tree → Type 0
+    Valid (node Wait n l (cell x p m) b ts) = W F x × (num x ≤ num l)
+    Valid (node WaitForever n l c b ts) = Unit {0}
+    Valid (node Action n l c b ts) = Unit {0}
+    Valid (node Invert n l c b ts) = ValidAt ts 0
+    Valid (node AlwaysSucceed n l c b ts) = ValidAt ts 0
+    Valid (node Timeout n l (cell x p m) b ts) = W F x × (num x ≤ num l) × ValidAt ts 0
+    Valid (node Select n l (cell x p m) b ts) = ValidAt ts p
+    Valid (node If n l (cell x p m) b ts) = ValidAt ts p
+    Valid (node Sequence n l (cell x p m) b ts) = ValidAt ts p
+    Valid (node MemorylessSequence n l c b ts) = Unit {0}
+    Valid (node MemorylessSelector n l c b ts) = Unit {0}
+    Valid (node While n l (cell x p m) b ts) = ValidLoop ts p
+    Valid (node WhileAll n l (cell x zero m) b ts) = ValidLoop ts 0
+    Valid (node WhileAll n l (cell x (suc p) m) b ts) = ValidLoop ts p
+    Valid (node WhenAll n l c b ts) = ValidMarks ts × T (openOrNone ts)
+    Valid (node WhenAny n l c b ts) = ValidMarks ts × T (openOrNone ts)
+    Valid (node After n l (cell x p m) b ts) = ValidFrom ts p
+    Valid (node Race n l c b ts) = ValidAll ts
+
+    pub ValidAt : Forest → ℕ → Type 0
+    ValidAt [] p = ⊥
+    ValidAt (t ∷ ts) zero = Valid t
+    ValidAt (t ∷ ts) (suc p) = ValidAt ts p
+
+    pub ValidLoop : Forest → ℕ → Type 0
+    ValidLoop [] p = ⊥
+    ValidLoop (t ∷ ts) p = Valid t × ValidAt ts p
+
+    pub ValidAll : Forest → Type 0
+    ValidAll [] = Unit {0}
+    ValidAll (t ∷ ts) = Valid t × ValidAll ts
+
+    pub ValidFrom : Forest → ℕ → Type 0
+    ValidFrom [] p = ⊥
+    ValidFrom (t ∷ ts) zero = Valid t × ValidAll ts
+    ValidFrom (t ∷ ts) (suc p) = ValidFrom ts p
+
+    pub ValidMarks : Forest → Type 0
+    ValidMarks [] = Unit {0}
+    ValidMarks (t ∷ ts) = unless (marked t) (Valid t) × ValidMarks ts

@@ -1,0 +1,130 @@
+-- When a float is a whole time: exactly when the number that it is cut to, as a float, has its bits.
+use mathlib.Core.Path.{_≡_, refl, sym, ap, subst, _∙_}
+use mathlib.Core.Bool.{Bool, true, false, cond, not}
+use Prim.Native.Nat.{ℕ, _+_, _-_, _*_, _/_, _^_, max, _≤_, _<_}
+use native.Mathlib.Nat.{div-lt-iff-lt-mul, not-le-of-lt}
+use native.Mathlib.Omega.{arith}
+use borrow.Author.Tests.{le-leb}
+use lib.Dec.{T, leb, ltb, ltb→lt, leb→le, le→leb, lt→ltb}
+use lib.IntN.{pos}
+use lib.Ieee.{Float, nan, inf, fin, binary64, up, down, lt, fits, isNan, whole, inUnsigned, inFloat, toUnsigned, ofInt, ofBits, toBits}
+use lib.Ieee.Bits.{is-true, ofBits-toBits}
+use lib.Ieee.Fits.{and-l, and-r, down-pos, ofInt-fits}
+use lib.Ieee.Back.{unsigned-back, float-back-unsigned}
+use Rattle.rules.specs.Bound.{cap, num, wholeTime, within, ownTicks}
+use Rattle.limits.specs.declared.whole.Whole.{Whole}
+use Rattle.limits.specs.declared.whole.Whole.the-variants.{Yes, No}
+use Rattle.limits.specs.Whole.{wholeOf}
+use Rattle.limits.specs.declared.ticks.Ticks.{Ticks}
+use Rattle.limits.specs.Ticks.{clipped}
+
+-- ---- the parts of the test
+whole-in : (x : Float) → T (wholeTime binary64 x) → T (inUnsigned binary64 64 x)
+unfolding wholeTime
+whole-in x h = and-l (inUnsigned binary64 64 x) (leb (num x) (cap binary64)) h
+
+whole-small : (x : Float) → T (wholeTime binary64 x) → num x ≤ cap binary64
+unfolding wholeTime
+whole-small x h = leb→le (num x) (cap binary64) (and-r (inUnsigned binary64 64 x) (leb (num x) (cap binary64)) h)
+
+whole-no : (x : Float) → (T (wholeTime binary64 x) → ⊥) → No ≡ wholeOf x
+whole-no x = go (wholeTime binary64 x)
+  where
+    go : (b : Bool) → (T b → ⊥) → No ≡ cond b (Yes (num x)) No
+    go true h = absurd (h tt)
+    go false h = refl
+
+-- ---- a float that is compared is a number
+pub below-no-nan : (y x : Float) → lt y x ≡ true → T (not (isNan x))
+unfolding lt isNan
+below-no-nan nan nan e = subst T (sym e) tt
+below-no-nan (inf s) nan e = subst T (sym e) tt
+below-no-nan (fin s m d) nan e = subst T (sym e) tt
+below-no-nan y (inf s) e = tt
+below-no-nan y (fin s m d) e = tt
+
+in-no-nan : (x : Float) → T (inUnsigned binary64 64 x) → T (not (isNan x))
+unfolding inUnsigned isNan
+in-no-nan nan h = absurd h
+in-no-nan (inf s) h = tt
+in-no-nan (fin s m e) h = tt
+
+-- ---- the number as a float
+pub whole-float : (n : ℕ) → n ≤ cap binary64 → T (inFloat binary64 (pos n))
+unfolding inFloat
+whole-float n h = le→leb n (2 ^ 53) (omega arith)
+
+whole-back : (n : ℕ) → n ≤ cap binary64 → T (inUnsigned binary64 64 (ofInt binary64 (pos n))) × (toUnsigned 64 (ofInt binary64 (pos n)) ≡ n)
+whole-back n h = unsigned-back binary64 64 n (whole-float n h) (omega arith)
+
+pub whole-no-nan : (n : ℕ) → n ≤ cap binary64 → T (not (isNan (ofInt binary64 (pos n))))
+whole-no-nan n h = in-no-nan (ofInt binary64 (pos n)) (whole-back n h .0)
+
+-- ---- the ways through the test
+module _ (x : Float) (n : ℕ) (f : T (fits binary64 x)) (e : n ≡ toUnsigned 64 x) where
+  pub whole-yes : n ≤ cap binary64 → toBits binary64 (ofInt binary64 (pos n)) ≡ toBits binary64 x → Yes n ≡ wholeOf x
+  unfolding wholeTime num
+  whole-yes h q =
+      let same : x ≡ ofInt binary64 (pos n) = sym (ofBits-toBits binary64 x f) ∙ ap (ofBits binary64) (sym q) ∙ ofBits-toBits binary64 (ofInt binary64 (pos n)) (ofInt-fits binary64 (pos n)) in
+      let test : inUnsigned binary64 64 x ≡ true = is-true (inUnsigned binary64 64 x) (rw same (whole-back n h .0)) in
+      let small : leb n (cap binary64) ≡ true = le-leb n (cap binary64) h in
+      rw (test, ← e, small)
+
+  pub whole-other : (toBits binary64 (ofInt binary64 (pos n)) ≡ toBits binary64 x → ⊥) → No ≡ wholeOf x
+  whole-other q = whole-no x (λ t. q (ap (toBits binary64) (rw e (float-back-unsigned binary64 64 x f (whole-in x t) .1))))
+
+pub whole-large : (x : Float) (n : ℕ) → n ≡ toUnsigned 64 x → cap binary64 < n → No ≡ wholeOf x
+unfolding num
+whole-large x n e h = whole-no x (λ t. not-le-of-lt h (rw e (whole-small x t)))
+
+in-high : (x : Float) → T (inUnsigned binary64 64 x) → T (lt x (fin false 1 (pos 64)))
+unfolding inUnsigned lt
+in-high nan t = absurd t
+in-high (inf s) t = absurd t
+in-high (fin true m e) t = absurd (and-r (whole binary64 (fin true m e)) false t)
+in-high (fin false m e) t =
+    let small : m * up e / down e < 2 ^ 64 = ltb→lt (m * up e / down e) (2 ^ 64) (and-r (whole binary64 (fin false m e)) (ltb (m * up e / down e) (2 ^ 64)) t) in
+    let cross : m * up e < 2 ^ 64 * down e = div-lt-iff-lt-mul (down-pos e) .0 small in
+    lt→ltb (m * up e * 1) (1 * 2 ^ 64 * down e) (omega arith)
+
+in-low : (x : Float) → T (inUnsigned binary64 64 x) → T (lt (fin true 1 (pos 0)) x)
+unfolding inUnsigned lt
+in-low nan t = absurd t
+in-low (inf s) t = absurd t
+in-low (fin true m e) t = absurd (and-r (whole binary64 (fin true m e)) false t)
+in-low (fin false m e) t = lt→ltb 0 (1 * 2 ^ 0 * down e + m * up e * 1) (omega (arith, down-pos e))
+
+pub whole-high : (x : Float) → lt x (fin false 1 (pos 64)) ≡ false → No ≡ wholeOf x
+whole-high x h = whole-no x (λ t. subst T h (in-high x (whole-in x t)))
+
+pub whole-low : (x : Float) → lt (fin true 1 (pos 0)) x ≡ false → No ≡ wholeOf x
+whole-low x h = whole-no x (λ t. subst T h (in-low x (whole-in x t)))
+
+-- ---- the ticks of a limit, w being what is found of it
+module _ (x : Float) (w : Whole) (e : w ≡ wholeOf x) where
+  pub whole-known : (n : ℕ) → w ≡ Yes n → (wholeTime binary64 x ≡ true) × (n ≡ num x) × (n ≤ cap binary64)
+  whole-known n q = go (wholeTime binary64 x) refl (whole-small x) (sym q ∙ e)
+    where
+      go : (b : Bool) → wholeTime binary64 x ≡ b → (T b → num x ≤ cap binary64) → Yes n ≡ cond b (Yes (num x)) No → (wholeTime binary64 x ≡ true) × (n ≡ num x) × (n ≤ cap binary64)
+      go true t h f = let q : n ≡ num x = cc in (t, q, rw q (h tt))
+      go false t h f = let z : _≡_ {A = ℕ} 0 1 = cc in absurd (omega arith)
+
+  pub whole-some : (n : ℕ) → w ≡ Yes n → wholeTime binary64 x ≡ true
+  whole-some n q = whole-known n q .0
+
+  pub whole-none : w ≡ No → wholeTime binary64 x ≡ false
+  whole-none q = go (wholeTime binary64 x) (sym q ∙ e)
+    where
+      go : (b : Bool) → No ≡ cond b (Yes (num x)) No → b ≡ false
+      go true f = let z : _≡_ {A = ℕ} 0 1 = cc in absurd (omega arith)
+      go false f = refl
+
+  pub no-ticks : (r s : Ticks) → w ≡ No → wholeTime binary64 x ≡ true → r ≡ s
+  no-ticks r s q h = let n = whole-none q in let z : _≡_ {A = ℕ} 0 1 = cc in absurd (omega arith)
+
+  module _ (d l : ℕ) (q : w ≡ Yes l) (r : Ticks) where
+    pub ticks-one : (l + (d - 1)) / d < 1 → r ≡ clipped (within 1) → r ≡ clipped (within (ownTicks d x))
+    ticks-one h f = let m : max 1 ((l + (d - 1)) / d) ≡ 1 = omega arith in rw (← whole-known l q .1, m) f
+
+    pub ticks-more : 1 ≤ (l + (d - 1)) / d → r ≡ clipped (within ((l + (d - 1)) / d)) → r ≡ clipped (within (ownTicks d x))
+    ticks-more h f = let m : max 1 ((l + (d - 1)) / d) ≡ (l + (d - 1)) / d = omega arith in rw (← whole-known l q .1, m) f

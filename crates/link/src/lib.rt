@@ -1,0 +1,1 @@
+// Theorems only: the flat rules give what the rules of trees give.

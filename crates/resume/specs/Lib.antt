@@ -1,0 +1,9 @@
+pub mod Resume
+pub mod Sequence
+pub mod Node
+pub mod Loops
+pub mod WhenAll
+pub mod After
+pub mod Drive
+pub mod Flagged
+pub mod Visit

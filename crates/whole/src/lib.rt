@@ -1,0 +1,1 @@
+// Whole numbers as floats of a format: their sums, differences and order are exact. The facts stand in specs/.
