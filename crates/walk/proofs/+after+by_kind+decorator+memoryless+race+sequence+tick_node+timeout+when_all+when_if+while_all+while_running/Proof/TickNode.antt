@@ -23,30 +23,77 @@ met-tick-node t = tick-node-lts.spec
     -- short-requires
     (λ c κs. search needs)
     -- returns
-    (λ c. let v-args = c .before .before .before .before .before .before .before .before .before .before .before .before .args in let v-if1 = c .before .if1 in let v-short = c .short in let a = v-args in let T = tableOf (a .kinds .now) (a .ns .now) (a .limits .now) (a .ends .now) in let A = answers (a .statuses .now) (a .leftovers .now) in (too-deep binary64 T A _ _ _ _ _ _ _ _ (v-if1 .taken) ∙ same-out A _ (sym (v-short .ensures)), ((λ e. absurd (done-short (v-short .ensures) e)), rw (v-short .ensures) (le-refl _))))
+    (λ c.
+    let v-args = c .before .before .before .before .before .before .before .before .before .before .before .before .args in
+    let v-if1 = c .before .if1 in
+    let v-short = c .short in
+    let a = v-args in
+    let T = tableOf (a .kinds .now) (a .ns .now) (a .limits .now) (a .ends .now) in
+    let A = answers (a .statuses .now) (a .leftovers .now) in
+    (too-deep binary64 T A _ _ _ _ _ _ _ _ (v-if1 .taken) ∙ same-out A _ (sym (v-short .ensures)), ((λ e. absurd (done-short (v-short .ensures) e)), rw (v-short .ensures) (le-refl _))))
     -- short-requires-2
     (λ c κs. search needs)
     -- returns-2
-    (λ c. let v-args = c .before .before .before .before .before .before .before .before .before .before .before .before .before .args in let v-if2 = c .before .if2 in let v-short2 = c .short2 in let a = v-args in let T = tableOf (a .kinds .now) (a .ns .now) (a .limits .now) (a .ends .now) in let A = answers (a .statuses .now) (a .leftovers .now) in (spent binary64 T A _ _ _ _ _ _ _ _ (v-if2 .taken) ∙ same-out A _ (sym (v-short2 .ensures)), ((λ e. absurd (done-short (v-short2 .ensures) e)), rw (v-short2 .ensures) (le-refl _))))
+    (λ c.
+    let v-args = c .before .before .before .before .before .before .before .before .before .before .before .before .before .args in
+    let v-if2 = c .before .if2 in
+    let v-short2 = c .short2 in
+    let a = v-args in
+    let T = tableOf (a .kinds .now) (a .ns .now) (a .limits .now) (a .ends .now) in
+    let A = answers (a .statuses .now) (a .leftovers .now) in
+    (spent binary64 T A _ _ _ _ _ _ _ _ (v-if2 .taken) ∙ same-out A _ (sym (v-short2 .ensures)), ((λ e. absurd (done-short (v-short2 .ensures) e)), rw (v-short2 .ensures) (le-refl _))))
     -- short-requires-3
     (λ c κs. search needs)
     -- returns-3
-    (λ c. let v-args = c .before .before .before .before .before .before .before .before .before .before .before .before .before .before .args in let v-if3 = c .before .if3 in let v-short3 = c .short3 in let a = v-args in let T = tableOf (a .kinds .now) (a .ns .now) (a .limits .now) (a .ends .now) in let A = answers (a .statuses .now) (a .leftovers .now) in (nobody binary64 T A _ _ _ _ _ _ _ _ (v-if3 .taken) ∙ same-out A _ (sym (v-short3 .ensures)), ((λ e. absurd (done-short (v-short3 .ensures) e)), rw (v-short3 .ensures) (le-refl _))))
+    (λ c.
+    let v-args = c .before .before .before .before .before .before .before .before .before .before .before .before .before .before .args in
+    let v-if3 = c .before .if3 in
+    let v-short3 = c .short3 in
+    let a = v-args in
+    let T = tableOf (a .kinds .now) (a .ns .now) (a .limits .now) (a .ends .now) in
+    let A = answers (a .statuses .now) (a .leftovers .now) in
+    (nobody binary64 T A _ _ _ _ _ _ _ _ (v-if3 .taken) ∙ same-out A _ (sym (v-short3 .ensures)), ((λ e. absurd (done-short (v-short3 .ensures) e)), rw (v-short3 .ensures) (le-refl _))))
     -- sub-by-kind
-    (λ c. let v-if1 = c .before .before .before .before .before .before .if1 in omega (arith, v-if1 .left))
+    (λ c.
+    let v-if1 = c .before .before .before .before .before .before .if1 in
+    omega (arith, v-if1 .left))
     -- sub-by-kind-2
-    (λ c. let v-if2 = c .before .before .before .before .before .if2 in omega (arith, v-if2 .left))
+    (λ c.
+    let v-if2 = c .before .before .before .before .before .if2 in
+    omega (arith, v-if2 .left))
     -- by-kind-requires
-    (λ c κs. let v-pre = c .before .before .before .before .before .before .before .before .before .before .before .before .before .before .before .before .before .pre in let v-if1 = c .before .before .before .before .before .before .if1 in (omega (arith, v-pre .0, v-if1 .left), tt))
+    (λ c κs.
+    let v-pre = c .before .before .before .before .before .before .before .before .before .before .before .before .before .before .before .before .before .pre in
+    let v-if1 = c .before .before .before .before .before .before .if1 in
+    (omega (arith, v-pre .0, v-if1 .left), tt))
     -- seen-requires
     (λ c κs. search needs)
     -- same-length
-    (λ c. let v-by-kind = c .before .before .before .before .before .before .before .before .before .before .before .before .by-kind in v-by-kind .kept .1 .1 .1 .1 .1 .1 .0)
+    (λ c.
+    let v-by-kind = c .before .before .before .before .before .before .before .before .before .before .before .before .by-kind in
+    v-by-kind .kept .1 .1 .1 .1 .1 .1 .0)
     -- same-length-2
-    (λ c. let v-by-kind = c .before .before .before .before .before .before .before .before .before .before .before .before .by-kind in v-by-kind .kept .1 .1 .1 .1 .1 .1 .1 .0)
+    (λ c.
+    let v-by-kind = c .before .before .before .before .before .before .before .before .before .before .before .before .by-kind in
+    v-by-kind .kept .1 .1 .1 .1 .1 .1 .1 .0)
     -- same-length-3
-    (λ c. let v-by-kind = c .before .before .before .before .before .before .before .before .before .before .before .before .by-kind in v-by-kind .kept .1 .1 .1 .1 .1 .1 .1 .1 .0)
+    (λ c.
+    let v-by-kind = c .before .before .before .before .before .before .before .before .before .before .before .before .by-kind in
+    v-by-kind .kept .1 .1 .1 .1 .1 .1 .1 .1 .0)
     -- same-length-4
-    (λ c. let v-seen = c .before .before .seen in let v-by-kind = c .before .before .before .before .before .before .before .before .before .before .before .before .by-kind in v-seen .kept .0 ∙ v-by-kind .kept .1 .1 .1 .1 .1 .1 .1 .1 .1 .0)
+    (λ c.
+    let v-seen = c .before .before .seen in
+    let v-by-kind = c .before .before .before .before .before .before .before .before .before .before .before .before .by-kind in
+    v-seen .kept .0 ∙ v-by-kind .kept .1 .1 .1 .1 .1 .1 .1 .1 .1 .0)
     -- returns-4
-    (λ c. let v-args = c .before .before .before .before .before .before .before .before .before .before .before .before .before .before .before .before .before .before .before .before .before .before .before .before .before .before .before .before .before .before .args in let v-if1 = c .before .before .before .before .before .before .before .before .before .before .before .before .before .before .before .before .before .before .before .if1 in let v-if2 = c .before .before .before .before .before .before .before .before .before .before .before .before .before .before .before .before .before .before .if2 in let v-if3 = c .before .before .before .before .before .before .before .before .before .before .before .before .before .before .before .before .before .if3 in let v-by-kind = c .before .before .before .before .before .before .before .before .before .before .before .before .by-kind in let v-seen = c .before .before .seen in let a = v-args in let T = tableOf (a .kinds .now) (a .ns .now) (a .limits .now) (a .ends .now) in let A = answers (a .statuses .now) (a .leftovers .now) in (visit binary64 T A _ _ _ _ _ _ _ _ _ (v-if1 .left) (v-if2 .left) (v-if3 .left) (v-by-kind .ensures .0) (v-seen .ensures), ((λ e. omega (arith, v-by-kind .ensures .1, v-if2 .left)), omega (arith, v-by-kind .ensures .1))))
+    (λ c.
+    let v-args = c .before .before .before .before .before .before .before .before .before .before .before .before .before .before .before .before .before .before .before .before .before .before .before .before .before .before .before .before .before .before .args in
+    let v-if1 = c .before .before .before .before .before .before .before .before .before .before .before .before .before .before .before .before .before .before .before .if1 in
+    let v-if2 = c .before .before .before .before .before .before .before .before .before .before .before .before .before .before .before .before .before .before .if2 in
+    let v-if3 = c .before .before .before .before .before .before .before .before .before .before .before .before .before .before .before .before .before .if3 in
+    let v-by-kind = c .before .before .before .before .before .before .before .before .before .before .before .before .by-kind in
+    let v-seen = c .before .before .seen in
+    let a = v-args in
+    let T = tableOf (a .kinds .now) (a .ns .now) (a .limits .now) (a .ends .now) in
+    let A = answers (a .statuses .now) (a .leftovers .now) in
+    (visit binary64 T A _ _ _ _ _ _ _ _ _ (v-if1 .left) (v-if2 .left) (v-if3 .left) (v-by-kind .ensures .0) (v-seen .ensures), ((λ e. omega (arith, v-by-kind .ensures .1, v-if2 .left)), omega (arith, v-by-kind .ensures .1))))

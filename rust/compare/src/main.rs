@@ -1,0 +1,183 @@
+//! Runs bonsai's Rust beside this library and compares everything after every call.
+//!
+//! The crate's root declares bonsai's modules and re-exports what they look for in their own root,
+//! since they are built as they are.
+
+mod bound;
+mod expect;
+mod figures;
+mod ours;
+mod random;
+mod sample;
+mod small;
+mod theirs;
+mod tree;
+mod walk;
+mod wrapped;
+
+include!(concat!(env!("OUT_DIR"), "/bonsai.rs"));
+
+pub use behavior::Behavior;
+pub use bt::BT;
+pub use event::{UpdateArgs, UpdateEvent};
+pub use state::{ActionArgs, RUNNING};
+pub use status::Status;
+
+pub type Float = f64;
+
+use std::process::ExitCode;
+use std::sync::atomic::{AtomicU64, Ordering};
+use std::sync::Mutex;
+use std::time::Instant;
+
+/// How many calls were compared, by what they said.
+#[derive(Clone, Copy, Default)]
+pub struct Count {
+    done: u64,
+    asked: u64,
+    fuel: u64,
+    refused: u64,
+    resets: u64,
+    bounds: u64,
+}
+
+impl Count {
+    fn said(&mut self, no: u8) {
+        match no {
+            0 => self.done += 1,
+            1 => self.asked += 1,
+            7 => self.fuel += 1,
+            _ => self.refused += 1,
+        }
+    }
+
+    fn add(&mut self, other: Count) {
+        self.done += other.done;
+        self.asked += other.asked;
+        self.fuel += other.fuel;
+        self.refused += other.refused;
+        self.resets += other.resets;
+        self.bounds += other.bounds;
+    }
+}
+
+const USAGE: &str = "usage: compare [--full] [--seed N]
+       compare sample FOLDER
+       compare times | stack | list
+       compare repeat NUMBER SIDE ROUNDS
+       compare counts < COUNTS";
+
+fn main() -> ExitCode {
+    let args: Vec<String> = std::env::args().skip(1).collect();
+    let args: Vec<&str> = args.iter().map(String::as_str).collect();
+    let good = match args[..] {
+        ["sample", folder] => match sample::write(folder.as_ref()) {
+            Ok(()) => true,
+            Err(error) => {
+                eprintln!("{folder}: {error}");
+                false
+            }
+        },
+        ["times"] => figures::print_times(),
+        ["counts"] => figures::print_counts(std::io::stdin().lines().map_while(Result::ok)),
+        ["stack"] => {
+            figures::print_stack();
+            true
+        }
+        ["list"] => {
+            figures::list();
+            true
+        }
+        ["repeat", number, side, rounds] => match (number.parse(), rounds.parse()) {
+            (Ok(number), Ok(rounds)) => figures::repeat(number, side, rounds),
+            _ => usage(),
+        },
+        _ => match options(&args) {
+            Some((full, seed)) => compare(full, seed),
+            None => usage(),
+        },
+    };
+    if good {
+        ExitCode::SUCCESS
+    } else {
+        ExitCode::FAILURE
+    }
+}
+
+fn usage() -> bool {
+    eprintln!("{USAGE}");
+    false
+}
+
+fn options(args: &[&str]) -> Option<(bool, u64)> {
+    let mut options = (false, 1);
+    let mut rest = args.iter();
+    while let Some(&arg) = rest.next() {
+        match arg {
+            "--full" => options.0 = true,
+            "--seed" => options.1 = rest.next()?.parse().ok()?,
+            _ => return None,
+        }
+    }
+    Some(options)
+}
+
+fn compare(full: bool, seed: u64) -> bool {
+    println!("seed {seed}, {}", if full { "full" } else { "short" });
+    let (nodes, batches) = if full { (4, 16_000) } else { (3, 400) };
+    let mut total = Count::default();
+    let start = Instant::now();
+    let trees: Vec<_> = (1..=nodes).flat_map(small::trees).collect();
+    let every = |i: u64, count: &mut Count| small::explore(&trees[i as usize], count);
+    let random = |i: u64, count: &mut Count| walk::batch(seed, i, count);
+    for (name, jobs, job) in [
+        (format!("every tree of up to {nodes} nodes"), trees.len() as u64, &every as Job),
+        ("random trees".to_string(), batches, &random),
+    ] {
+        match share(jobs, job) {
+            Ok(count) => {
+                println!("{name}: {} ticks done, {} seconds", count.done, start.elapsed().as_secs());
+                total.add(count);
+            }
+            Err(wrong) => {
+                println!("{name}: DIFFERENT (seed {seed})\n{wrong}");
+                return false;
+            }
+        }
+    }
+    println!(
+        "all the same: {} ticks done, {} stopped to ask, {} out of fuel, {} refused, {} resets, {} bounds",
+        total.done, total.asked, total.fuel, total.refused, total.resets, total.bounds
+    );
+    true
+}
+
+type Job<'a> = &'a (dyn Fn(u64, &mut Count) -> Result<(), String> + Sync);
+
+/// Does the jobs 0 to n on every core, until one finds a difference.
+fn share(jobs: u64, job: Job) -> Result<Count, String> {
+    let next = AtomicU64::new(0);
+    let result = Mutex::new(Ok(Count::default()));
+    std::thread::scope(|scope| {
+        for _ in 0..std::thread::available_parallelism().map_or(1, |n| n.get()) {
+            scope.spawn(|| {
+                let mut count = Count::default();
+                loop {
+                    let i = next.fetch_add(1, Ordering::Relaxed);
+                    let found = if i < jobs { job(i, &mut count) } else { break };
+                    if let Err(wrong) = found {
+                        next.store(jobs, Ordering::Relaxed);
+                        if let Ok(mut result) = result.lock() {
+                            *result = Err(wrong);
+                        }
+                        return;
+                    }
+                }
+                if let Ok(Ok(total)) = result.lock().as_deref_mut() {
+                    total.add(count);
+                }
+            });
+        }
+    });
+    result.into_inner().unwrap_or_else(|_| Err("a worker failed".to_string()))
+}

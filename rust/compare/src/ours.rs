@@ -1,0 +1,208 @@
+//! This library, with all the memory that it is lent, and what each call must leave there.
+
+use crate::theirs::{Ev, Theirs};
+use lemboraw::raw::{self, Record, Said, Table};
+
+/// Cells of a tree, and perhaps of more room behind them.
+#[derive(Clone, Debug, Default)]
+pub struct Cells {
+    pub times: Vec<f64>,
+    pub places: Vec<u16>,
+    pub marks: Vec<u8>,
+}
+
+impl Cells {
+    pub fn fresh(len: usize) -> Self {
+        Cells { times: vec![0.0; len], places: vec![0; len], marks: vec![0; len] }
+    }
+
+    /// What may lie in memory before the library writes there.
+    fn rubbish(len: usize) -> Self {
+        Cells { times: vec![-123.456; len], places: vec![0xbeef; len], marks: vec![0xcd; len] }
+    }
+
+    /// Makes the first `len` cells fresh.
+    pub fn clear(&mut self, len: usize) {
+        self.times[..len].fill(0.0);
+        self.places[..len].fill(0);
+        self.marks[..len].fill(0);
+    }
+
+    /// Takes over the first `len` cells of another.
+    fn copy(&mut self, from: &Cells, len: usize) {
+        self.times[..len].copy_from_slice(&from.times[..len]);
+        self.places[..len].copy_from_slice(&from.places[..len]);
+        self.marks[..len].copy_from_slice(&from.marks[..len]);
+    }
+
+    fn copy_all(&mut self, from: &Cells) {
+        self.copy(from, from.times.len());
+    }
+
+    pub fn lend(&mut self) -> raw::Cells<'_> {
+        raw::Cells { times: &mut self.times, places: &mut self.places, marks: &mut self.marks }
+    }
+
+    /// Equal bit by bit.
+    fn same(&self, other: &Cells) -> bool {
+        self.places == other.places
+            && self.marks == other.marks
+            && self.times.iter().zip(&other.times).all(|(a, b)| a.to_bits() == b.to_bits())
+    }
+}
+
+/// One tick's input, but for the memory.
+pub struct Call<'a> {
+    pub table: Table<'a>,
+    pub ev: Ev,
+    pub fuel: u32,
+    pub statuses: &'a [u8],
+    pub leftovers: &'a [f64],
+    /// How much is lent of times, places, marks, the same of the spare, and the board; more than
+    /// there is means all.
+    pub lent: [usize; 7],
+}
+
+pub const ALL: [usize; 7] = [usize::MAX; 7];
+
+/// All that a call can change.
+#[derive(Clone)]
+struct Memory {
+    record: Record,
+    cells: Cells,
+    spare: Cells,
+    board: Vec<u8>,
+}
+
+impl Memory {
+    fn copy_all(&mut self, from: &Memory) {
+        self.record = from.record;
+        self.cells.copy_all(&from.cells);
+        self.spare.copy_all(&from.spare);
+        self.board.copy_from_slice(&from.board);
+    }
+
+    fn differs(&self, must: &Memory) -> Option<&'static str> {
+        match () {
+            () if self.record != must.record => Some("record"),
+            () if !self.cells.same(&must.cells) => Some("cells"),
+            () if !self.spare.same(&must.spare) => Some("spare"),
+            () if self.board != must.board => Some("board"),
+            () => None,
+        }
+    }
+}
+
+/// A tree in this library.
+#[derive(Clone)]
+pub struct Ours {
+    len: usize,
+    now: Memory,
+    /// What the memory must be after a call.
+    must: Memory,
+}
+
+impl Ours {
+    /// A fresh tree of `len` nodes, in memory for `more` beyond them.
+    pub fn new(len: usize, more: usize, ticks: u64) -> Self {
+        let mut cells = Cells::rubbish(len + more);
+        cells.clear(len);
+        let now = Memory {
+            record: Record { finished: false, ticks },
+            cells,
+            spare: Cells::rubbish(len + more),
+            board: vec![0xab; len + more],
+        };
+        Ours { len, must: now.clone(), now }
+    }
+
+    pub fn cells(&self) -> &Cells {
+        &self.now.cells
+    }
+
+    /// The cells, to spoil them.
+    pub fn cells_mut(&mut self) -> &mut Cells {
+        &mut self.now.cells
+    }
+
+    /// Calls the library and compares what it says and leaves. `then` is bonsai after the tick,
+    /// with its state as cells; it is looked at for answer 0 alone.
+    pub fn tick(&mut self, call: &Call, said: Said, then: Option<(&Theirs, &Cells)>) -> Result<(), String> {
+        self.must.copy_all(&self.now);
+        match (said.no, then) {
+            (0, Some((theirs, cells))) => {
+                self.must.spare.copy(&self.now.cells, self.len);
+                self.must.cells.copy(cells, self.len);
+                self.must.board[..self.len].copy_from_slice(&theirs.seen.board);
+                self.must.record = Record { finished: theirs.bt.finished, ticks: theirs.bt.tick_count };
+            }
+            (1 | 7, _) => self.must.spare.copy(&self.now.cells, self.len),
+            _ => {}
+        }
+        let now = &mut self.now;
+        let cut = |i: usize, len: usize| call.lent[i].min(len);
+        let all = now.board.len();
+        let got = raw::tick(
+            &mut now.record,
+            call.table,
+            raw::Cells {
+                times: &mut now.cells.times[..cut(0, all)],
+                places: &mut now.cells.places[..cut(1, all)],
+                marks: &mut now.cells.marks[..cut(2, all)],
+            },
+            raw::Cells {
+                times: &mut now.spare.times[..cut(3, all)],
+                places: &mut now.spare.places[..cut(4, all)],
+                marks: &mut now.spare.marks[..cut(5, all)],
+            },
+            &mut now.board[..cut(6, all)],
+            call.ev.dt(),
+            call.fuel,
+            call.statuses,
+            call.leftovers,
+        );
+        self.verdict(got, said, call)
+    }
+
+    /// Resets the tree; only whether the cells are lent in full can make a difference.
+    pub fn reset(&mut self, table: Table, lent: [usize; 7], said: Said) -> Result<(), String> {
+        self.must.copy_all(&self.now);
+        if said.no == 0 {
+            self.must.cells.clear(self.len);
+            self.must.record.finished = false;
+        }
+        let now = &mut self.now;
+        let all = now.board.len();
+        let got = raw::reset(
+            &mut now.record,
+            table,
+            raw::Cells {
+                times: &mut now.cells.times[..lent[0].min(all)],
+                places: &mut now.cells.places[..lent[1].min(all)],
+                marks: &mut now.cells.marks[..lent[2].min(all)],
+            },
+        );
+        self.verdict(got, said, &Call { table, ev: Ev::Other, fuel: 0, statuses: &[], leftovers: &[], lent })
+    }
+
+    fn verdict(&self, got: Said, said: Said, call: &Call) -> Result<(), String> {
+        let differs = self.now.differs(&self.must);
+        if got == said && got.time.to_bits() == said.time.to_bits() && differs.is_none() {
+            return Ok(());
+        }
+        let answers: Vec<_> = call.statuses.iter().zip(call.leftovers).collect();
+        Err(format!(
+            "{:?}, fuel {}, lent {:?}, answers {answers:?}\nsaid {got:?}\nmust {said:?}\ndiffers in {}\nnow {:?} {:?} board {:?}\nmust {:?} {:?} board {:?}\n",
+            call.ev,
+            call.fuel,
+            call.lent,
+            differs.unwrap_or("the answer"),
+            self.now.record,
+            self.now.cells,
+            self.now.board,
+            self.must.record,
+            self.must.cells,
+            self.must.board,
+        ))
+    }
+}

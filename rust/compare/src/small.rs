@@ -1,0 +1,163 @@
+//! Every tree of few nodes, with every answer and both events, for three ticks.
+
+use crate::ours::{Call, Cells, Ours, ALL};
+use crate::theirs::{number, Answer, Ev, Theirs, Trace};
+use crate::tree::{children_of, Node, Tree, ACTION, TIMEOUT, WAIT};
+use crate::{Count, Status};
+use lemboraw::raw::Said;
+
+const LIMITS: [f64; 3] = [0.0, 1.0, 2.0];
+const EVENTS: [Ev; 3] = [Ev::Other, Ev::Update(1.0), Ev::Update(2.5)];
+const ANSWERS: [Answer; 4] =
+    [(Status::Running, 7.0), (Status::Success, 0.0), (Status::Success, 1.0), (Status::Failure, 1.0)];
+const TICKS: usize = 3;
+/// Enough for four nodes without loops, and for some rounds of a loop; one that never ends stops here.
+const FUEL: u32 = 12;
+
+/// Every tree of exactly `size` nodes.
+pub fn trees(size: usize) -> Vec<Vec<Node>> {
+    let mut all = vec![];
+    for kind in 0..=16 {
+        let (fewest, most) = children_of(kind).unwrap_or((0, 0));
+        for n in fewest..=most.min(size as u16 - 1) {
+            let limits = if kind == WAIT || kind == TIMEOUT { &LIMITS[..] } else { &[0.0] };
+            for rest in forests(usize::from(n), size - 1) {
+                for &limit in limits {
+                    let n = if kind == ACTION { 7 } else { n };
+                    let mut nodes = vec![(kind, n, limit)];
+                    nodes.extend(&rest);
+                    // Actions are told apart by where they stand.
+                    for (place, node) in nodes.iter_mut().enumerate() {
+                        if node.0 == ACTION {
+                            node.1 = place as u16;
+                        }
+                    }
+                    all.push(nodes);
+                }
+            }
+        }
+    }
+    all
+}
+
+/// Every row of `n` trees with `size` nodes in all.
+fn forests(n: usize, size: usize) -> Vec<Vec<Node>> {
+    if n == 0 {
+        return if size == 0 { vec![vec![]] } else { vec![] };
+    }
+    let mut all = vec![];
+    for first in 1..=size {
+        let rests = forests(n - 1, size - first);
+        if rests.is_empty() {
+            continue;
+        }
+        for tree in trees(first) {
+            for rest in &rests {
+                all.push([&tree[..], rest].concat());
+            }
+        }
+    }
+    all
+}
+
+/// A state that both have reached.
+#[derive(Clone)]
+struct Point {
+    theirs: Theirs,
+    ours: Ours,
+}
+
+/// Follows a tree through every answer and event. States that meet again are followed once.
+pub fn explore(nodes: &[Node], count: &mut Count) -> Result<(), String> {
+    let tree = Tree::new(nodes);
+    let mut level = vec![Point { theirs: Theirs::new(&tree), ours: Ours::new(tree.len(), 1, 0) }];
+    for _ in 0..TICKS {
+        let mut next = vec![];
+        for point in &mut level {
+            for ev in EVENTS {
+                follow(&tree, point, ev, &mut next, count).map_err(|wrong| format!("{tree}{wrong}"))?;
+            }
+        }
+        level = next;
+    }
+    Ok(())
+}
+
+fn follow(tree: &Tree, point: &mut Point, ev: Ev, next: &mut Vec<Point>, count: &mut Count) -> Result<(), String> {
+    let mut room = Cells::fresh(tree.len());
+    // The answers as indices, counted up like the digits of a number.
+    let mut digits: Vec<usize> = vec![];
+    let mut known = 0;
+    loop {
+        let watched = point.theirs.watch(tree, ev, FUEL, &mut |k| {
+            if k == digits.len() {
+                digits.push(0);
+            }
+            ANSWERS[digits[k]]
+        });
+        let trace = &watched.trace;
+        for given in known..trace.asks.len() {
+            tick(tree, point, ev, trace, FUEL, given, None, count)?;
+        }
+        let all = trace.asks.len();
+        if let Some((_, visits)) = trace.end.filter(|end| end.1 <= u64::from(FUEL)) {
+            let visits = visits as u32;
+            tick(tree, point, ev, trace, visits - 1, all, None, count)?;
+            let mut after = point.clone();
+            after.theirs.tick(ev, &watched)?;
+            after.theirs.cells(tree, &mut room);
+            let fuel = visits + all as u32 % 2;
+            let theirs = after.theirs.clone();
+            tick(tree, &mut after, ev, trace, fuel, all, Some((&theirs, &room)), count)?;
+            if after.theirs.bt.finished {
+                restart(tree, &mut after, ev, trace, count)?;
+            } else if next.iter().all(|other| other.theirs.state_differs(&after.theirs)) {
+                next.push(after);
+            }
+        } else {
+            tick(tree, point, ev, trace, FUEL, all, None, count)?;
+        }
+        while digits.last() == Some(&(ANSWERS.len() - 1)) {
+            digits.pop();
+        }
+        match digits.last_mut() {
+            Some(digit) => *digit += 1,
+            None => return Ok(()),
+        }
+        known = digits.len();
+    }
+}
+
+/// A finished tree refuses to tick, and is fresh after a reset.
+fn restart(tree: &Tree, point: &mut Point, ev: Ev, trace: &Trace, count: &mut Count) -> Result<(), String> {
+    let (statuses, leftovers) = split(&trace.answers);
+    let call = Call { table: tree.table(), ev, fuel: FUEL, statuses: &statuses, leftovers: &leftovers, lent: ALL };
+    count.refused += 1;
+    point.ours.tick(&call, Said { no: 2, ..Said::default() }, None)?;
+    point.theirs.bt.reset_bt();
+    count.resets += 1;
+    point.ours.reset(tree.table(), ALL, Said::default())
+}
+
+#[allow(clippy::too_many_arguments)]
+fn tick(
+    tree: &Tree,
+    point: &mut Point,
+    ev: Ev,
+    trace: &Trace,
+    fuel: u32,
+    given: usize,
+    then: Option<(&Theirs, &Cells)>,
+    count: &mut Count,
+) -> Result<(), String> {
+    let (statuses, leftovers) = split(&trace.answers[..given]);
+    let call = Call { table: tree.table(), ev, fuel, statuses: &statuses, leftovers: &leftovers, lent: ALL };
+    let said = trace.said(fuel, given);
+    count.said(said.no);
+    point.ours.tick(&call, said, then)
+}
+
+/// Answers as the library takes them.
+pub fn split(answers: &[Answer]) -> (Vec<u8>, Vec<f64>) {
+    (answers.iter().map(|a| number(a.0)).collect(), answers.iter().map(|a| a.1).collect())
+}

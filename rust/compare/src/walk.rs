@@ -1,0 +1,224 @@
+//! Random trees on random histories.
+
+use crate::bound;
+use crate::expect;
+use crate::ours::{Call, Cells, Ours, ALL};
+use crate::random::Random;
+use crate::small::split;
+use crate::theirs::{Answer, Ev, Theirs, Trace};
+use crate::tree::{Tree, ACTION};
+use crate::wrapped::Wrapped;
+use crate::{Count, Status};
+use lemboraw::raw::{Said, Table};
+
+const TREES: usize = 50;
+
+/// Where a tree's times come from; now and then one comes from another source.
+#[derive(Clone, Copy)]
+enum Source {
+    Zero,
+    Whole,
+    Tenths,
+    Subnormal,
+    Huge,
+    Bits,
+}
+
+const SOURCES: [Source; 6] =
+    [Source::Zero, Source::Whole, Source::Tenths, Source::Subnormal, Source::Huge, Source::Bits];
+
+impl Source {
+    fn time(self, random: &mut Random) -> f64 {
+        let source = if random.one_in(12) { random.pick(&SOURCES) } else { self };
+        match source {
+            Source::Zero => 0.0,
+            Source::Whole => random.below(6) as f64,
+            Source::Tenths => random.below(40) as f64 * 0.1,
+            Source::Subnormal => f64::from_bits(random.below(6) as u64),
+            Source::Huge => random.pick(&[f64::MAX, f64::MAX / 2.0, 1e308, 9e307]),
+            Source::Bits => {
+                let time = f64::from_bits(random.next() >> 1);
+                if time.is_finite() {
+                    time
+                } else {
+                    1.5
+                }
+            }
+        }
+    }
+}
+
+/// One batch of trees; the same for the same seed and number.
+pub fn batch(seed: u64, number: u64, count: &mut Count) -> Result<(), String> {
+    let random = &mut Random::new(seed, number);
+    for _ in 0..TREES {
+        let source = random.pick(&SOURCES);
+        let most = random.pick(&[6, 12, 12, 40, 256]);
+        let tree = Tree::random(random, most, &mut |random| source.time(random));
+        walk(&tree, source, random, count).map_err(|wrong| format!("batch {number}\n{tree}{wrong}"))?;
+        bound::compare(random, count).map_err(|wrong| format!("batch {number}\n{wrong}"))?;
+    }
+    Ok(())
+}
+
+fn walk(tree: &Tree, source: Source, random: &mut Random, count: &mut Count) -> Result<(), String> {
+    let mut theirs = Theirs::new(tree);
+    // Some trees have ticked nearly forever, so that the count goes round.
+    theirs.bt.tick_count = random.pick(&[0, 0, 5, u64::MAX - 1, u64::MAX]);
+    let mut ours = Ours::new(tree.len(), random.below(3), theirs.bt.tick_count);
+    let mut room = Cells::fresh(tree.len());
+    // The crate walks once for each action that is asked: small trees show the same in less time.
+    let mut wrapped = if tree.len() <= 40 { Some(Wrapped::new(tree)?) } else { None };
+    // Some hosts say Running most of the time, so that trees grow old.
+    let patient = random.one_in(2);
+    // Room for some rounds of a loop.
+    let most = 4 * tree.len() as u32 + 40;
+    for _ in 0..4 + random.below(20) {
+        let ev = if random.one_in(4) { Ev::Other } else { Ev::Update(source.time(random)) };
+        if random.one_in(3) {
+            spoiled(tree, &theirs, &ours, ev, random, count)?;
+        }
+        if theirs.bt.finished || random.one_in(30) {
+            if theirs.bt.finished {
+                let call = Call { table: tree.table(), ev, fuel: most, statuses: &[], leftovers: &[], lent: ALL };
+                count.said(2);
+                ours.tick(&call, Said { no: 2, ..Said::default() }, None)?;
+            }
+            theirs.bt.reset_bt();
+            count.resets += 1;
+            ours.reset(tree.table(), ALL, Said::default())?;
+            wrapped.iter_mut().for_each(Wrapped::reset);
+        }
+        let watched = theirs.watch(tree, ev, most, &mut |_| answer(source, patient, random));
+        let trace = &watched.trace;
+        let all = trace.asks.len();
+        if all > 0 {
+            // An action whose answer is missing, with fuel that just reaches it, or just not.
+            let given = random.below(all);
+            let entered = trace.asks[given].entered as u32;
+            for fuel in [entered - 1, entered, entered + 1] {
+                tick(tree, &mut ours, ev, trace, fuel.min(most), given, 0, None, count)?;
+            }
+        }
+        match trace.end {
+            Some((_, visits)) if visits <= u64::from(most) => {
+                let visits = visits as u32;
+                tick(tree, &mut ours, ev, trace, visits - 1, all, 0, None, count)?;
+                theirs.tick(ev, &watched)?;
+                theirs.cells(tree, &mut room);
+                if let Some(wrapped) = &mut wrapped {
+                    wrapped.tick(ev, trace)?;
+                }
+                let fuel = random.pick(&[visits, visits, visits + 1, u32::MAX]);
+                let unused = random.pick(&[0, 0, 0, 3]);
+                tick(tree, &mut ours, ev, trace, fuel, all, unused, Some((&theirs, &room)), count)?;
+            }
+            _ => tick(tree, &mut ours, ev, trace, most, all, 0, None, count)?,
+        }
+    }
+    Ok(())
+}
+
+fn answer(source: Source, patient: bool, random: &mut Random) -> Answer {
+    let status = if patient && !random.one_in(4) {
+        Status::Running
+    } else {
+        random.pick(&[Status::Running, Status::Success, Status::Success, Status::Failure])
+    };
+    (status, source.time(random))
+}
+
+/// Ticks with that many of the trace's answers, and some that are not used behind them.
+#[allow(clippy::too_many_arguments)]
+fn tick(
+    tree: &Tree,
+    ours: &mut Ours,
+    ev: Ev,
+    trace: &Trace,
+    fuel: u32,
+    given: usize,
+    unused: usize,
+    then: Option<(&Theirs, &Cells)>,
+    count: &mut Count,
+) -> Result<(), String> {
+    let (mut statuses, mut leftovers) = split(&trace.answers[..given]);
+    statuses.resize(given + unused, 3);
+    leftovers.resize(given + unused, 0.5);
+    let call = Call { table: tree.table(), ev, fuel, statuses: &statuses, leftovers: &leftovers, lent: ALL };
+    let said = trace.said(fuel, given);
+    count.said(said.no);
+    ours.tick(&call, said, then)
+}
+
+/// A call with one or two things wrong in it, which must leave everything as it was.
+fn spoiled(
+    tree: &Tree,
+    theirs: &Theirs,
+    ours: &Ours,
+    mut ev: Ev,
+    random: &mut Random,
+    count: &mut Count,
+) -> Result<(), String> {
+    let mut ours = ours.clone();
+    let mut tree = tree.clone();
+    let len = tree.len();
+    let mut statuses = vec![1, 2, 3];
+    let mut leftovers = vec![0.0, 1.0, f64::MAX];
+    let mut lent = ALL;
+    let no_time = [f64::NAN, f64::INFINITY, f64::NEG_INFINITY, -0.0, -1.0, -f64::NAN];
+    for _ in 0..1 + random.below(2) {
+        let place = random.below(len);
+        match random.below(6) {
+            0 => ev = Ev::Update(random.pick(&no_time)),
+            1 => {
+                let index = random.below(statuses.len());
+                statuses[index] = random.pick(&[0, 4, 255, 2]);
+                leftovers[index] = random.pick(&[0.0, no_time[index], no_time[index + 3]]);
+            }
+            2 => lent[random.below(7)] = random.pick(&[0, len - 1, len]),
+            3 => {
+                let cells = ours.cells_mut();
+                match random.below(3) {
+                    0 => cells.times[place] = random.pick(&[f64::NAN, -0.0, -1.0, 1.0, f64::INFINITY]),
+                    1 => cells.places[place] = random.pick(&[1, 2, tree.ns[place], tree.ns[place].wrapping_add(1)]),
+                    _ => cells.marks[place] = random.pick(&[1, 2, 255]),
+                }
+            }
+            4 => match random.below(3) {
+                0 => tree.kinds[place] = random.below(18) as u8,
+                1 => tree.ns[place] = random.pick(&[0, 1, 2, 3, 65535]),
+                _ => tree.limits[place] = random.pick(&[0.0, -0.0, 1.0, f64::NAN, f64::INFINITY]),
+            },
+            // A column that is too short or too long; the others say whether that matters.
+            _ => match random.below(6) {
+                0 => tree.kinds.truncate(random.below(len)),
+                1 => tree.ns.truncate(random.below(len)),
+                2 => tree.limits.truncate(random.below(len)),
+                3 => tree.kinds.push(1),
+                4 => statuses.truncate(2),
+                _ => {
+                    tree.kinds.push(ACTION);
+                    tree.ns.push(0);
+                    tree.limits.push(0.0);
+                }
+            },
+        }
+        // What is spoiled next needs every column.
+        if tree.kinds.len() != len || tree.ns.len() != len || tree.limits.len() != len {
+            break;
+        }
+    }
+    let table = Table { kinds: &tree.kinds, ns: &tree.ns, limits: &tree.limits };
+    let call = Call { table, ev, fuel: 9, statuses: &statuses, leftovers: &leftovers, lent };
+    if let Some(said) = expect::refusal(&call, ours.cells(), theirs.bt.finished) {
+        count.said(said.no);
+        ours.tick(&call, said, None)?;
+        // A reset looks at the table and at the room for cells alone.
+        let short = lent[..3].iter().any(|&lent| lent < len);
+        if said.no == 3 || said.no == 4 && short {
+            count.resets += 1;
+            ours.reset(table, lent, said)?;
+        }
+    }
+    Ok(())
+}

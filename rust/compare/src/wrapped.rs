@@ -1,0 +1,72 @@
+//! The Rust crate over the library, as a host uses it.
+
+use crate::theirs::{Ev, Trace};
+use crate::tree::Tree;
+use crate::Status;
+use lemboraw::{ActionArgs, Behavior, Event, UpdateArgs, BT};
+
+/// A tree in the crate; an action is told by its number.
+pub struct Wrapped(BT<u16, ()>);
+
+impl Wrapped {
+    pub fn new(tree: &Tree) -> Result<Self, String> {
+        BT::new(behavior(tree, 0), ()).map(Wrapped).map_err(|refusal| refusal.to_string())
+    }
+
+    pub fn reset(&mut self) {
+        self.0.reset_bt();
+    }
+
+    /// Ticks with a callback that answers as in the trace: each action must be asked once, in the
+    /// same order and with the same dt, and the tick must end in the same way.
+    pub fn tick(&mut self, ev: Ev, trace: &Trace) -> Result<(), String> {
+        let event = ev.dt().map_or(Event::Other, |dt| UpdateArgs { dt }.into());
+        let mut asked = vec![];
+        let got = self.0.tick(&event, &mut |args: ActionArgs<Event, u16>, _: &mut ()| {
+            let given = trace.answers.get(asked.len()).copied();
+            asked.push((*args.action, args.dt.to_bits()));
+            given.map_or((lemboraw::Running, 0.0), |(status, left)| (convert(status), left))
+        });
+        let must = trace.end.map(|((status, left), _)| (convert(status), left.to_bits()));
+        let asks: Vec<_> = trace.asks.iter().map(|ask| (ask.number, ask.dt.to_bits())).collect();
+        if got.ok().map(|(status, left)| (status, left.to_bits())) == must && asked == asks {
+            Ok(())
+        } else {
+            Err(format!("the Rust crate: {ev:?}\nanswered {got:?}, asked {asked:x?}\nmust be {must:x?}, {asks:x?}\n"))
+        }
+    }
+}
+
+fn convert(status: Status) -> lemboraw::Status {
+    match status {
+        Status::Running => lemboraw::Running,
+        Status::Success => lemboraw::Success,
+        Status::Failure => lemboraw::Failure,
+    }
+}
+
+fn behavior(tree: &Tree, place: usize) -> Behavior<u16> {
+    let mut children: Vec<_> =
+        (0..tree.children(place)).map(|index| behavior(tree, tree.child(place, index))).collect();
+    let limit = tree.limits[place];
+    let mut first = || Box::new(children.remove(0));
+    match tree.kinds[place] {
+        0 => Behavior::Wait(limit),
+        1 => Behavior::WaitForever,
+        2 => Behavior::Action(tree.ns[place]),
+        3 => Behavior::Invert(first()),
+        4 => Behavior::AlwaysSucceed(first()),
+        5 => Behavior::Timeout(limit, first()),
+        6 => Behavior::Select(children),
+        7 => Behavior::If(first(), first(), first()),
+        8 => Behavior::Sequence(children),
+        9 => Behavior::Sequence(children).memory(false),
+        10 => Behavior::Select(children).memory(false),
+        11 => Behavior::While(first(), children),
+        12 => Behavior::WhileAll(first(), children),
+        13 => Behavior::WhenAll(children),
+        14 => Behavior::WhenAny(children),
+        15 => Behavior::After(children),
+        _ => Behavior::Race(children),
+    }
+}

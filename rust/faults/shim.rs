@@ -1,0 +1,100 @@
+//! The archive's interface over the code compiled as Rust: a slice passes as pointer and length.
+
+use lemboraw::{Bound, Record, Said};
+use std::slice::{from_raw_parts as lent, from_raw_parts_mut as lent_mut};
+
+#[no_mangle]
+pub unsafe extern "C" fn lemboraw_tick(
+    record: &mut Record,
+    kinds: *const u8,
+    kinds_len: usize,
+    ns: *const u16,
+    ns_len: usize,
+    limits: *const f64,
+    limits_len: usize,
+    times: *mut f64,
+    times_len: usize,
+    places: *mut u16,
+    places_len: usize,
+    marks: *mut u8,
+    marks_len: usize,
+    spare_times: *mut f64,
+    spare_times_len: usize,
+    spare_places: *mut u16,
+    spare_places_len: usize,
+    spare_marks: *mut u8,
+    spare_marks_len: usize,
+    board: *mut u8,
+    board_len: usize,
+    update: bool,
+    dt: f64,
+    fuel: u32,
+    statuses: *const u8,
+    statuses_len: usize,
+    leftovers: *const f64,
+    leftovers_len: usize,
+) -> Said {
+    lemboraw::lemboraw_tick(
+        record,
+        lent(kinds, kinds_len),
+        lent(ns, ns_len),
+        lent(limits, limits_len),
+        lent_mut(times, times_len),
+        lent_mut(places, places_len),
+        lent_mut(marks, marks_len),
+        lent_mut(spare_times, spare_times_len),
+        lent_mut(spare_places, spare_places_len),
+        lent_mut(spare_marks, spare_marks_len),
+        lent_mut(board, board_len),
+        update,
+        dt,
+        fuel,
+        lent(statuses, statuses_len),
+        lent(leftovers, leftovers_len),
+    )
+}
+
+#[no_mangle]
+pub unsafe extern "C" fn lemboraw_reset(
+    record: &mut Record,
+    kinds: *const u8,
+    kinds_len: usize,
+    ns: *const u16,
+    ns_len: usize,
+    limits: *const f64,
+    limits_len: usize,
+    times: *mut f64,
+    times_len: usize,
+    places: *mut u16,
+    places_len: usize,
+    marks: *mut u8,
+    marks_len: usize,
+) -> Said {
+    lemboraw::lemboraw_reset(
+        record,
+        lent(kinds, kinds_len),
+        lent(ns, ns_len),
+        lent(limits, limits_len),
+        lent_mut(times, times_len),
+        lent_mut(places, places_len),
+        lent_mut(marks, marks_len),
+    )
+}
+
+#[no_mangle]
+pub unsafe extern "C" fn lemboraw_bound(
+    kinds: *const u8,
+    kinds_len: usize,
+    ns: *const u16,
+    ns_len: usize,
+    limits: *const f64,
+    limits_len: usize,
+    step: f64,
+) -> Bound {
+    lemboraw::lemboraw_bound(lent(kinds, kinds_len), lent(ns, ns_len), lent(limits, limits_len), step)
+}
+
+#[no_mangle]
+pub extern "C" fn lemboraw_memory(kind: u8, on: bool) -> u8 {
+    lemboraw::lemboraw_memory(kind, on)
+}

@@ -1,0 +1,223 @@
+//! The four functions of the archive on slices, without allocation.
+//!
+//! Each is proved to return for every argument and to touch only what is lent to it, so these are
+//! safe to call with anything. What the numbers mean, and what each answer leaves behind, is in
+//! `include/lemboraw.h`. [`BT`](crate::BT) is the comfortable way to the same thing.
+
+/// The standing record of one tree; the default is that of a new one.
+#[repr(C)]
+#[derive(Clone, Copy, Debug, Default, PartialEq, Eq)]
+pub struct Record {
+    /// Whether the last tick ended in success or failure.
+    pub finished: bool,
+    /// The ticks carried out.
+    pub ticks: u64,
+}
+
+/// What a tick or a reset says; a field that `no` does not use is 0.
+#[repr(C)]
+#[derive(Clone, Copy, Debug, Default, PartialEq)]
+pub struct Said {
+    /// 0 done, 1 asks an action, else a refusal.
+    pub no: u8,
+    /// The root's status: 1 running, 2 success, 3 failure.
+    pub status: u8,
+    /// The visits made.
+    pub visits: u32,
+    /// The answers used.
+    pub used: usize,
+    /// An action's number, a place or an index.
+    pub extra: usize,
+    /// The leftover time, or the dt that an action sees.
+    pub time: f64,
+}
+
+/// What the finish bound says.
+#[repr(C)]
+#[derive(Clone, Copy, Debug, Default, PartialEq, Eq)]
+pub struct Bound {
+    /// 0, 3 or 8.
+    pub no: u8,
+    /// 0 a number, 1 none, 2 above 2^53.
+    pub kind: u8,
+    /// The place of a refusal 3.
+    pub place: usize,
+    /// The number.
+    pub ticks: u64,
+}
+
+/// A tree's nodes in preorder.
+#[derive(Clone, Copy, Debug)]
+pub struct Table<'a> {
+    /// What each node is.
+    pub kinds: &'a [u8],
+    /// Its number of children, or an action's number.
+    pub ns: &'a [u16],
+    /// The time limit of a Wait or Timeout.
+    pub limits: &'a [f64],
+}
+
+/// A tree's state, or the spare room for one.
+#[derive(Debug)]
+pub struct Cells<'a> {
+    /// Elapsed times.
+    pub times: &'a mut [f64],
+    /// Which child is in progress.
+    pub places: &'a mut [u16],
+    /// 1 for an ended child of WhenAll or WhenAny.
+    pub marks: &'a mut [u8],
+}
+
+/// One tick; `dt` is `None` for an event that is no update.
+#[allow(clippy::too_many_arguments)]
+pub fn tick(
+    record: &mut Record,
+    table: Table,
+    cells: Cells,
+    spare: Cells,
+    board: &mut [u8],
+    dt: Option<f64>,
+    fuel: u32,
+    statuses: &[u8],
+    leftovers: &[f64],
+) -> Said {
+    // SAFETY: every pointer goes with the length of its slice, the borrows keep the slices apart,
+    // and the function is proved to stay within them.
+    unsafe {
+        lemboraw_tick(
+            record,
+            table.kinds.as_ptr(),
+            table.kinds.len(),
+            table.ns.as_ptr(),
+            table.ns.len(),
+            table.limits.as_ptr(),
+            table.limits.len(),
+            cells.times.as_mut_ptr(),
+            cells.times.len(),
+            cells.places.as_mut_ptr(),
+            cells.places.len(),
+            cells.marks.as_mut_ptr(),
+            cells.marks.len(),
+            spare.times.as_mut_ptr(),
+            spare.times.len(),
+            spare.places.as_mut_ptr(),
+            spare.places.len(),
+            spare.marks.as_mut_ptr(),
+            spare.marks.len(),
+            board.as_mut_ptr(),
+            board.len(),
+            dt.is_some(),
+            dt.unwrap_or(0.0),
+            fuel,
+            statuses.as_ptr(),
+            statuses.len(),
+            leftovers.as_ptr(),
+            leftovers.len(),
+        )
+    }
+}
+
+/// Makes the cells fresh and the record unfinished.
+pub fn reset(record: &mut Record, table: Table, cells: Cells) -> Said {
+    // SAFETY: as for `tick`.
+    unsafe {
+        lemboraw_reset(
+            record,
+            table.kinds.as_ptr(),
+            table.kinds.len(),
+            table.ns.as_ptr(),
+            table.ns.len(),
+            table.limits.as_ptr(),
+            table.limits.len(),
+            cells.times.as_mut_ptr(),
+            cells.times.len(),
+            cells.places.as_mut_ptr(),
+            cells.places.len(),
+            cells.marks.as_mut_ptr(),
+            cells.marks.len(),
+        )
+    }
+}
+
+/// The finish bound for ticks of at least `step`.
+pub fn bound(table: Table, step: f64) -> Bound {
+    // SAFETY: as for `tick`.
+    unsafe {
+        lemboraw_bound(
+            table.kinds.as_ptr(),
+            table.kinds.len(),
+            table.ns.as_ptr(),
+            table.ns.len(),
+            table.limits.as_ptr(),
+            table.limits.len(),
+            step,
+        )
+    }
+}
+
+/// The kind with its memory on or off.
+pub fn memory(kind: u8, on: bool) -> u8 {
+    // SAFETY: it takes and gives plain numbers.
+    unsafe { lemboraw_memory(kind, on) }
+}
+
+extern "C" {
+    fn lemboraw_tick(
+        record: *mut Record,
+        kinds: *const u8,
+        kinds_len: usize,
+        ns: *const u16,
+        ns_len: usize,
+        limits: *const f64,
+        limits_len: usize,
+        times: *mut f64,
+        times_len: usize,
+        places: *mut u16,
+        places_len: usize,
+        marks: *mut u8,
+        marks_len: usize,
+        spare_times: *mut f64,
+        spare_times_len: usize,
+        spare_places: *mut u16,
+        spare_places_len: usize,
+        spare_marks: *mut u8,
+        spare_marks_len: usize,
+        board: *mut u8,
+        board_len: usize,
+        update: bool,
+        dt: f64,
+        fuel: u32,
+        statuses: *const u8,
+        statuses_len: usize,
+        leftovers: *const f64,
+        leftovers_len: usize,
+    ) -> Said;
+
+    fn lemboraw_reset(
+        record: *mut Record,
+        kinds: *const u8,
+        kinds_len: usize,
+        ns: *const u16,
+        ns_len: usize,
+        limits: *const f64,
+        limits_len: usize,
+        times: *mut f64,
+        times_len: usize,
+        places: *mut u16,
+        places_len: usize,
+        marks: *mut u8,
+        marks_len: usize,
+    ) -> Said;
+
+    fn lemboraw_bound(
+        kinds: *const u8,
+        kinds_len: usize,
+        ns: *const u16,
+        ns_len: usize,
+        limits: *const f64,
+        limits_len: usize,
+        step: f64,
+    ) -> Bound;
+
+    fn lemboraw_memory(kind: u8, on: bool) -> u8;
+}

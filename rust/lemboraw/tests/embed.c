@@ -1,0 +1,64 @@
+/* The header and the archive in a C program: two waits, an action that is asked for, the refusals. */
+#include "lemboraw.h"
+#include <stdio.h>
+
+static int wrong;
+
+#define CHECK(what) do { if (!(what)) { printf("line %d: %s\n", __LINE__, #what); wrong = 1; } } while (0)
+
+enum { LEN = 3 };
+
+static struct lemboraw_record record;
+static const uint8_t kinds[LEN] = {LEMBORAW_SEQUENCE, LEMBORAW_WAIT, LEMBORAW_ACTION};
+static const uint16_t ns[LEN] = {2, 0, 40000};
+static const double limits[LEN] = {0.0, 2.0, 0.0};
+static double times[LEN], spare_times[LEN];
+static uint16_t places[LEN], spare_places[LEN];
+static uint8_t marks[LEN], spare_marks[LEN], board[LEN];
+
+static struct lemboraw_said tick(size_t nodes, bool update, double dt, uint32_t fuel, uint8_t status, size_t answers) {
+    double leftover = 0.25;
+    return lemboraw_tick(&record, kinds, nodes, ns, nodes, limits, nodes, times, LEN, places, LEN, marks, LEN,
+                         spare_times, LEN, spare_places, LEN, spare_marks, LEN, board, LEN, update, dt, fuel,
+                         &status, answers, &leftover, answers);
+}
+
+int main(void) {
+    struct lemboraw_said said = tick(LEN, true, 1.0, 3, LEMBORAW_RUNNING, 0);
+    CHECK(said.no == LEMBORAW_DONE && said.status == LEMBORAW_RUNNING && said.visits == 2 && said.used == 0);
+    CHECK(said.time == 0.0 && record.ticks == 1 && times[1] == 1.0 && board[0] == LEMBORAW_RUNNING && board[2] == 0);
+
+    said = tick(LEN, true, 4.0, 3, LEMBORAW_RUNNING, 0);
+    CHECK(said.no == LEMBORAW_ASKS && said.extra == 40000 && said.time == 3.0 && record.ticks == 1 && times[1] == 1.0);
+    said = tick(LEN, true, 4.0, 2, LEMBORAW_RUNNING, 0);
+    CHECK(said.no == LEMBORAW_OUT_OF_FUEL);
+    said = tick(LEN, true, -1.0, 3, LEMBORAW_RUNNING, 0);
+    CHECK(said.no == LEMBORAW_BAD_TIME);
+    said = tick(LEN, true, 4.0, 3, 9, 1);
+    CHECK(said.no == LEMBORAW_BAD_ANSWER && said.extra == 0);
+    said = tick(LEN - 1, true, 4.0, 3, LEMBORAW_RUNNING, 0);
+    CHECK(said.no == LEMBORAW_BAD_TABLE && said.extra == 2);
+    said = tick(LEN, true, 4.0, 3, LEMBORAW_SUCCESS, 1);
+    CHECK(said.no == LEMBORAW_DONE && said.status == LEMBORAW_SUCCESS && said.time == 0.25 && said.visits == 3 && said.used == 1);
+    CHECK(record.finished && record.ticks == 2 && places[0] == 2 && spare_times[1] == 1.0);
+    said = tick(LEN, false, 0.0, 3, LEMBORAW_RUNNING, 0);
+    CHECK(said.no == LEMBORAW_FINISHED);
+
+    said = lemboraw_reset(&record, kinds, LEN, ns, LEN, limits, LEN, times, LEN, places, LEN, marks, LEN);
+    CHECK(said.no == LEMBORAW_DONE && !record.finished && record.ticks == 2 && places[0] == 0 && times[1] == 0.0);
+    said = lemboraw_reset(&record, kinds, LEN, ns, LEN, limits, LEN, times, LEN, places, LEN, marks, 2);
+    CHECK(said.no == LEMBORAW_TOO_SHORT);
+
+    struct lemboraw_bound_said bound = lemboraw_bound(kinds, LEN, ns, LEN, limits, LEN, 1.0);
+    CHECK(bound.no == LEMBORAW_DONE && bound.kind == LEMBORAW_UNBOUNDED && bound.ticks == 0);
+    bound = lemboraw_bound(kinds + 1, 1, ns + 1, 1, limits + 1, 1, 1.0);
+    CHECK(bound.no == LEMBORAW_DONE && bound.kind == LEMBORAW_TICKS && bound.ticks == 2);
+    bound = lemboraw_bound(kinds, LEN, ns, LEN, limits, LEN, 0.5);
+    CHECK(bound.no == LEMBORAW_NO_BOUND);
+
+    CHECK(lemboraw_memory(LEMBORAW_SEQUENCE, false) == LEMBORAW_MEMORYLESS_SEQUENCE);
+    CHECK(lemboraw_memory(LEMBORAW_MEMORYLESS_SELECTOR, true) == LEMBORAW_SELECT);
+    CHECK(lemboraw_memory(LEMBORAW_RACE, false) == LEMBORAW_RACE);
+    puts(wrong ? "C: wrong" : "C: ok");
+    return wrong;
+}
