@@ -1,0 +1,10 @@
+pub mod Bodies
+pub mod Fields
+pub mod Heads
+pub mod Nans
+pub mod Numbers
+pub mod Orders
+pub mod Puts
+pub mod Runs
+pub mod Ticks
+pub mod Writes

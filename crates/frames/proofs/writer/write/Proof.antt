@@ -1,0 +1,57 @@
+-- `write` meets its contract.
+use native.Mathlib.Omega.{arith}
+use Rattle.frames.proofs.Writes.{no-frame, too-short, bytes}
+use borrow.Author.Needs.{needs}
+use Rattle.frames.proofs.writer.write.Statement.{statement}
+use Rattle.frames.proofs.writer.write.Tie as tie
+
+count-requires : tie.Need-count-requires
+count-requires c κs = search needs
+
+returns : tie.Need-returns
+returns c =
+    let a = c .before .before .before .before .before .args in
+    no-frame (a .frame) (a .statuses .now) (a .leftovers .now) (a .room .now) _ (c .before .count .ensures) (omega arith)
+
+returns-2 : tie.Need-returns-2
+returns-2 c =
+    let a = c .before .before .before .before .before .before .args in
+    no-frame (a .frame) (a .statuses .now) (a .leftovers .now) (a .room .now) _ (c .before .before .count .ensures) (omega arith)
+
+returns-3 : tie.Need-returns-3
+returns-3 c =
+    let a = c .before .before .before .before .before .before .before .args in
+    no-frame (a .frame) (a .statuses .now) (a .leftovers .now) (a .room .now) _ (c .before .before .before .count .ensures) (omega arith)
+
+size-requires : tie.Need-size-requires
+size-requires c κs = search needs
+
+returns-4 : tie.Need-returns-4
+returns-4 c =
+    let a = c .before .before .before .before .before .before .before .before .before .args in
+    too-short (a .frame) (a .statuses .now) (a .leftovers .now) (a .room .now) _ (c .before .before .before .before .before .count .ensures) _ (c .before .size .ensures) (omega arith) (c .if4 .taken)
+
+lay-requires : tie.Need-lay-requires
+lay-requires c κs = search needs
+
+same-length : tie.Need-same-length
+same-length c = search needs
+
+returns-5 : tie.Need-returns-5
+returns-5 c =
+    let a = c .before .before .before .before .before .before .before .before .before .before .before .before .before .args in
+    bytes (a .frame) (a .statuses .now) (a .leftovers .now) (a .room .now) _ (c .before .before .before .before .before .before .before .before .before .count .ensures) _ (c .before .before .before .before .before .size .ensures) (omega arith) _ (omega arith) (c .before .before .lay .ensures)
+
+pub write-spec : {M : Type 1} → statement M
+write-spec =
+    tie.close
+    (tie.spec
+    count-requires
+    returns
+    returns-2
+    returns-3
+    size-requires
+    returns-4
+    lay-requires
+    same-length
+    returns-5)

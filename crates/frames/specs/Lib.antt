@@ -1,0 +1,11 @@
+pub mod Answers
+pub mod Back
+pub mod Digits
+pub mod Examples
+pub mod Hex
+pub mod Line
+pub mod Order
+pub mod Over
+pub mod Parts
+pub mod Times
+pub mod Undo

@@ -1,0 +1,64 @@
+// The bench program's frames, each a line of lower-case hexadecimal fields, read from and written to lent bytes.
+// A time is a bit pattern throughout, so that a line that is read and written again comes out as it was.
+mod hex;
+mod order;
+mod patterns;
+mod reader;
+mod writer;
+
+pub use order::Input;
+pub use order::admit;
+pub use patterns::bits;
+pub use patterns::time;
+pub use patterns::times;
+pub use reader::read;
+pub use writer::write;
+
+// A tick's event. Only an update has a dt.
+pub enum Event {
+    Other,
+    Update(u64),
+}
+
+// A frame by value. A tick's answers stand beside it in two lent slices, statuses and leftovers: the first count of each.
+pub enum Frame {
+    Node {
+        kind: u8,
+        n: u16,
+        limit: u64,
+    },
+    Tick {
+        event: Event,
+        fuel: u32,
+        count: u16,
+    },
+    Reset,
+    Said {
+        no: u8,
+        status: u8,
+        time: u64,
+        visits: u32,
+        used: u16,
+        extra: u16,
+    },
+    WasReset {
+        no: u8,
+    },
+    Malformed {
+        line: u16,
+    },
+}
+
+// What reading a line answers: its frame, that it is no frame's line, or that the lent slices are too short for its answers.
+pub enum Reading {
+    Is(Frame),
+    NoFrame,
+    TooShort,
+}
+
+// What writing a frame answers: how many bytes it wrote, that there is no such frame, or that the lent bytes are too few.
+pub enum Written {
+    Bytes(usize),
+    NoFrame,
+    TooShort,
+}
