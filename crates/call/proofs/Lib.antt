@@ -1,0 +1,7 @@
+pub mod Copies
+pub mod Long
+pub mod Good
+pub mod Gates
+pub mod Resets
+pub mod Parts
+pub mod Walks

@@ -1,0 +1,146 @@
+-- The refusals in their order.
+use mathlib.Core.Path.{_≡_, sym, _∙_}
+use mathlib.Core.Bool.{true, false}
+use mathlib.Core.List.{List}
+use Prim.Native.Nat.{ℕ}
+use borrow.Author.Needs.{needs}
+use borrow.Author.Tests.{not-true, not-false}
+use lib.Dec.{leb}
+use Rattle.rules.specs.Call.{Given, given, run, runLength, timeAllowed}
+use Rattle.call.proofs.Good.{Good, found-good, found-bad}
+use Rattle.call.proofs.Gates.{Fit, Held, Timed, Answerable, bad-table, short-cells, short-spare, short-board, room, bad-cell, fine-cells, bad-time, bad-answer, fine-answers, finished, due}
+use Rattle.call.proofs.gate.checks.Statement.{statement}
+use Rattle.call.proofs.gate.checks.Tie as tie
+
+-- ---- what is known on the way
+abbrev call : tie.Start → ℕ → Given
+call c fuel =
+    let a = c .args in
+    given (a .«record») (a .kinds .now) (a .ns .now) (a .limits .now) (run (a .times .now) (a .places .now) (a .marks .now)) (run (a .spare-times .now) (a .spare-places .now) (a .spare-marks .now)) (a .board .now) (a .event) fuel (a .statuses .now) (a .leftovers .now)
+
+abbrev start : tie.After-check-table → tie.Start
+start c = c .before .before .before .before .before .before .before .before .before .before .before .before .before .before
+
+abbrev ends : tie.After-check-table → List ℕ
+ends c = c .check-table .last .1 .1 .1 .0
+
+abbrev nodes : tie.After-n → ℕ
+nodes c = c .n .given .0 .0
+
+module _ (fuel : ℕ) where
+  abbrev Known : ((g : Given) → List ℕ → ℕ → Type 0) → tie.After-n → Type 0
+  Known P c = P (call (start (c .before .before)) fuel) (ends (c .before .before)) (nodes c)
+
+  abbrev Table : Given → List ℕ → ℕ → Type 0
+  Table g ends n = Good (g .kinds) (g .ns) (g .limits) ends n
+
+  table : (c : tie.After-n) → Known Table c
+  table c = found-good _ _ _ _ _ _ (c .before .before .check-table .ensures) _ (c .n .given .1)
+
+  cells : (c : tie.Else1) → Known (λ g ends n. leb n (runLength (g .cells')) ≡ true) (c .before .before .before)
+  cells c = sym (c .before .long-enough .ensures) ∙ not-false _ (c .if1 .left)
+
+  spare : (c : tie.Else2) → Known (λ g ends n. leb n (runLength (g .spare)) ≡ true) (c .before .before .before .before .before)
+  spare c = sym (c .before .long-enough2 .ensures) ∙ not-false _ (c .if2 .left)
+
+  fit : (c : tie.Else3) → Known Fit (c .before .before .before .before .before .before)
+  fit c = record { good = table (c .before .before .before .before .before .before); cells = cells (c .before .before .before); spare = spare (c .before); board = c .if3 .left }
+
+  held : (c : tie.After-enum-told) → Known Held (c .before .before .before .before .before .before .before .before .before .before)
+  held c = fine-cells (fit (c .before .before .before .before)) (c .before .before .check-cells .ensures) (c .enum-told .given .1)
+
+  timed : (c : tie.Else4) → Known Timed (c .before .before .before .before .before .before .before .before .before .before .before .before)
+  timed c = record { held = held (c .before .before); time = sym (c .before .time-allowed .ensures) ∙ not-false _ (c .if4 .left) }
+
+  answerable : (c : tie.After-enum-told2) → Known Answerable (c .before .before .before .before .before .before .before .before .before .before .before .before .before .before .before)
+  answerable c = fine-answers (timed (c .before .before .before)) (c .before .before .bad-answer .ensures) (c .enum-told2 .given .1)
+
+-- ---- the needs
+check-table-requires : tie.Need-check-table-requires
+check-table-requires c κs = search needs
+
+enum-known-p : tie.Need-enum-known-p
+enum-known-p c = search needs
+
+enum-known-n : tie.Need-enum-known-n
+enum-known-n c = search needs
+
+long-enough-requires : tie.Need-long-enough-requires
+long-enough-requires c κs = search needs
+
+returns : tie.Need-returns
+returns c fuel = short-cells _ (table fuel (c .before .before .before)) (sym (c .before .long-enough .ensures) ∙ not-true _ (c .if1 .taken))
+
+long-enough-requires-2 : tie.Need-long-enough-requires-2
+long-enough-requires-2 c κs = search needs
+
+returns-2 : tie.Need-returns-2
+returns-2 c fuel = short-spare _ (table fuel (c .before .before .before .before .before)) (cells fuel (c .before .before)) (sym (c .before .long-enough2 .ensures) ∙ not-true _ (c .if2 .taken))
+
+returns-3 : tie.Need-returns-3
+returns-3 c fuel = short-board _ (table fuel (c .before .before .before .before .before .before)) (cells fuel (c .before .before .before)) (spare fuel (c .before)) (c .if3 .taken)
+
+check-cells-requires : tie.Need-check-cells-requires
+check-cells-requires c κs = room (fit 0 (c .before))
+
+enum-known-p-2 : tie.Need-enum-known-p-2
+enum-known-p-2 c = search needs
+
+returns-4 : tie.Need-returns-4
+returns-4 c fuel = bad-cell (fit fuel (c .before .before .before .before .before)) (c .before .before .before .check-cells .ensures) _ (c .before .p2 .given .1)
+
+enum-told : tie.Need-enum-told
+enum-told c = search needs
+
+time-allowed-requires : tie.Need-time-allowed-requires
+time-allowed-requires c κs = search needs
+
+returns-5 : tie.Need-returns-5
+returns-5 c fuel = bad-time (held fuel (c .before .before)) (sym (c .before .time-allowed .ensures) ∙ not-true _ (c .if4 .taken))
+
+bad-answer-requires : tie.Need-bad-answer-requires
+bad-answer-requires c κs = search needs
+
+enum-known-i : tie.Need-enum-known-i
+enum-known-i c = search needs
+
+returns-6 : tie.Need-returns-6
+returns-6 c fuel = bad-answer (timed fuel (c .before .before .before .before)) (c .before .before .before .bad-answer .ensures) _ (c .before .i .given .1)
+
+enum-told-2 : tie.Need-enum-told-2
+enum-told-2 c = search needs
+
+returns-7 : tie.Need-returns-7
+returns-7 c fuel = finished (answerable fuel (c .before)) (c .if5 .taken)
+
+returns-8 : tie.Need-returns-8
+returns-8 c fuel = bad-table (call (start (c .before .before .before)) fuel) _ (found-bad _ _ _ _ _ _ (c .before .before .before .check-table .ensures) _ (c .before .p .given .1))
+
+returns-9 : tie.Need-returns-9
+returns-9 c fuel = due (answerable fuel (c .before)) (c .if5 .left)
+
+pub checks-spec : {M : Type 1} → statement M
+checks-spec =
+    tie.close
+    (tie.spec
+    check-table-requires
+    enum-known-p
+    enum-known-n
+    long-enough-requires
+    returns
+    long-enough-requires-2
+    returns-2
+    returns-3
+    check-cells-requires
+    enum-known-p-2
+    returns-4
+    enum-told
+    time-allowed-requires
+    returns-5
+    bad-answer-requires
+    enum-known-i
+    returns-6
+    enum-told-2
+    returns-7
+    returns-8
+    returns-9)

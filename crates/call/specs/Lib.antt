@@ -1,0 +1,4 @@
+pub mod Onto
+pub mod Due
+pub mod Part
+pub mod Told

@@ -1,0 +1,100 @@
+// The checks before a walk, in document 01's order.
+use cells::Found;
+use cells::check_cells;
+use rules::Answer;
+use rules::Event;
+use rules::Record;
+use tables::Answered;
+use tables::Checked;
+use tables::Number;
+use tables::bad_answer;
+use tables::check_table;
+use tables::number_of;
+ghost use mathlib.Core.Path.{_≡_};
+ghost use mathlib.Core.Bool.{not, _||_};
+ghost use Prim.Native.Nat.{ℕ};
+ghost use lib.Dec.{leb};
+ghost use lib.ListN.{length};
+ghost use Rattle.rules.specs.Call.{run, runLength, timeAllowed, given};
+ghost use Rattle.call.specs.Due.{Passed};
+
+// What is to be done: nothing but to answer, or the walk of a tree of so many nodes.
+pub enum Gate {
+    Refused(Answer),
+    Open(usize),
+}
+
+// Whether a run has n cells or more.
+pub fn long_enough(times: &[f64], places: &[u16], marks: &[u8], n: usize) -> bool
+    ensures { λ r. ⌜ r ≡ leb n (runLength (run (now (times .entry)) (now (places .entry)) (now (marks .entry)))) ⌝ }
+{
+    if times.len() < n {
+        return false;
+    }
+    if places.len() < n {
+        return false;
+    }
+    n <= marks.len()
+}
+
+fn time_allowed(event: Event) -> bool
+    ensures { λ r. ⌜ r ≡ timeAllowed event ⌝ }
+{
+    match event {
+        Event::Update(dt) => match number_of(dt) {
+            Number::Good(_) => true,
+            Number::Bad => false,
+        },
+        Event::Other => true,
+    }
+}
+
+// Refusals 3, 4, 9, 5, 6 and 2. Of a tree that is due, ends says where each subtree ends.
+pub fn checks(
+    record: Record,
+    kinds: &[u8],
+    ns: &[u16],
+    limits: &[f64],
+    ends: &mut [u16; 256],
+    times: &[f64],
+    places: &[u16],
+    marks: &[u8],
+    spare_times: &[f64],
+    spare_places: &[u16],
+    spare_marks: &[u8],
+    board: &[u8],
+    event: Event,
+    statuses: &[u8],
+    leftovers: &[f64],
+) -> Gate
+    requires { ⌜ length (now ends) ≡ 256 ⌝ }
+    ensures { λ r. ⌜ ((fuel : ℕ) → Passed (given «record» (now (kinds .entry)) (now (ns .entry)) (now (limits .entry)) (run (now (times .entry)) (now (places .entry)) (now (marks .entry))) (run (now («spare_times» .entry)) (now («spare_places» .entry)) (now («spare_marks» .entry))) (now (board .entry)) event fuel (now (statuses .entry)) (now (leftovers .entry))) (now (ends .exit)) r) ⌝ }
+{
+    match check_table(kinds, ns, limits, ends) {
+        Checked::Bad(p) => Gate::Refused(Answer::BadTable(p)),
+        Checked::Good(n) => {
+            if !long_enough(times, places, marks, n) {
+                return Gate::Refused(Answer::TooShort);
+            }
+            if !long_enough(spare_times, spare_places, spare_marks, n) {
+                return Gate::Refused(Answer::TooShort);
+            }
+            if board.len() < n {
+                return Gate::Refused(Answer::TooShort);
+            }
+            if let Found::Faulty(p) = check_cells(kinds, ns, ends, times, places, marks, n) {
+                return Gate::Refused(Answer::BadCell(p));
+            }
+            if !time_allowed(event) {
+                return Gate::Refused(Answer::BadTime);
+            }
+            if let Answered::Bad(i) = bad_answer(statuses, leftovers) {
+                return Gate::Refused(Answer::BadAnswer(i));
+            }
+            if record.finished {
+                return Gate::Refused(Answer::Finished);
+            }
+            Gate::Open(n)
+        }
+    }
+}

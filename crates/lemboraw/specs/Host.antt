@@ -1,0 +1,64 @@
+-- The calls as a host makes them: an answer in document 01's numbers, an event as a flag and a time.
+use mathlib.Core.Bool.{Bool, true, false, cond}
+use mathlib.Core.List.{List}
+use Prim.Native.Nat.{ℕ}
+use lib.Dec.{leb}
+use lib.Ieee.{Float}
+use Rattle.rules.specs.declared.answer.Record.{Record}
+use Rattle.rules.specs.declared.answer.Said.{Said}
+use Rattle.rules.specs.declared.event.Event.{Event}
+use Rattle.rules.specs.declared.event.Event.the-variants.{Update, Other}
+use Rattle.rules.specs.declared.answer.BoundAnswer.{BoundAnswer}
+use Rattle.rules.specs.declared.answer.BoundAnswer.the-variants.{Within, Never, Above, BadTable, NoBound}
+use Rattle.rules.specs.Kinds.{code, kindOf, memory}
+use Rattle.rules.specs.Call.{Run, Given, Left, ResetLeft, tickCall, resetCall, saidOf, saidOfReset}
+use Rattle.lemboraw.specs.declared.numbers.Bound.{Bound}
+
+-- an update carries its dt; of an other event dt is not looked at
+abbrev pub eventOf : Bool → Float → Event
+eventOf true dt = Update dt
+eventOf false dt = Other
+
+-- what a tick leaves
+pub record HostLeft : Type 0 where
+  pub said : Said
+  pub record' : Record
+  pub cells' : Run
+  pub spare : Run
+  pub board : List ℕ
+
+abbrev pub hostLeft : Said → Record → Run → Run → List ℕ → HostLeft
+hostLeft a r c s b = record { said = a; record' = r; cells' = c; spare = s; board = b }
+
+abbrev pub told : Left → HostLeft
+told l = hostLeft (saidOf (l .answer)) (l .record') (l .cells') (l .spare) (l .board)
+
+unfoldable pub hostTick : Given → HostLeft
+hostTick g = told (tickCall g)
+
+-- what a reset leaves
+pub record HostResetLeft : Type 0 where
+  pub said : Said
+  pub record' : Record
+  pub cells' : Run
+
+abbrev pub hostResetLeft : Said → Record → Run → HostResetLeft
+hostResetLeft a r c = record { said = a; record' = r; cells' = c }
+
+abbrev pub toldReset : ResetLeft → HostResetLeft
+toldReset l = hostResetLeft (saidOfReset (l .answer)) (l .record') (l .cells')
+
+unfoldable pub hostReset : List ℕ → List ℕ → List Float → Record → Run → HostResetLeft
+hostReset ks ns ls r c = toldReset (resetCall ks ns ls r c)
+
+-- the number of a kind with its memory on or off; a number that is no kind stays
+abbrev pub memoryOf : ℕ → Bool → ℕ
+memoryOf k on = cond (leb k 16) (code (memory on (kindOf k))) k
+
+-- the finish bound in numbers: kind 0 a number of ticks, 1 none, 2 above the largest that is told
+abbrev pub boundOf : BoundAnswer → Bound
+boundOf (Within n) = record { no = 0; kind = 0; place = 0; ticks = n }
+boundOf Never = record { no = 0; kind = 1; place = 0; ticks = 0 }
+boundOf Above = record { no = 0; kind = 2; place = 0; ticks = 0 }
+boundOf (BadTable p) = record { no = 3; kind = 0; place = p; ticks = 0 }
+boundOf NoBound = record { no = 8; kind = 0; place = 0; ticks = 0 }

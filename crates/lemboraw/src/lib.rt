@@ -1,0 +1,106 @@
+// The library for hosts: the calls on numbers and slices, with the record by reference.
+mod numbers;
+mod value;
+
+use bound::finish_bound;
+pub use numbers::Bound;
+use numbers::bound_of;
+use rules::Record;
+use rules::Said;
+use value::reset_said;
+use value::tick_said;
+ghost use mathlib.Core.Path.{_≡_};
+ghost use Rattle.rules.specs.Call.{run, given};
+ghost use Rattle.rules.specs.Bound.{boundCall};
+ghost use Rattle.lemboraw.specs.Host.{eventOf, hostTick, hostLeft, hostReset, hostResetLeft, memoryOf, boundOf};
+
+// A tick: the cells, the board and the record change only as its answer says.
+#[no_mangle]
+pub extern "C" fn lemboraw_tick(
+    record: &mut Record,
+    kinds: &[u8],
+    ns: &[u16],
+    limits: &[f64],
+    times: &mut [f64],
+    places: &mut [u16],
+    marks: &mut [u8],
+    spare_times: &mut [f64],
+    spare_places: &mut [u16],
+    spare_marks: &mut [u8],
+    board: &mut [u8],
+    update: bool,
+    dt: f64,
+    fuel: u32,
+    statuses: &[u8],
+    leftovers: &[f64],
+) -> Said
+    ensures { λ r. ⌜ hostTick (given (now («record» .entry)) (now (kinds .entry)) (now (ns .entry)) (now (limits .entry)) (run (now (times .entry)) (now (places .entry)) (now (marks .entry))) (run (now («spare_times» .entry)) (now («spare_places» .entry)) (now («spare_marks» .entry))) (now (board .entry)) (eventOf update dt) fuel (now (statuses .entry)) (now (leftovers .entry))) ≡ hostLeft r (now («record» .exit)) (run (now (times .exit)) (now (places .exit)) (now (marks .exit))) (run (now («spare_times» .exit)) (now («spare_places» .exit)) (now («spare_marks» .exit))) (now (board .exit)) ⌝ }
+{
+    let told = tick_said(
+        *record,
+        kinds,
+        ns,
+        limits,
+        times,
+        places,
+        marks,
+        spare_times,
+        spare_places,
+        spare_marks,
+        board,
+        update,
+        dt,
+        fuel,
+        statuses,
+        leftovers,
+    );
+    *record = told.record;
+    told.said
+}
+
+// A reset: the table's cells are made fresh, and the record is no longer finished.
+#[no_mangle]
+pub extern "C" fn lemboraw_reset(
+    record: &mut Record,
+    kinds: &[u8],
+    ns: &[u16],
+    limits: &[f64],
+    times: &mut [f64],
+    places: &mut [u16],
+    marks: &mut [u8],
+) -> Said
+    ensures { λ r. ⌜ hostReset (now (kinds .entry)) (now (ns .entry)) (now (limits .entry)) (now («record» .entry)) (run (now (times .entry)) (now (places .entry)) (now (marks .entry))) ≡ hostResetLeft r (now («record» .exit)) (run (now (times .exit)) (now (places .exit)) (now (marks .exit))) ⌝ }
+{
+    let told = reset_said(*record, kinds, ns, limits, times, places, marks);
+    *record = told.record;
+    told.said
+}
+
+// The number of a kind with its memory on or off; a number that is no kind stays.
+#[no_mangle]
+pub extern "C" fn lemboraw_memory(kind: u8, on: bool) -> u8
+    ensures { λ r. ⌜ r ≡ memoryOf kind on ⌝ }
+{
+    if on {
+        match kind {
+            9 => 8,
+            10 => 6,
+            _ => kind,
+        }
+    } else {
+        match kind {
+            8 => 9,
+            6 => 10,
+            _ => kind,
+        }
+    }
+}
+
+// The finish bound of a table at a step.
+#[no_mangle]
+pub extern "C" fn lemboraw_bound(kinds: &[u8], ns: &[u16], limits: &[f64], step: f64) -> Bound
+    ensures { λ r. ⌜ r ≡ boundOf (boundCall (now (kinds .entry)) (now (ns .entry)) (now (limits .entry)) step) ⌝ }
+{
+    let answer = finish_bound(kinds, ns, limits, step);
+    bound_of(answer)
+}

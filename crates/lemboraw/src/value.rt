@@ -1,0 +1,84 @@
+// The calls by value, in a host's numbers: the record comes and goes with the answer.
+use crate::numbers::event_of;
+use crate::numbers::said_of;
+use crate::numbers::said_of_reset;
+use call::reset_value;
+use call::tick_value;
+use rules::Record;
+use rules::Said;
+ghost use mathlib.Core.Path.{_≡_};
+ghost use Rattle.rules.specs.Call.{run, given};
+ghost use Rattle.lemboraw.specs.Host.{eventOf, hostTick, hostLeft, hostReset, hostResetLeft};
+
+// What is said, and the record that stands after the call.
+pub struct Told {
+    pub said: Said,
+    pub record: Record,
+}
+
+// A tick.
+pub fn tick_said(
+    record: Record,
+    kinds: &[u8],
+    ns: &[u16],
+    limits: &[f64],
+    times: &mut [f64],
+    places: &mut [u16],
+    marks: &mut [u8],
+    spare_times: &mut [f64],
+    spare_places: &mut [u16],
+    spare_marks: &mut [u8],
+    board: &mut [u8],
+    update: bool,
+    dt: f64,
+    fuel: u32,
+    statuses: &[u8],
+    leftovers: &[f64],
+) -> Told
+    ensures { λ r. ⌜ hostTick (given «record» (now (kinds .entry)) (now (ns .entry)) (now (limits .entry)) (run (now (times .entry)) (now (places .entry)) (now (marks .entry))) (run (now («spare_times» .entry)) (now («spare_places» .entry)) (now («spare_marks» .entry))) (now (board .entry)) (eventOf update dt) fuel (now (statuses .entry)) (now (leftovers .entry))) ≡ hostLeft (r .said) (r .«record») (run (now (times .exit)) (now (places .exit)) (now (marks .exit))) (run (now («spare_times» .exit)) (now («spare_places» .exit)) (now («spare_marks» .exit))) (now (board .exit)) ⌝ }
+{
+    let event = event_of(update, dt);
+    let called = tick_value(
+        record,
+        kinds,
+        ns,
+        limits,
+        times,
+        places,
+        marks,
+        spare_times,
+        spare_places,
+        spare_marks,
+        board,
+        event,
+        fuel,
+        statuses,
+        leftovers,
+    );
+    let after = called.record;
+    let answer = called.answer;
+    let said = said_of(answer);
+    Told {
+        said,
+        record: after,
+    }
+}
+
+// A reset.
+pub fn reset_said(
+    record: Record,
+    kinds: &[u8],
+    ns: &[u16],
+    limits: &[f64],
+    times: &mut [f64],
+    places: &mut [u16],
+    marks: &mut [u8],
+) -> Told
+    ensures { λ r. ⌜ hostReset (now (kinds .entry)) (now (ns .entry)) (now (limits .entry)) «record» (run (now (times .entry)) (now (places .entry)) (now (marks .entry))) ≡ hostResetLeft (r .said) (r .«record») (run (now (times .exit)) (now (places .exit)) (now (marks .exit))) ⌝ }
+{
+    let was = reset_value(record, kinds, ns, limits, times, places, marks);
+    let kept = was.record;
+    let answer = was.answer;
+    let said = said_of_reset(answer);
+    Told { said, record: kept }
+}
