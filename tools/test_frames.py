@@ -62,7 +62,9 @@ class RoundTrips(unittest.TestCase):
         self.assertEqual(list(f.to_frames(f.to_words(lines))), lines)
 
     def test_samples(self):
-        for path in sorted(glob.glob(os.path.join(HERE, "..", "samples", "*.in"))):
+        paths = sorted(glob.glob(os.path.join(HERE, "..", "crates", "samples", "data", "*.in")))
+        self.assertTrue(paths)
+        for path in paths:
             with open(path, newline="\n", encoding="latin-1") as sample:
                 lines = list(sample)
             if "malformed" in os.path.basename(path):

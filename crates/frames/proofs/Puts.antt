@@ -1,15 +1,18 @@
 -- A line put into a room field by field.
 use mathlib.Core.Path.{_≡_, refl, sym, ap, subst, _∙_}
 use mathlib.Core.List.{List, [], _∷_, _++_, append-assoc, append-nil}
-use Prim.Native.Nat.{ℕ, zero, suc, _+_, _*_, _/_, _%_, _≤_, _<_}
+use Prim.Native.Nat.{ℕ, zero, suc, _+_, _*_, _/_, _%_, _^_, _≤_, _<_}
 use native.Mathlib.Nat.{zero-add}
 use native.Mathlib.Numerals.{add-one}
 use native.Mathlib.Omega.{arith}
-use lib.ListN.{length, drop, set, length-append}
+use lib.Dec.{lit<}
+use lib.ListN.{length, getD, drop, set, length-append}
 use Rattle.frames.specs.Hex.{digit, digits}
 use Rattle.frames.specs.Digits.{length-digits}
 use Rattle.frames.specs.Over.{over-none, over-set, over-over, over-before}
-use Rattle.frames.specs.Line.{Field, fields, laid, answers}
+use Rattle.frames.specs.declared.Event.{Event}
+use Rattle.frames.specs.declared.Event.the-variants.{Other, Update}
+use Rattle.frames.specs.Line.{Field, Fit, fields, laid, answers, eventNo}
 use Rattle.frames.specs.Answers.{pair, answers-more}
 use Rattle.frames.specs.Parts.{over, spread, span, Puts}
 
@@ -106,3 +109,12 @@ line-put d k fs d′ d″ n e p h =
     ∙ over-over d 0 (s ++ spread fs) (10 ∷ []) (omega arith)
     ∙ ap (over d 0) (append-assoc s (spread fs) (10 ∷ []) ∙ ap (λ (t : List ℕ). s ++ t) (fields-spread fs))
     ∙ ap (λ (j : ℕ). (s ++ fields fs) ++ drop j d) (zero-add (length (s ++ fields fs)))
+
+-- ---- numbers of their types have room in their fields
+pub event-small : (e : Event) → eventNo e < 16 ^ 2
+event-small Other = lit< tt
+event-small (Update dt) = lit< tt
+
+pub answers-fit : (k i : ℕ) (ss ls : List ℕ) → ((j : ℕ) → getD ss j 0 < 2 ^ 8) → ((j : ℕ) → getD ls j 0 < 2 ^ 64) → Fit (answers k i ss ls)
+answers-fit zero i ss ls p q = tt
+answers-fit (suc k) i ss ls p q = (p i, (q i, answers-fit k (suc i) ss ls p q))

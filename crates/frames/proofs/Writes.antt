@@ -61,3 +61,9 @@ module _ (f : Frame) (ss ls room : List ℕ) (k : ℕ) (e : k ≡ answersOf f) w
           le-leb (length (line f ss ls)) (length room) (omega (arith, length-line f ss ls)),
         )
         (cc (p, s ∙ sym (length-line f ss ls)))
+
+pub none-written : {n : ℕ} → Written.NoFrame ≡ Written.Bytes n → ⊥
+none-written e = let z : _≡_ {A = ℕ} 0 1 = cc in omega arith
+
+pub short-written : {n : ℕ} → Written.TooShort ≡ Written.Bytes n → ⊥
+short-written e = let z : _≡_ {A = ℕ} 0 1 = cc in omega arith

@@ -1,10 +1,10 @@
 // Writing a frame: the two digits of its kind, its fields, each after a space, then LF.
 ghost use mathlib.Core.Path.{_≡_};
 ghost use mathlib.Core.List.{[], _∷_};
-ghost use Prim.Native.Nat.{_+_, _*_, _≤_, _<_};
+ghost use Prim.Native.Nat.{ℕ, _+_, _*_, _≤_, _<_};
 ghost use lib.ListN.{length};
 ghost use Rattle.frames.specs.Hex.{digit, digits};
-ghost use Rattle.frames.specs.Line.{line, answersOf, eventNo, eventTime, laid, wrote};
+ghost use Rattle.frames.specs.Line.{Fit, Good, body, line, answersOf, eventNo, eventTime, laid, wrote};
 ghost use Rattle.frames.specs.Line.{answers as Line·answers};
 ghost use Rattle.frames.specs.Parts.{over, sizeOf, Puts};
 use crate::Event;
@@ -114,6 +114,7 @@ fn tick(room: &mut [u8], event: Event, fuel: u32, count: u16, statuses: &[u8], l
     requires { ⌜ count ≤ length (now statuses) ⌝ }
     requires { ⌜ count ≤ length (now leftovers) ⌝ }
     ensures { λ _. ⌜ now (room .exit) ≡ laid (line (Frame.Tick event fuel count) (now (statuses .entry)) (now (leftovers .entry))) (now (room .entry)) ⌝ }
+    ensures { λ _. ⌜ Fit (body (Frame.Tick event fuel count) (now (statuses .entry)) (now (leftovers .entry))) ⌝ }
 {
     put_number(room, 0, 2, 0x02);
     let a = put(room, 2, 2, event_no(event));
@@ -188,6 +189,7 @@ fn lay(frame: Frame, statuses: &[u8], leftovers: &[u64], room: &mut [u8])
     requires { ⌜ answersOf frame ≤ length (now statuses) ⌝ }
     requires { ⌜ answersOf frame ≤ length (now leftovers) ⌝ }
     ensures { λ _. ⌜ now (room .exit) ≡ laid (line frame (now (statuses .entry)) (now (leftovers .entry))) (now (room .entry)) ⌝ }
+    ensures { λ _. ⌜ Fit (body frame (now (statuses .entry)) (now (leftovers .entry))) ⌝ }
 {
     match frame {
         Frame::Node { kind, n, limit } => node(room, kind, n, limit),
@@ -206,9 +208,10 @@ fn lay(frame: Frame, statuses: &[u8], leftovers: &[u64], room: &mut [u8])
     }
 }
 
-// Writes a frame, with the answers in the two slices, at the start of a room.
+// Writes a frame, with the answers in the two slices, at the start of a room. What is written is a frame's line.
 pub fn write(frame: Frame, statuses: &[u8], leftovers: &[u64], room: &mut [u8]) -> Written
     ensures { λ r. ⌜ (r, now (room .exit)) ≡ wrote frame (now (statuses .entry)) (now (leftovers .entry)) (now (room .entry)) ⌝ }
+    ensures { λ r. ⌜ ((n : ℕ) → r ≡ Written.Bytes n → Good frame (now (statuses .entry)) (now (leftovers .entry))) ⌝ }
 {
     let n = count(frame);
     if n > 1024 {

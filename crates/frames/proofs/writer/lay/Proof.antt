@@ -1,8 +1,9 @@
 -- `lay` meets its contract, kind by kind.
 use mathlib.Core.Path.{sym, ap, subst, _∙_}
 use Prim.Native.Nat.{_≤_}
+use native.Mathlib.Omega.{arith}
 use lib.ListN.{length}
-use Rattle.frames.specs.Line.{line, laid, answersOf}
+use Rattle.frames.specs.Line.{Fit, body, line, laid, answersOf}
 use Rattle.frames.specs.Parts.{sizeOf}
 use Rattle.frames.specs.declared.Frame.{Frame}
 use borrow.Author.Needs.{needs}
@@ -65,7 +66,10 @@ same-length c = search needs
 returns : tie.Need-returns
 returns c =
     let a = c .before .before .before .before .before .before .before .before .before .before .args in
-    c .before .before .node .ensures ∙ ap (λ (f : Frame). laid (line f (a .statuses .now) (a .leftovers .now)) (a .room .now)) (sym (c .before .before .before .before .before .frame .given .1))
+    let e = sym (c .before .before .before .before .before .frame .given .1) in (
+      c .before .before .node .ensures ∙ ap (λ (f : Frame). laid (line f (a .statuses .now) (a .leftovers .now)) (a .room .now)) e,
+      subst (λ (f : Frame). Fit (body f (a .statuses .now) (a .leftovers .now))) e ((omega (arith, c .before .before .before .before .known-told .given), (omega (arith, c .before .before .before .before .known-told .given), (omega (arith, c .before .before .before .before .known-told .given), tt)))),
+    )
 
 same-length-2 : tie.Need-same-length-2
 same-length-2 c = search needs
@@ -73,7 +77,10 @@ same-length-2 c = search needs
 returns-2 : tie.Need-returns-2
 returns-2 c =
     let a = c .before .before .before .before .before .before .before .before .before .before .args in
-    c .before .before .tick .ensures ∙ ap (λ (f : Frame). laid (line f (a .statuses .now) (a .leftovers .now)) (a .room .now)) (sym (c .before .before .before .before .before .frame2 .given .1))
+    let e = sym (c .before .before .before .before .before .frame2 .given .1) in (
+      c .before .before .tick .ensures .0 ∙ ap (λ (f : Frame). laid (line f (a .statuses .now) (a .leftovers .now)) (a .room .now)) e,
+      subst (λ (f : Frame). Fit (body f (a .statuses .now) (a .leftovers .now))) e (c .before .before .tick .ensures .1),
+    )
 
 same-length-3 : tie.Need-same-length-3
 same-length-3 c = search needs
@@ -81,7 +88,10 @@ same-length-3 c = search needs
 returns-3 : tie.Need-returns-3
 returns-3 c =
     let a = c .before .before .before .before .before .before .before .before .before .args in
-    c .before .before .reset .ensures ∙ ap (λ (f : Frame). laid (line f (a .statuses .now) (a .leftovers .now)) (a .room .now)) (sym (c .before .before .before .before .enum-told .given .1))
+    let e = sym (c .before .before .before .before .enum-told .given .1) in (
+      c .before .before .reset .ensures ∙ ap (λ (f : Frame). laid (line f (a .statuses .now) (a .leftovers .now)) (a .room .now)) e,
+      subst (λ (f : Frame). Fit (body f (a .statuses .now) (a .leftovers .now))) e (tt),
+    )
 
 same-length-4 : tie.Need-same-length-4
 same-length-4 c = search needs
@@ -89,7 +99,10 @@ same-length-4 c = search needs
 returns-4 : tie.Need-returns-4
 returns-4 c =
     let a = c .before .before .before .before .before .before .before .before .before .before .args in
-    c .before .before .said .ensures ∙ ap (λ (f : Frame). laid (line f (a .statuses .now) (a .leftovers .now)) (a .room .now)) (sym (c .before .before .before .before .before .frame3 .given .1))
+    let e = sym (c .before .before .before .before .before .frame3 .given .1) in (
+      c .before .before .said .ensures ∙ ap (λ (f : Frame). laid (line f (a .statuses .now) (a .leftovers .now)) (a .room .now)) e,
+      subst (λ (f : Frame). Fit (body f (a .statuses .now) (a .leftovers .now))) e ((omega (arith, c .before .before .before .before .known-told3 .given), (omega (arith, c .before .before .before .before .known-told3 .given), (omega (arith, c .before .before .before .before .known-told3 .given), (omega (arith, c .before .before .before .before .known-told3 .given), (omega (arith, c .before .before .before .before .known-told3 .given), (omega (arith, c .before .before .before .before .known-told3 .given), tt))))))),
+    )
 
 same-length-5 : tie.Need-same-length-5
 same-length-5 c = search needs
@@ -97,7 +110,10 @@ same-length-5 c = search needs
 returns-5 : tie.Need-returns-5
 returns-5 c =
     let a = c .before .before .before .before .before .before .before .before .before .before .args in
-    c .before .before .was-reset .ensures ∙ ap (λ (f : Frame). laid (line f (a .statuses .now) (a .leftovers .now)) (a .room .now)) (sym (c .before .before .before .before .before .frame4 .given .1))
+    let e = sym (c .before .before .before .before .before .frame4 .given .1) in (
+      c .before .before .was-reset .ensures ∙ ap (λ (f : Frame). laid (line f (a .statuses .now) (a .leftovers .now)) (a .room .now)) e,
+      subst (λ (f : Frame). Fit (body f (a .statuses .now) (a .leftovers .now))) e ((omega (arith, c .before .before .before .before .known-told4 .given), tt)),
+    )
 
 same-length-6 : tie.Need-same-length-6
 same-length-6 c = search needs
@@ -105,7 +121,10 @@ same-length-6 c = search needs
 returns-6 : tie.Need-returns-6
 returns-6 c =
     let a = c .before .before .before .before .before .before .before .before .before .before .args in
-    c .before .before .malformed .ensures ∙ ap (λ (f : Frame). laid (line f (a .statuses .now) (a .leftovers .now)) (a .room .now)) (sym (c .before .before .before .before .before .frame5 .given .1))
+    let e = sym (c .before .before .before .before .before .frame5 .given .1) in (
+      c .before .before .malformed .ensures ∙ ap (λ (f : Frame). laid (line f (a .statuses .now) (a .leftovers .now)) (a .room .now)) e,
+      subst (λ (f : Frame). Fit (body f (a .statuses .now) (a .leftovers .now))) e ((omega (arith, c .before .before .before .before .known-told5 .given), tt)),
+    )
 
 pub lay-spec : {M : Type 1} → statement M
 lay-spec =

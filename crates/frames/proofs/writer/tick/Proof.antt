@@ -1,12 +1,13 @@
 -- `tick` meets its contract: its fields and its answers are put one after another.
-use mathlib.Core.Path.{ap, _∙_}
+use mathlib.Core.Path.{_≡_, ap, _∙_}
 use mathlib.Core.List.{[], _∷_, _++_}
 use Prim.Native.Nat.{ℕ, _≤_}
 use native.Mathlib.Omega.{arith}
-use lib.ListN.{length, length-set}
+use lib.ListN.{length, set, length-set}
 use Rattle.frames.specs.Hex.{digits}
-use Rattle.frames.specs.Line.{fields, laid, answers, eventNo}
-use Rattle.frames.proofs.Puts.{puts-on, line-put, answers-span}
+use Rattle.frames.specs.Line.{fields, line, laid, answers, eventNo}
+use Rattle.frames.specs.declared.Frame.the-variants.{Tick}
+use Rattle.frames.proofs.Puts.{puts-on, line-put, answers-span, answers-fit, event-small}
 use borrow.Author.Needs.{needs}
 use Rattle.frames.proofs.writer.tick.Statement.{statement}
 use Rattle.frames.proofs.writer.tick.Tie as tie
@@ -65,8 +66,10 @@ same-length : tie.Need-same-length
 same-length c =
     length-set (c .before .before .answers .last .0) (c .before .before .answers .result) 10 ∙ c .before .before .answers .kept .0 ∙ c .before .before .before .before .before .before .put4 .kept .0 ∙ c .before .before .before .before .before .before .before .before .before .before .put3 .kept .0 ∙ c .before .before .before .before .before .before .before .before .before .before .before .before .before .before .put2 .kept .0 ∙ c .before .before .before .before .before .before .before .before .before .before .before .before .before .before .before .before .before .before .before .put .kept .0 ∙ c .before .before .before .before .before .before .before .before .before .before .before .before .before .before .before .before .before .before .before .before .before .before .before .before .put-number .kept .0
 
-returns : tie.Need-returns
-returns c =
+put-right : (c : tie.After-slice-known7)
+    → set (c .before .before .answers .last .0) (c .before .before .answers .result) 10
+    ≡ laid (line (Tick (c .before .before .before .before .before .before .before .before .before .before .before .before .before .before .before .before .before .before .before .before .before .before .before .before .before .before .before .before .before .args .event) (c .before .before .before .before .before .before .before .before .before .before .before .before .before .before .before .before .before .before .before .before .before .before .before .before .before .before .before .before .before .args .fuel) (c .before .before .before .before .before .before .before .before .before .before .before .before .before .before .before .before .before .before .before .before .before .before .before .before .before .before .before .before .before .args .count)) (c .before .before .before .before .before .before .before .before .before .before .before .before .before .before .before .before .before .before .before .before .before .before .before .before .before .before .before .before .before .args .statuses .now) (c .before .before .before .before .before .before .before .before .before .before .before .before .before .before .before .before .before .before .before .before .before .before .before .before .before .before .before .before .before .args .leftovers .now)) (c .before .before .before .before .before .before .before .before .before .before .before .before .before .before .before .before .before .before .before .before .before .before .before .before .before .before .before .before .before .args .room .now)
+put-right c =
     let a = c .before .before .before .before .before .before .before .before .before .before .before .before .before .before .before .before .before .before .before .before .before .before .before .before .before .before .before .before .before .args in
     let d₀ = c .before .before .before .before .before .before .before .before .before .before .before .before .before .before .before .before .before .before .before .before .before .before .before .before .put-number in
     let d₁ = c .before .before .before .before .before .before .before .before .before .before .before .before .before .before .before .before .before .before .before .put in
@@ -92,6 +95,26 @@ returns c =
     ∙ ap (λ (x : ℕ). laid (digits 2 0x02 ++ fields ((2, x) ∷ (16, t) ∷ (8, a .fuel) ∷ (4, a .count) ∷ run)) (a .room .now)) (c .before .before .before .before .before .before .before .before .before .before .before .before .before .before .before .before .before .before .before .before .event-no .ensures)
     ∙ ap (λ (x : ℕ). laid (digits 2 0x02 ++ fields ((2, eventNo (a .event)) ∷ (16, x) ∷ (8, a .fuel) ∷ (4, a .count) ∷ run)) (a .room .now))
     (c .before .before .before .before .before .before .before .before .before .before .before .before .before .before .before .event-time .ensures)
+
+returns : tie.Need-returns
+returns c =
+    let a = c .before .before .before .before .before .before .before .before .before .before .before .before .before .before .before .before .before .before .before .before .before .before .before .before .before .before .before .before .before .args in (
+      put-right c,
+      (
+        event-small (a .event),
+        (
+          rw (← c .before .before .before .before .before .before .before .before .before .before .before .before .before .before .before .event-time .ensures) (omega (arith, c .before .before .before .before .before .before .before .before .before .before .before .before .before .before .before .event-time .ok)),
+          (
+            omega (arith, c .before .before .before .before .before .before .before .before .before .before .before .before .before .before .before .before .before .before .before .before .before .before .before .before .before .before .before .before .before .fits .fuel),
+            (
+              omega (arith, c .before .before .before .before .before .before .before .before .before .before .before .before .before .before .before .before .before .before .before .before .before .before .before .before .before .before .before .before .before .fits .count),
+              answers-fit (a .count) 0 (a .statuses .now) (a .leftovers .now) (λ j. omega (arith, c .before .before .before .before .before .before .before .before .before .before .before .before .before .before .before .before .before .before .before .before .before .before .before .before .before .before .before .shared-slice-known .given j))
+                  (λ j. omega (arith, c .before .before .before .before .before .before .before .before .before .before .before .before .before .before .before .before .before .before .before .before .before .before .before .before .before .before .shared-slice-known2 .given j)),
+            ),
+          ),
+        ),
+      ),
+    )
 
 pub tick-spec : {M : Type 1} → statement M
 tick-spec =

@@ -1,6 +1,6 @@
 -- `write` meets its contract.
 use native.Mathlib.Omega.{arith}
-use Rattle.frames.proofs.Writes.{no-frame, too-short, bytes}
+use Rattle.frames.proofs.Writes.{no-frame, too-short, bytes, none-written, short-written}
 use borrow.Author.Needs.{needs}
 use Rattle.frames.proofs.writer.write.Statement.{statement}
 use Rattle.frames.proofs.writer.write.Tie as tie
@@ -10,26 +10,34 @@ count-requires c κs = search needs
 
 returns : tie.Need-returns
 returns c =
-    let a = c .before .before .before .before .before .args in
-    no-frame (a .frame) (a .statuses .now) (a .leftovers .now) (a .room .now) _ (c .before .count .ensures) (omega arith)
+    let a = c .before .before .before .before .before .args in (
+      no-frame (a .frame) (a .statuses .now) (a .leftovers .now) (a .room .now) _ (c .before .count .ensures) (omega arith),
+      λ n e. absurd (none-written e),
+    )
 
 returns-2 : tie.Need-returns-2
 returns-2 c =
-    let a = c .before .before .before .before .before .before .args in
-    no-frame (a .frame) (a .statuses .now) (a .leftovers .now) (a .room .now) _ (c .before .before .count .ensures) (omega arith)
+    let a = c .before .before .before .before .before .before .args in (
+      no-frame (a .frame) (a .statuses .now) (a .leftovers .now) (a .room .now) _ (c .before .before .count .ensures) (omega arith),
+      λ n e. absurd (none-written e),
+    )
 
 returns-3 : tie.Need-returns-3
 returns-3 c =
-    let a = c .before .before .before .before .before .before .before .args in
-    no-frame (a .frame) (a .statuses .now) (a .leftovers .now) (a .room .now) _ (c .before .before .before .count .ensures) (omega arith)
+    let a = c .before .before .before .before .before .before .before .args in (
+      no-frame (a .frame) (a .statuses .now) (a .leftovers .now) (a .room .now) _ (c .before .before .before .count .ensures) (omega arith),
+      λ n e. absurd (none-written e),
+    )
 
 size-requires : tie.Need-size-requires
 size-requires c κs = search needs
 
 returns-4 : tie.Need-returns-4
 returns-4 c =
-    let a = c .before .before .before .before .before .before .before .before .before .args in
-    too-short (a .frame) (a .statuses .now) (a .leftovers .now) (a .room .now) _ (c .before .before .before .before .before .count .ensures) _ (c .before .size .ensures) (omega arith) (c .if4 .taken)
+    let a = c .before .before .before .before .before .before .before .before .before .args in (
+      too-short (a .frame) (a .statuses .now) (a .leftovers .now) (a .room .now) _ (c .before .before .before .before .before .count .ensures) _ (c .before .size .ensures) (omega arith) (c .if4 .taken),
+      λ n e. absurd (short-written e),
+    )
 
 lay-requires : tie.Need-lay-requires
 lay-requires c κs = search needs
@@ -39,8 +47,10 @@ same-length c = search needs
 
 returns-5 : tie.Need-returns-5
 returns-5 c =
-    let a = c .before .before .before .before .before .before .before .before .before .before .before .before .before .args in
-    bytes (a .frame) (a .statuses .now) (a .leftovers .now) (a .room .now) _ (c .before .before .before .before .before .before .before .before .before .count .ensures) _ (c .before .before .before .before .before .size .ensures) (omega arith) _ (omega arith) (c .before .before .lay .ensures)
+    let a = c .before .before .before .before .before .before .before .before .before .before .before .before .before .args in (
+      bytes (a .frame) (a .statuses .now) (a .leftovers .now) (a .room .now) _ (c .before .before .before .before .before .before .before .before .before .count .ensures) _ (c .before .before .before .before .before .size .ensures) (omega arith) _ (omega arith) (c .before .before .lay .ensures .0),
+      λ n e. record { few = omega (arith, c .before .before .before .before .before .before .before .before .before .count .ensures); statuses = omega (arith, c .before .before .before .before .before .before .before .before .before .count .ensures); leftovers = omega (arith, c .before .before .before .before .before .before .before .before .before .count .ensures); fit = c .before .before .lay .ensures .1 },
+    )
 
 pub write-spec : {M : Type 1} → statement M
 write-spec =
