@@ -1,6 +1,7 @@
 //! The archive's interface over the code compiled as Rust: a slice passes as pointer and length.
 
-use lemboraw::{Bound, Record, Said};
+use lemboraw::Bound;
+use rules::{Record, Said};
 use std::slice::{from_raw_parts as lent, from_raw_parts_mut as lent_mut};
 
 #[no_mangle]
