@@ -18,13 +18,13 @@ FAULTS = [
         "a WhileAll condition gets the rest",
         "drivers/src/loops.rt",
         "Turn::holding(condition, whole, 0, left, 0, false)",
-        "Turn::holding(condition, whole.rest(left), 0, left, 0, false)",
+        "Turn::holding(condition, left, 0, left, 0, false)",
     ),
     (
         "While moves on after an other event",
         "drivers/src/loops.rt",
-        "Event::Other => {\n                    put_place(places, p, i);\n                    Turn::waiting()",
-        "Event::Other => {\n                    put_place(places, p, up(i));\n                    Turn::waiting()",
+        "} else {\n                    put_place(places, p, i);\n                    Turn::waiting()",
+        "} else {\n                    put_place(places, p, up(i));\n                    Turn::waiting()",
     ),
     (
         "After takes equal leftovers",

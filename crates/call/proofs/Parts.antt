@@ -1,12 +1,18 @@
 -- Parts that were lent, put back in front of what stands behind them.
-use mathlib.Core.Path.{_≡_, sym, _∙_}
+use mathlib.Core.Path.{_≡_, sym, ap, _∙_}
+use mathlib.Core.Bool.{Bool}
 use mathlib.Core.List.{List, _++_}
 use Prim.Native.Nat.{ℕ, _≤_}
-use lib.Ieee.{Float}
+use lib.Ieee.{Float, binary64}
 use lib.ListN.{length, take, drop}
 use lib.Seq.{length-take-le, take-at, drop-at}
+use Rattle.rules.specs.declared.event.Event.{Event}
+use Rattle.rules.specs.declared.event.Event.the-variants.{Update, Other}
+use Rattle.rules.specs.Outcome.{dt, World, Out}
 use Rattle.rules.specs.Call.{Run, run}
-use Rattle.runs.specs.Runs.{state}
+use Rattle.runs.specs.Runs.{Table, State, state}
+use Rattle.runs.specs.FlatRules.{ftick}
+use Rattle.drivers.specs.Turns.{eventOf, updates}
 use Rattle.call.specs.Onto.{Long}
 use Rattle.call.specs.Part.{part, Behind}
 
@@ -37,3 +43,11 @@ module _ (n : ℕ) (c : Run) (board : List ℕ) (long : Long n c) (h : n ≤ len
       marks = back n (c .marks) marks (long .marks) m;
     },
   )
+
+-- an event in two parts, whether it is an update and the dt that it carries, is that event
+parted : (e : Event) {u : Bool} {x : Float} → u ≡ updates e → x ≡ dt e → eventOf u x ≡ e
+parted (Update y) h g = rw (h, g)
+parted Other h g = rw h
+
+pub as-lent : (T : Table) (depth q : ℕ) (S : State) (e : Event) (w : World) {u : Bool} {x : Float} {o : Out State} → u ≡ updates e → x ≡ dt e → ftick binary64 T depth q S (eventOf u x) w ≡ o → ftick binary64 T depth q S e w ≡ o
+as-lent T depth q S e w h g f = ap (λ (e : Event). ftick binary64 T depth q S e w) (sym (parted e h g)) ∙ f

@@ -1,5 +1,6 @@
 // The walk over the first cells of the lent runs.
 use drivers::Ran;
+use drivers::updates;
 use rules::Event;
 use walk::tick_node;
 ghost use mathlib.Core.Path.{_≡_};
@@ -36,6 +37,8 @@ pub fn walk_part(
     ensures { λ _. ⌜ Behind n (run (now (times .entry)) (now (places .entry)) (now (marks .entry))) (run (now (times .exit)) (now (places .exit)) (now (marks .exit))) ⌝ }
     ensures { λ r. ⌜ r .fuel ≤ fuel ⌝ }
 {
+    let update = updates(event);
+    let dt = event.dt();
     tick_node(
         kinds,
         ns,
@@ -49,7 +52,8 @@ pub fn walk_part(
         &mut seen[..n],
         0,
         16,
-        event,
+        update,
+        dt,
         fuel,
         0,
     )

@@ -200,6 +200,10 @@ module _ (kinds ns ends : List ℕ) (times : List Float) (places marks : List �
   flag-later true until until' at stop a b f = omega arith
   flag-later false until until' at stop a b f = b
 
+  flag-on : (e : Bool) (until at at' stop : ℕ) → at < at' → Flag e until at stop → Flag e until at' stop
+  flag-on true until at at' stop h f = f
+  flag-on false until at at' stop h f = omega arith
+
   zip-later : (stops : List ℕ) (may : List Bool) (until until' : ℕ) (σ : List Frame) (d at : ℕ) → until ≤ until' → until' ≤ at → Zip stops may until σ d at → Zip stops may until' σ d at
   zip-later stops may until until' List.[] d at a b z = z
   zip-later stops may until until' (List._∷_ (frame e m ts stop) σ) d at a b (w, (s, (y, (f, z)))) = (w, (s, (y, (flag-later e until until' at stop a b f, zip-later stops may until until' σ (suc d) stop a (omega (arith, helds-le kinds ns ends times places marks ts d at stop w)) z))))
@@ -243,6 +247,9 @@ module _ (kinds ns ends : List ℕ) (times : List Float) (places marks : List �
 
     inside : end ≤ r .stop
     inside = helds-le kinds ns ends times places marks (r .us) (suc (r .deep)) end (r .stop) (r .beside)
+
+    pub within : end ≤ n
+    within = omega (arith, inside, zip-le stops may until (r .frames) (suc (suc (r .deep))) (r .stop) (r .zip))
 
     flag-is : (e : Bool) (stop : ℕ) → at < stop → Flag e until at stop → ltb at until ≡ e
     flag-is true stop h f = lt-ltb at until (omega arith)
@@ -308,7 +315,7 @@ module _ (kinds ns ends : List ℕ) (times : List Float) (places marks : List �
         no-kids (t ∷ ts) d h le = absurd (omega (arith, held-lt kinds ns ends times places marks t d (suc at) (h .0), helds-le kinds ns ends times places marks ts d (getD ends (suc at) 0) end (h .1)))
 
         -- a leaf leaves the open nodes as they are
-        pub passes : end ≤ at + 1 → Scanned stops may open' until' (at + 1) answer
+        pub passes : end ≤ at + 1 → Scanned stops may open' until (at + 1) answer
         passes le =
             let none' = no-kids (r .kids) (r .deep) (r .below) le in
             let e : end ≡ at + 1 = omega (arith, past) in
@@ -317,7 +324,7 @@ module _ (kinds ns ends : List ℕ) (times : List Float) (places marks : List �
               frames = List._∷_ (frame (r .e) (r .m) (r .us) (r .stop)) (r .frames);
               level = r .level;
               levels = omega (arith, r .levels, r .level);
-              zip = subst (λ (i : ℕ). Zip stops may until' (List._∷_ (frame (r .e) (r .m) (r .us) (r .stop)) (r .frames)) (suc (r .deep)) i) e around;
+              zip = subst (λ (i : ℕ). Zip stops may until (List._∷_ (frame (r .e) (r .m) (r .us) (r .stop)) (r .frames)) (suc (r .deep)) i) e (r .beside, (r .stops-is, (r .may-is, (flag-on (r .e) until at end (r .stop) past (r .flag), r .zip))));
               runs = sym (run-none (r .e || x) (marksChildren (r .k)) end (List._∷_ (frame (r .e) (r .m) (r .us) (r .stop)) (r .frames)) (at + 1)) ∙ subst (λ (ts : Forest). run (List._∷_ (frame (r .e || x) (marksChildren (r .k)) ts end) (List._∷_ (frame (r .e) (r .m) (r .us) (r .stop)) (r .frames))) (at + 1) ≡ answer) none' goes-on;
             }
 

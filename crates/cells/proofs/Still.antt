@@ -25,11 +25,6 @@ module _ (stops : List ℕ) (at : ℕ) where
   unfolding stillOpen
   top-drops i h = rw (le-ltb at (getD stops (suc i) 0) h)
 
-  pub stays : (left : ℕ) → 1 < left → at < getD stops (left - 1) 0 → stillOpen stops at left ≡ left
-  stays zero h k = absurd (omega arith)
-  stays (suc zero) h k = absurd (omega arith)
-  stays (suc (suc i)) h k = top-stays i (rw (below i) at k)
-
   pub drops : (left : ℕ) → 1 < left → getD stops (left - 1) 0 ≤ at → stillOpen stops at left ≡ stillOpen stops at (left - 1)
   drops zero h k = absurd (omega arith)
   drops (suc zero) h k = absurd (omega arith)
@@ -40,6 +35,11 @@ module _ (stops : List ℕ) (at : ℕ) where
   ends zero h = refl
   ends (suc zero) h = refl
   ends (suc (suc i)) h = absurd (omega arith)
+
+  pub all-stay : (left : ℕ) → 1 ≤ left → at < getD stops (left - 1) 0 → stillOpen stops at left ≡ left
+  all-stay zero h k = absurd (omega arith)
+  all-stay (suc zero) h k = one
+  all-stay (suc (suc i)) h k = top-stays i (rw (below i) at k)
 
   by-test : (b : Bool) (i o : ℕ) → 1 ≤ o → o ≤ suc i → (1 ≤ cond b (suc (suc i)) o) × (cond b (suc (suc i)) o ≤ suc (suc i))
   by-test true i o g h = (omega arith, omega arith)

@@ -4,11 +4,11 @@ use tables::elapsed;
 use tables::zero_bits;
 ghost use mathlib.Core.Path.{_≡_};
 ghost use mathlib.Core.Bool.{cond, _&&_};
-ghost use lib.Dec.{eqb};
+ghost use lib.Dec.{leb, eqb};
 ghost use Rattle.rules.specs.Kinds.{timed};
 ghost use Rattle.rules.specs.Tree.{cell};
 ghost use Rattle.rules.specs.Table.{zeroBits};
-ghost use Rattle.rules.specs.Cells.{elapsed, cellAllowed};
+ghost use Rattle.rules.specs.Cells.{elapsed, lastPlace, cellAllowed};
 
 // No time and no place, as in a fresh cell.
 fn at_start(time: f64, place: u16) -> bool
@@ -29,6 +29,16 @@ fn time_allowed(kind: Kind, time: f64) -> bool
     } else {
         zero_bits(time)
     }
+}
+
+// 0 is a place of every kind.
+fn place_allowed(kind: Kind, n: u16, place: u16) -> bool
+    ensures { λ r. ⌜ r ≡ leb place (lastPlace kind n) ⌝ }
+{
+    if place == 0 {
+        return true;
+    }
+    place <= kind.last_place(n)
 }
 
 // `ended`: below a child that has ended; `may_end`: a child of WhenAll or WhenAny.
@@ -53,12 +63,12 @@ pub fn cell_allowed(
         if !time_allowed(kind, time) {
             return false;
         }
-        return place <= kind.last_place(n);
-    }
-    if mark != 1 {
-        return false;
+        return place_allowed(kind, n, place);
     }
     if !may_end {
+        return false;
+    }
+    if mark != 1 {
         return false;
     }
     at_start(time, place)

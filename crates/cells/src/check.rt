@@ -56,18 +56,27 @@ pub fn check_cells(
     ensures { λ r. ⌜ Checks (now (kinds .entry)) (now (ns .entry)) (now (ends .entry)) (now (times .entry)) (now (places .entry)) (now (marks .entry)) n r ⌝ }
 {
     // The open nodes, the first of which stands for the root's parent: where each ends, and whether
-    // its children may be marked.
+    // its children may be marked; `last` and `may_end` are those of the innermost.
     let mut stops = [0usize; 16];
     let mut may = [false; 16];
     stops[0] = n;
     let mut open: usize = 1;
+    let mut last: usize = n;
+    let mut may_end = false;
     // Up to where all cells are below a child that has ended.
     let mut until: usize = 0;
     let mut at: usize = 0;
-    while at < n {
-        open = still_open(&stops, open, at);
+    loop {
+        if last <= at {
+            if n <= at {
+                return Found::Fine;
+            }
+            // The innermost ends here, and others with it.
+            open = still_open(&stops, open, at);
+            last = stops[open - 1];
+            may_end = may[open - 1];
+        }
         let kind = Kind::of(kinds[at]);
-        let may_end = may[open - 1];
         let mark = marks[at];
         if !cell_allowed(
             at < until,
@@ -82,16 +91,21 @@ pub fn check_cells(
         }
         let begin = at;
         let stop = wide(ends[begin]);
-        until = ended_until(mark, stop, until);
         at += 1;
         if at < stop {
+            // Neither is so in a good table.
             if 16 <= open {
                 return Found::Faulty(begin);
             }
-            stops[open] = stop;
-            may[open] = kind.marks_children();
+            if n < stop {
+                return Found::Faulty(begin);
+            }
+            last = stop;
+            may_end = kind.marks_children();
+            stops[open] = last;
+            may[open] = may_end;
             open += 1;
+            until = ended_until(mark, stop, until);
         }
     }
-    Found::Fine
 }

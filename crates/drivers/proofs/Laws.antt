@@ -8,7 +8,6 @@ use lib.Ieee.{Float}
 use native.Mathlib.Omega.{arith}
 use borrow.Author.Tests.{ltb-true, lt-ltb}
 use Rattle.rules.specs.declared.status.Status.{Status}
-use Rattle.rules.specs.declared.event.Event.{Event}
 use Rattle.rules.specs.Tree.{zeroTime}
 use Rattle.runs.specs.Runs.{Table, State, state, endOf, clear, freshen, freshNode, up}
 use Rattle.drivers.specs.declared.turn.Turn.{Turn}
@@ -18,7 +17,7 @@ use Rattle.drivers.specs.Turns.{heldTurn, overTurn, Next}
 pub over-small : {t : Turn} {s : Status} {l : Float} → t ≡ overTurn s l → t .i < 65535
 over-small e = rw e (omega arith)
 
-pub held-small : {t : Turn} {q : ℕ} {e : Event} {i : ℕ} {l : Float} {p : ℕ} {a : Bool} → t ≡ heldTurn q e i l p a → i < 65535 → t .i < 65535
+pub held-small : {t : Turn} {q : ℕ} {x : Float} {i : ℕ} {l : Float} {p : ℕ} {a : Bool} → t ≡ heldTurn q x i l p a → i < 65535 → t .i < 65535
 held-small e h = rw e h
 
 -- the index of a child that has one before it

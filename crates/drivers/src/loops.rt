@@ -1,6 +1,5 @@
 // While and WhileAll: the body goes round while the condition is Running.
 use crate::turn::Turn;
-use rules::Event;
 use rules::Status;
 use runs::NOWHERE;
 use runs::child;
@@ -21,10 +20,10 @@ ghost use Rattle.runs.specs.Runs.{tableOf, state};
 ghost use Rattle.drivers.specs.Turns.{whileStart, whileTurn, bodyStart, bodyNext, whileAllStart, whileAllTurn, loopStart, loopNext};
 
 // The condition, with the whole event.
-pub fn while_start(p: usize, event: Event) -> Turn
-    ensures { λ r. ⌜ r ≡ whileStart p event ⌝ }
+pub fn while_start(p: usize, dt: f64) -> Turn
+    ensures { λ r. ⌜ r ≡ whileStart p dt ⌝ }
 {
-    Turn::holding(first(p), event, 0, 0.0, 0, true)
+    Turn::holding(first(p), dt, 0, 0.0, 0, true)
 }
 
 // While the condition is Running the body goes round; after an other event nothing moves.
@@ -35,19 +34,19 @@ pub fn while_turn(
     places: &mut [u16],
     marks: &mut [u8],
     p: usize,
+    update: bool,
     t: Turn,
     status: Status,
     left: f64,
 ) -> Turn
-    ensures { λ r. ⌜ ((ks : List ℕ) (ls : List Float) (bs : List ℕ) → whileTurn (tableOf ks (now (ns .entry)) ls (now (ends .entry))) p t status left (state (now (times .entry)) (now (places .entry)) (now (marks .entry)) bs) ≡ (r, (state (now (times .exit)) (now (places .exit)) (now (marks .exit)) bs))) ⌝ }
+    ensures { λ r. ⌜ ((ks : List ℕ) (ls : List Float) (bs : List ℕ) → whileTurn update (tableOf ks (now (ns .entry)) ls (now (ends .entry))) p t status left (state (now (times .entry)) (now (places .entry)) (now (marks .entry)) bs) ≡ (r, (state (now (times .exit)) (now (places .exit)) (now (marks .exit)) bs))) ⌝ }
     ensures { λ r. ⌜ r .i < 65535 ⌝ }
 {
     let i = t.i;
     let q = t.q;
-    let event = t.event;
     if t.all {
         match status {
-            Status::Running => body_start(ns, ends, places, p, event),
+            Status::Running => body_start(ns, ends, places, p, t.dt),
             Status::Success => Turn::ended(Status::Success, left),
             Status::Failure => Turn::ended(Status::Failure, left),
         }
@@ -61,27 +60,28 @@ pub fn while_turn(
                 put_place(places, p, i);
                 Turn::ended(Status::Failure, left)
             }
-            Status::Success => match event {
-                Event::Update(_) => body_next(ns, ends, times, places, marks, p, q, i, left),
-                Event::Other => {
+            Status::Success => {
+                if update {
+                    body_next(ns, ends, times, places, marks, p, q, i, left)
+                } else {
                     put_place(places, p, i);
                     Turn::waiting()
                 }
-            },
+            }
         }
     }
 }
 
 // The body child at the place.
-fn body_start(ns: &[u16], ends: &[u16], places: &[u16], p: usize, event: Event) -> Turn
-    ensures { λ r. ⌜ ((ks : List ℕ) (ls : List Float) (ts : List Float) (ms : List ℕ) (bs : List ℕ) → bodyStart (tableOf ks (now (ns .entry)) ls (now (ends .entry))) p event (state ts (now (places .entry)) ms bs) ≡ r) ⌝ }
+fn body_start(ns: &[u16], ends: &[u16], places: &[u16], p: usize, dt: f64) -> Turn
+    ensures { λ r. ⌜ ((ks : List ℕ) (ls : List Float) (ts : List Float) (ms : List ℕ) (bs : List ℕ) → bodyStart (tableOf ks (now (ns .entry)) ls (now (ends .entry))) p dt (state ts (now (places .entry)) ms bs) ≡ r) ⌝ }
     ensures { λ r. ⌜ r .i < 65535 ⌝ }
 {
     let i = place_at(places, p);
     if i < down(number_at(ns, p)) {
-        Turn::due(child(ends, end_at(ends, first(p)), i), event, i)
+        Turn::due(child(ends, end_at(ends, first(p)), i), dt, i)
     } else {
-        Turn::due(NOWHERE, event, 0)
+        Turn::due(NOWHERE, dt, 0)
     }
 }
 
@@ -104,26 +104,26 @@ fn body_next(
     if more(i, down(number_at(ns, p))) {
         let m = end_at(ends, q);
         fresh_node(ends, times, places, marks, m);
-        Turn::due(m, Event::Update(left), up(i))
+        Turn::due(m, left, up(i))
     } else {
         let body = end_at(ends, first(p));
         fresh_node(ends, times, places, marks, body);
-        Turn::due(body, Event::Update(left), 0)
+        Turn::due(body, left, 0)
     }
 }
 
 // The condition if it is due, else the body child in progress.
-pub fn while_all_start(ns: &[u16], ends: &[u16], places: &[u16], p: usize, event: Event) -> Turn
-    ensures { λ r. ⌜ ((ks : List ℕ) (ls : List Float) (ts : List Float) (ms : List ℕ) (bs : List ℕ) → whileAllStart (tableOf ks (now (ns .entry)) ls (now (ends .entry))) p event (state ts (now (places .entry)) ms bs) ≡ r) ⌝ }
+pub fn while_all_start(ns: &[u16], ends: &[u16], places: &[u16], p: usize, dt: f64) -> Turn
+    ensures { λ r. ⌜ ((ks : List ℕ) (ls : List Float) (ts : List Float) (ms : List ℕ) (bs : List ℕ) → whileAllStart (tableOf ks (now (ns .entry)) ls (now (ends .entry))) p dt (state ts (now (places .entry)) ms bs) ≡ r) ⌝ }
     ensures { λ r. ⌜ r .i < 65535 ⌝ }
 {
     let i = place_at(places, p);
     if i == 0 {
-        Turn::holding(first(p), event, 0, event.dt(), 0, false)
+        Turn::holding(first(p), dt, 0, dt, 0, false)
     } else if i <= down(number_at(ns, p)) {
-        Turn::due(child(ends, end_at(ends, first(p)), i - 1), event, i)
+        Turn::due(child(ends, end_at(ends, first(p)), i - 1), dt, i)
     } else {
-        Turn::due(NOWHERE, event, 1)
+        Turn::due(NOWHERE, dt, 1)
     }
 }
 
@@ -136,7 +136,7 @@ pub fn while_all_turn(
     places: &mut [u16],
     marks: &mut [u8],
     p: usize,
-    whole: Event,
+    whole: f64,
     t: Turn,
     status: Status,
     left: f64,
@@ -148,7 +148,7 @@ pub fn while_all_turn(
     let q = t.q;
     if i == 0 {
         match status {
-            Status::Running => loop_start(ns, ends, p, whole.rest(t.left)),
+            Status::Running => loop_start(ns, ends, p, t.left),
             Status::Success => {
                 put_place(places, p, 1);
                 Turn::ended(Status::Success, left)
@@ -174,14 +174,14 @@ pub fn while_all_turn(
 }
 
 // The first body child, if there is one.
-fn loop_start(ns: &[u16], ends: &[u16], p: usize, event: Event) -> Turn
-    ensures { λ r. ⌜ ((ks : List ℕ) (ls : List Float) → loopStart (tableOf ks (now (ns .entry)) ls (now (ends .entry))) p event ≡ r) ⌝ }
+fn loop_start(ns: &[u16], ends: &[u16], p: usize, dt: f64) -> Turn
+    ensures { λ r. ⌜ ((ks : List ℕ) (ls : List Float) → loopStart (tableOf ks (now (ns .entry)) ls (now (ends .entry))) p dt ≡ r) ⌝ }
     ensures { λ r. ⌜ r .i < 65535 ⌝ }
 {
     if 0 < down(number_at(ns, p)) {
-        Turn::due(end_at(ends, first(p)), event, 1)
+        Turn::due(end_at(ends, first(p)), dt, 1)
     } else {
-        Turn::due(NOWHERE, event, 1)
+        Turn::due(NOWHERE, dt, 1)
     }
 }
 
@@ -195,7 +195,7 @@ fn loop_next(
     p: usize,
     q: usize,
     i: u16,
-    whole: Event,
+    whole: f64,
     left: f64,
 ) -> Turn
     ensures { λ r. ⌜ ((ks : List ℕ) (ls : List Float) (bs : List ℕ) → loopNext (tableOf ks (now (ns .entry)) ls (now (ends .entry))) p q i whole left (state (now (times .entry)) (now (places .entry)) (now (marks .entry)) bs) ≡ (r, (state (now (times .exit)) (now (places .exit)) (now (marks .exit)) bs))) ⌝ }
@@ -205,7 +205,7 @@ fn loop_next(
     if i < down(number_at(ns, p)) {
         let m = end_at(ends, q);
         fresh_node(ends, times, places, marks, m);
-        Turn::due(m, whole.rest(left), up(i))
+        Turn::due(m, left, up(i))
     } else {
         let condition = first(p);
         fresh_node(ends, times, places, marks, end_at(ends, condition));

@@ -2,7 +2,7 @@
 // exchanged.
 use crate::turn::Turn;
 use crate::turn::exchange_if;
-use rules::Event;
+use crate::turn::passed;
 use rules::Status;
 use runs::child;
 use runs::end_at;
@@ -22,13 +22,13 @@ ghost use Rattle.runs.specs.Runs.{tableOf, state, first};
 ghost use Rattle.drivers.specs.Turns.{sequenceStart, sequenceTurn, memorylessStart, memorylessTurn};
 
 // From the place on; at place n there is nothing left to tick.
-pub fn sequence_start(ns: &[u16], ends: &[u16], places: &[u16], p: usize, event: Event) -> Turn
-    ensures { λ r. ⌜ ((ks : List ℕ) (ls : List Float) (ts : List Float) (ms : List ℕ) (bs : List ℕ) → sequenceStart (tableOf ks (now (ns .entry)) ls (now (ends .entry))) p event (state ts (now (places .entry)) ms bs) ≡ r) ⌝ }
+pub fn sequence_start(ns: &[u16], ends: &[u16], places: &[u16], p: usize, dt: f64) -> Turn
+    ensures { λ r. ⌜ ((ks : List ℕ) (ls : List Float) (ts : List Float) (ms : List ℕ) (bs : List ℕ) → sequenceStart (tableOf ks (now (ns .entry)) ls (now (ends .entry))) p dt (state ts (now (places .entry)) ms bs) ≡ r) ⌝ }
     ensures { λ r. ⌜ r .i < 65535 ⌝ }
 {
     let i = place_at(places, p);
     if i < number_at(ns, p) {
-        Turn::due(child(ends, first(p), i), event, i)
+        Turn::due(child(ends, first(p), i), dt, i)
     } else {
         Turn::waiting()
     }
@@ -44,16 +44,16 @@ pub fn sequence_turn(
     places: &mut [u16],
     marks: &mut [u8],
     p: usize,
+    update: bool,
     t: Turn,
     status: Status,
     left: f64,
 ) -> Turn
-    ensures { λ r. ⌜ ((ks : List ℕ) (ls : List Float) (bs : List ℕ) → sequenceTurn select (tableOf ks (now (ns .entry)) ls (now (ends .entry))) p t status left (state (now (times .entry)) (now (places .entry)) (now (marks .entry)) bs) ≡ (r, (state (now (times .exit)) (now (places .exit)) (now (marks .exit)) bs))) ⌝ }
+    ensures { λ r. ⌜ ((ks : List ℕ) (ls : List Float) (bs : List ℕ) → sequenceTurn select update (tableOf ks (now (ns .entry)) ls (now (ends .entry))) p t status left (state (now (times .entry)) (now (places .entry)) (now (marks .entry)) bs) ≡ (r, (state (now (times .exit)) (now (places .exit)) (now (marks .exit)) bs))) ⌝ }
     ensures { λ r. ⌜ r .i < 65535 ⌝ }
 {
     let i = t.i;
     let q = t.q;
-    let event = t.event;
     match exchange_if(select, status) {
         Status::Running => {
             put_place(places, p, i);
@@ -68,24 +68,18 @@ pub fn sequence_turn(
                 let m = end_at(ends, q);
                 fresh_node(ends, times, places, marks, q);
                 fresh_node(ends, times, places, marks, m);
-                match event {
-                    Event::Update(_) => Turn::due(m, Event::Update(left), up(i)),
-                    Event::Other => {
-                        put_place(places, p, up(i));
-                        Turn::waiting()
-                    }
+                if update {
+                    Turn::due(m, left, up(i))
+                } else {
+                    put_place(places, p, up(i));
+                    Turn::waiting()
                 }
+            } else if update {
+                put_place(places, p, up(i));
+                Turn::ended(status, left)
             } else {
-                match event {
-                    Event::Update(_) => {
-                        put_place(places, p, up(i));
-                        Turn::ended(status, left)
-                    }
-                    Event::Other => {
-                        put_place(places, p, i);
-                        Turn::ended(status, left)
-                    }
-                }
+                put_place(places, p, i);
+                Turn::ended(status, left)
             }
         }
     }
@@ -100,17 +94,18 @@ pub fn memoryless_start(
     places: &mut [u16],
     marks: &mut [u8],
     p: usize,
-    event: Event,
+    update: bool,
+    dt: f64,
 ) -> Turn
-    ensures { λ r. ⌜ ((ks : List ℕ) (ls : List Float) (bs : List ℕ) → memorylessStart selector (tableOf ks (now (ns .entry)) ls (now (ends .entry))) p event (state (now (times .entry)) (now (places .entry)) (now (marks .entry)) bs) ≡ (r, (state (now (times .exit)) (now (places .exit)) (now (marks .exit)) bs))) ⌝ }
+    ensures { λ r. ⌜ ((ks : List ℕ) (ls : List Float) (bs : List ℕ) → memorylessStart selector update (tableOf ks (now (ns .entry)) ls (now (ends .entry))) p dt (state (now (times .entry)) (now (places .entry)) (now (marks .entry)) bs) ≡ (r, (state (now (times .exit)) (now (places .exit)) (now (marks .exit)) bs))) ⌝ }
     ensures { λ r. ⌜ r .i < 65535 ⌝ }
 {
     let q = first(p);
     fresh(times, places, marks, q, end_at(ends, p));
     if number_at(ns, p) == 0 {
-        Turn::ended(exchange_if(selector, Status::Success), event.dt())
+        Turn::ended(exchange_if(selector, Status::Success), passed(update, dt))
     } else {
-        Turn::due(q, event, 0)
+        Turn::due(q, dt, 0)
     }
 }
 
@@ -123,26 +118,25 @@ pub fn memoryless_turn(
     places: &mut [u16],
     marks: &mut [u8],
     p: usize,
+    update: bool,
     t: Turn,
     status: Status,
     left: f64,
 ) -> Turn
-    ensures { λ r. ⌜ ((ks : List ℕ) (ls : List Float) (bs : List ℕ) → memorylessTurn selector (tableOf ks (now (ns .entry)) ls (now (ends .entry))) p t status left (state (now (times .entry)) (now (places .entry)) (now (marks .entry)) bs) ≡ (r, (state (now (times .exit)) (now (places .exit)) (now (marks .exit)) bs))) ⌝ }
+    ensures { λ r. ⌜ ((ks : List ℕ) (ls : List Float) (bs : List ℕ) → memorylessTurn selector update (tableOf ks (now (ns .entry)) ls (now (ends .entry))) p t status left (state (now (times .entry)) (now (places .entry)) (now (marks .entry)) bs) ≡ (r, (state (now (times .exit)) (now (places .exit)) (now (marks .exit)) bs))) ⌝ }
     ensures { λ r. ⌜ r .i < 65535 ⌝ }
 {
     let i = t.i;
     let q = t.q;
-    let given = t.event;
-    let event = given.rest(left);
     match exchange_if(selector, status) {
         Status::Running => Turn::waiting(),
         Status::Failure => Turn::ended(status, left),
         Status::Success => {
             if more(i, number_at(ns, p)) {
                 fresh_node(ends, times, places, marks, q);
-                Turn::due(end_at(ends, q), event, up(i))
+                Turn::due(end_at(ends, q), left, up(i))
             } else {
-                Turn::ended(status, event.dt())
+                Turn::ended(status, passed(update, left))
             }
         }
     }

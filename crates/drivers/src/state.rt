@@ -2,8 +2,8 @@
 use crate::turn::LARGEST;
 use crate::turn::Ran;
 use crate::turn::Turn;
+use crate::turn::passed;
 use crate::turn::smaller;
-use rules::Event;
 use rules::Status;
 use runs::NOWHERE;
 use runs::child;
@@ -23,7 +23,7 @@ ghost use mathlib.Core.List.{List};
 ghost use Prim.Native.Nat.{ℕ, _<_};
 ghost use lib.Ieee.{Float};
 ghost use Rattle.runs.specs.Runs.{tableOf, state, first};
-ghost use Rattle.drivers.specs.Turns.{actionRan, waitTurn, timeoutTurn, dueTurn, overTurn, decorated, ifStart, ifTurn, choose, raceStart, raceTurn, afterStart, afterTurn, afterNext, stands};
+ghost use Rattle.drivers.specs.Turns.{eventOf, actionRan, waitTurn, timeoutTurn, dueTurn, overTurn, decorated, ifStart, ifTurn, choose, raceStart, raceTurn, afterStart, afterTurn, afterNext, stands};
 
 // The next lent answer, unchanged; or the action asks.
 pub fn action(
@@ -31,11 +31,12 @@ pub fn action(
     statuses: &[u8],
     leftovers: &[f64],
     p: usize,
-    event: Event,
+    update: bool,
+    dt: f64,
     fuel: u32,
     used: usize,
 ) -> Ran
-    ensures { λ r. ⌜ actionRan (now (ns .entry)) (now (statuses .entry)) (now (leftovers .entry)) p event fuel used ≡ r ⌝ }
+    ensures { λ r. ⌜ actionRan (now (ns .entry)) (now (statuses .entry)) (now (leftovers .entry)) p (eventOf update dt) fuel used ≡ r ⌝ }
 {
     if used < statuses.len() {
         if used < leftovers.len() {
@@ -54,7 +55,7 @@ pub fn action(
         done: false,
         asked: true,
         status: Status::Running,
-        left: event.dt(),
+        left: passed(update, dt),
         action: number_at(ns, p),
         fuel,
         used,
@@ -62,30 +63,28 @@ pub fn action(
 }
 
 // An update adds dt to the elapsed time, up to the limit.
-pub fn wait(limits: &[f64], times: &mut [f64], p: usize, event: Event) -> Turn
-    ensures { λ r. ⌜ ((ks : List ℕ) (nn : List ℕ) (es : List ℕ) (ps : List ℕ) (ms : List ℕ) (bs : List ℕ) → waitTurn (tableOf ks nn (now (limits .entry)) es) p event (state (now (times .entry)) ps ms bs) ≡ (r, (state (now (times .exit)) ps ms bs))) ⌝ }
+pub fn wait(limits: &[f64], times: &mut [f64], p: usize, update: bool, dt: f64) -> Turn
+    ensures { λ r. ⌜ ((ks : List ℕ) (nn : List ℕ) (es : List ℕ) (ps : List ℕ) (ms : List ℕ) (bs : List ℕ) → waitTurn update (tableOf ks nn (now (limits .entry)) es) p dt (state (now (times .entry)) ps ms bs) ≡ (r, (state (now (times .exit)) ps ms bs))) ⌝ }
 {
-    match event {
-        Event::Update(dt) => {
-            let limit = limit_at(limits, p);
-            let elapsed = time_at(times, p) + dt;
-            if elapsed >= limit {
-                put_time(times, p, limit);
-                Turn::ended(Status::Success, elapsed - limit)
-            } else {
-                put_time(times, p, elapsed);
-                Turn::waiting()
-            }
-        }
-        Event::Other => Turn::waiting(),
+    if !update {
+        return Turn::waiting();
+    }
+    let limit = limit_at(limits, p);
+    let elapsed = time_at(times, p) + dt;
+    if elapsed >= limit {
+        put_time(times, p, limit);
+        Turn::ended(Status::Success, elapsed - limit)
+    } else {
+        put_time(times, p, elapsed);
+        Turn::waiting()
     }
 }
 
 // Invert, AlwaysSucceed and Timeout have one child, with the whole event.
-pub fn decorator_start(p: usize, event: Event) -> Turn
-    ensures { λ r. ⌜ r ≡ dueTurn (first p) event 0 ⌝ }
+pub fn decorator_start(p: usize, dt: f64) -> Turn
+    ensures { λ r. ⌜ r ≡ dueTurn (first p) dt 0 ⌝ }
 {
-    Turn::due(first(p), event, 0)
+    Turn::due(first(p), dt, 0)
 }
 
 // Invert and AlwaysSucceed change the status only; leftover passes, also when Running.
@@ -108,17 +107,18 @@ pub fn timeout_turn(
     limits: &[f64],
     times: &mut [f64],
     p: usize,
-    event: Event,
+    update: bool,
+    dt: f64,
     status: Status,
     left: f64,
 ) -> Turn
-    ensures { λ r. ⌜ ((ks : List ℕ) (nn : List ℕ) (es : List ℕ) (ps : List ℕ) (ms : List ℕ) (bs : List ℕ) → timeoutTurn (tableOf ks nn (now (limits .entry)) es) p event status left (state (now (times .entry)) ps ms bs) ≡ (r, (state (now (times .exit)) ps ms bs))) ⌝ }
+    ensures { λ r. ⌜ ((ks : List ℕ) (nn : List ℕ) (es : List ℕ) (ps : List ℕ) (ms : List ℕ) (bs : List ℕ) → timeoutTurn (tableOf ks nn (now (limits .entry)) es) p (eventOf update dt) status left (state (now (times .entry)) ps ms bs) ≡ (r, (state (now (times .exit)) ps ms bs))) ⌝ }
     ensures { λ r. ⌜ r .i < 65535 ⌝ }
 {
     match status {
         Status::Running => {
             let limit = limit_at(limits, p);
-            let elapsed = time_at(times, p) + event.dt();
+            let elapsed = time_at(times, p) + passed(update, dt);
             put_time(times, p, elapsed);
             if elapsed >= limit {
                 Turn::ended(Status::Failure, elapsed - limit)
@@ -132,15 +132,15 @@ pub fn timeout_turn(
 }
 
 // The condition, or the branch that was chosen.
-pub fn if_start(ends: &[u16], places: &[u16], p: usize, event: Event) -> Turn
-    ensures { λ r. ⌜ ((ks : List ℕ) (nn : List ℕ) (ls : List Float) (ts : List Float) (ms : List ℕ) (bs : List ℕ) → ifStart (tableOf ks nn ls (now (ends .entry))) p event (state ts (now (places .entry)) ms bs) ≡ r) ⌝ }
+pub fn if_start(ends: &[u16], places: &[u16], p: usize, dt: f64) -> Turn
+    ensures { λ r. ⌜ ((ks : List ℕ) (nn : List ℕ) (ls : List Float) (ts : List Float) (ms : List ℕ) (bs : List ℕ) → ifStart (tableOf ks nn ls (now (ends .entry))) p dt (state ts (now (places .entry)) ms bs) ≡ r) ⌝ }
     ensures { λ r. ⌜ r .i < 65535 ⌝ }
 {
     let i = place_at(places, p);
     if i <= 2 {
-        Turn::due(child(ends, first(p), i), event, i)
+        Turn::due(child(ends, first(p), i), dt, i)
     } else {
-        Turn::due(NOWHERE, event, 0)
+        Turn::due(NOWHERE, dt, 0)
     }
 }
 
@@ -159,15 +159,14 @@ pub fn if_turn(
     ensures { λ r. ⌜ r .i < 65535 ⌝ }
 {
     let i = t.i;
-    let event = t.event;
     if i == 0 {
         match status {
             Status::Running => {
                 put_place(places, p, 0);
                 Turn::ended(Status::Running, left)
             }
-            Status::Success => choose(ends, times, places, marks, p, 1, event.rest(left)),
-            Status::Failure => choose(ends, times, places, marks, p, 2, event.rest(left)),
+            Status::Success => choose(ends, times, places, marks, p, 1, left),
+            Status::Failure => choose(ends, times, places, marks, p, 2, left),
         }
     } else {
         put_place(places, p, i);
@@ -183,26 +182,26 @@ fn choose(
     marks: &mut [u8],
     p: usize,
     i: u16,
-    event: Event,
+    dt: f64,
 ) -> Turn
-    ensures { λ r. ⌜ ((ks : List ℕ) (nn : List ℕ) (ls : List Float) (bs : List ℕ) → choose (tableOf ks nn ls (now (ends .entry))) p i event (state (now (times .entry)) (now (places .entry)) (now (marks .entry)) bs) ≡ (r, (state (now (times .exit)) (now (places .exit)) (now (marks .exit)) bs))) ⌝ }
+    ensures { λ r. ⌜ ((ks : List ℕ) (nn : List ℕ) (ls : List Float) (bs : List ℕ) → choose (tableOf ks nn ls (now (ends .entry))) p i dt (state (now (times .entry)) (now (places .entry)) (now (marks .entry)) bs) ≡ (r, (state (now (times .exit)) (now (places .exit)) (now (marks .exit)) bs))) ⌝ }
     ensures { λ r. ⌜ r .i ≡ i ⌝ }
 {
     let condition = first(p);
     let branch = child(ends, condition, i);
     fresh_node(ends, times, places, marks, condition);
     fresh_node(ends, times, places, marks, branch);
-    Turn::due(branch, event, i)
+    Turn::due(branch, dt, i)
 }
 
-pub fn race_start(ns: &[u16], p: usize, event: Event) -> Turn
-    ensures { λ r. ⌜ ((ks : List ℕ) (ls : List Float) (es : List ℕ) → raceStart (tableOf ks (now (ns .entry)) ls es) p event ≡ r) ⌝ }
+pub fn race_start(ns: &[u16], p: usize, dt: f64) -> Turn
+    ensures { λ r. ⌜ ((ks : List ℕ) (ls : List Float) (es : List ℕ) → raceStart (tableOf ks (now (ns .entry)) ls es) p dt ≡ r) ⌝ }
     ensures { λ r. ⌜ r .i < 65535 ⌝ }
 {
     if number_at(ns, p) == 0 {
         Turn::waiting()
     } else {
-        Turn::due(first(p), event, 0)
+        Turn::due(first(p), dt, 0)
     }
 }
 
@@ -212,11 +211,10 @@ pub fn race_turn(ns: &[u16], ends: &[u16], p: usize, t: Turn, status: Status, le
     ensures { λ r. ⌜ r .i < 65535 ⌝ }
 {
     let i = t.i;
-    let event = t.event;
     match status {
         Status::Running => {
             if more(i, number_at(ns, p)) {
-                Turn::due(end_at(ends, t.q), event, up(i))
+                Turn::due(end_at(ends, t.q), t.dt, up(i))
             } else {
                 Turn::waiting()
             }
@@ -227,14 +225,14 @@ pub fn race_turn(ns: &[u16], ends: &[u16], p: usize, t: Turn, status: Status, le
 }
 
 // From the place on; at place n all have succeeded.
-pub fn after_start(ns: &[u16], ends: &[u16], places: &[u16], p: usize, event: Event) -> Turn
-    ensures { λ r. ⌜ ((ks : List ℕ) (ls : List Float) (ts : List Float) (ms : List ℕ) (bs : List ℕ) → afterStart (tableOf ks (now (ns .entry)) ls (now (ends .entry))) p event (state ts (now (places .entry)) ms bs) ≡ r) ⌝ }
+pub fn after_start(ns: &[u16], ends: &[u16], places: &[u16], p: usize, dt: f64) -> Turn
+    ensures { λ r. ⌜ ((ks : List ℕ) (ls : List Float) (ts : List Float) (ms : List ℕ) (bs : List ℕ) → afterStart (tableOf ks (now (ns .entry)) ls (now (ends .entry))) p dt (state ts (now (places .entry)) ms bs) ≡ r) ⌝ }
     ensures { λ r. ⌜ r .i < 65535 ⌝ }
 {
     let i = place_at(places, p);
     let n = number_at(ns, p);
     if i < n {
-        Turn::holding(child(ends, first(p), i), event, i, LARGEST, 0, true)
+        Turn::holding(child(ends, first(p), i), dt, i, LARGEST, 0, true)
     } else if i == n {
         Turn::ended(Status::Success, LARGEST)
     } else {
@@ -294,9 +292,8 @@ fn after_next(
     ensures { λ r. ⌜ ((ks : List ℕ) (ls : List Float) (ts : List Float) (ms : List ℕ) (bs : List ℕ) → afterNext (tableOf ks (now (ns .entry)) ls (now (ends .entry))) p t place least all (state ts (now (places .entry)) ms bs) ≡ (r, (state ts (now (places .exit)) ms bs))) ⌝ }
     ensures { λ r. ⌜ r .i < 65535 ⌝ }
 {
-    let event = t.event;
     if more(t.i, number_at(ns, p)) {
-        Turn::holding(end_at(ends, t.q), event, up(t.i), least, place, all)
+        Turn::holding(end_at(ends, t.q), t.dt, up(t.i), least, place, all)
     } else {
         put_place(places, p, place);
         if all {

@@ -10,7 +10,7 @@ ghost use mathlib.Core.List.{List};
 ghost use Rattle.rules.specs.declared.status.Status.the-variants.{Running};
 ghost use Rattle.rules.specs.Tree.{zeroTime};
 ghost use Rattle.rules.specs.Outcome.{smaller};
-ghost use Rattle.drivers.specs.Turns.{overTurn, dueTurn, heldTurn, exchangeIf, ranOf, shortRan, seenBoard};
+ghost use Rattle.drivers.specs.Turns.{updates, passed, overTurn, dueTurn, heldTurn, exchangeIf, ranOf, shortRan, seenBoard};
 
 // What a node's visit gave: a result, if done; else an action asks, with its number and dt; else the
 // fuel is used up. With it the fuel that is left and how many answers are used.
@@ -25,7 +25,7 @@ pub struct Ran {
 }
 
 // What a driver does next: its node is over, with a status and what is left; else the child i, at q,
-// is due with an event. Until it is over, left is what the driver holds on to: the least leftover so
+// is due with dt, which counts only in an update. Until it is over, left is what the driver holds on to: the least leftover so
 // far, or the rest that a condition does not get; all says that no child was Running so far, or that
 // a condition is due; place is where After stands.
 pub struct Turn {
@@ -33,7 +33,7 @@ pub struct Turn {
     pub status: Status,
     pub left: f64,
     pub q: usize,
-    pub event: Event,
+    pub dt: f64,
     pub i: u16,
     pub place: u16,
     pub all: bool,
@@ -48,7 +48,7 @@ impl Turn {
             status,
             left,
             q: 0,
-            event: Event::Other,
+            dt: 0.0,
             i: 0,
             place: 0,
             all: false,
@@ -61,35 +61,52 @@ impl Turn {
         Turn::ended(Status::Running, 0.0)
     }
 
-    pub fn due(q: usize, event: Event, i: u16) -> Turn
-        ensures { λ r. ⌜ r ≡ dueTurn q event i ⌝ }
+    pub fn due(q: usize, dt: f64, i: u16) -> Turn
+        ensures { λ r. ⌜ r ≡ dueTurn q dt i ⌝ }
     {
         Turn {
             over: false,
             status: Status::Running,
             left: 0.0,
             q,
-            event,
+            dt,
             i,
             place: 0,
             all: false,
         }
     }
 
-    pub fn holding(q: usize, event: Event, i: u16, left: f64, place: u16, all: bool) -> Turn
-        ensures { λ r. ⌜ r ≡ heldTurn q event i left place all ⌝ }
+    pub fn holding(q: usize, dt: f64, i: u16, left: f64, place: u16, all: bool) -> Turn
+        ensures { λ r. ⌜ r ≡ heldTurn q dt i left place all ⌝ }
     {
         Turn {
             over: false,
             status: Status::Running,
             left,
             q,
-            event,
+            dt,
             i,
             place,
             all,
         }
     }
+}
+
+// Whether it is an update.
+pub fn updates(event: Event) -> bool
+    ensures { λ r. ⌜ r ≡ updates event ⌝ }
+{
+    match event {
+        Event::Update(_) => true,
+        Event::Other => false,
+    }
+}
+
+// The dt that an event carries, 0 for an other event.
+pub fn passed(update: bool, dt: f64) -> f64
+    ensures { λ r. ⌜ r ≡ passed update dt ⌝ }
+{
+    if update { dt } else { 0.0 }
 }
 
 // The largest finite number, with which a least leftover starts.

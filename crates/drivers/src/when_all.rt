@@ -2,8 +2,8 @@
 use crate::turn::LARGEST;
 use crate::turn::Turn;
 use crate::turn::exchange_if;
+use crate::turn::passed;
 use crate::turn::smaller;
-use rules::Event;
 use rules::Status;
 use runs::end_at;
 use runs::first;
@@ -19,15 +19,23 @@ ghost use lib.Ieee.{Float};
 ghost use Rattle.runs.specs.Runs.{tableOf, state, first};
 ghost use Rattle.drivers.specs.Turns.{whenStart, whenTurn, whenFrom};
 
-pub fn when_start(any: bool, ns: &[u16], ends: &[u16], marks: &[u8], p: usize, event: Event) -> Turn
-    ensures { λ r. ⌜ ((ks : List ℕ) (ls : List Float) (ts : List Float) (ps : List ℕ) (bs : List ℕ) → whenStart any (tableOf ks (now (ns .entry)) ls (now (ends .entry))) p event (state ts ps (now (marks .entry)) bs) ≡ r) ⌝ }
+pub fn when_start(
+    any: bool,
+    ns: &[u16],
+    ends: &[u16],
+    marks: &[u8],
+    p: usize,
+    update: bool,
+    dt: f64,
+) -> Turn
+    ensures { λ r. ⌜ ((ks : List ℕ) (ls : List Float) (ts : List Float) (ps : List ℕ) (bs : List ℕ) → whenStart any update (tableOf ks (now (ns .entry)) ls (now (ends .entry))) p dt (state ts ps (now (marks .entry)) bs) ≡ r) ⌝ }
     ensures { λ r. ⌜ r .i < 65535 ⌝ }
 {
     let n = number_at(ns, p);
     if n == 0 {
-        Turn::ended(exchange_if(any, Status::Success), event.dt())
+        Turn::ended(exchange_if(any, Status::Success), passed(update, dt))
     } else {
-        when_from(any, n, ends, marks, first(p), 0, event, LARGEST, true)
+        when_from(any, n, ends, marks, first(p), 0, dt, LARGEST, true)
     }
 }
 
@@ -49,7 +57,7 @@ pub fn when_turn(
 {
     let q = t.q;
     let i = t.i;
-    let event = t.event;
+    let dt = t.dt;
     let n = number_at(ns, p);
     match exchange_if(any, status) {
         Status::Running => when_from(
@@ -59,7 +67,7 @@ pub fn when_turn(
             marks,
             end_at(ends, q),
             up(i),
-            event,
+            dt,
             t.left,
             false,
         ),
@@ -74,7 +82,7 @@ pub fn when_turn(
                 marks,
                 end_at(ends, q),
                 up(i),
-                event,
+                dt,
                 smaller(t.left, left),
                 t.all,
             )
@@ -90,18 +98,18 @@ fn when_from(
     marks: &[u8],
     q0: usize,
     i0: u16,
-    event: Event,
+    dt: f64,
     least: f64,
     all: bool,
 ) -> Turn
-    ensures { λ r. ⌜ ((ks nn : List ℕ) (ls ts : List Float) (ps bs : List ℕ) → whenFrom any (tableOf ks nn ls (now (ends .entry))) (n - i0) q0 i0 event least all (state ts ps (now (marks .entry)) bs) ≡ r) ⌝ }
+    ensures { λ r. ⌜ ((ks nn : List ℕ) (ls ts : List Float) (ps bs : List ℕ) → whenFrom any (tableOf ks nn ls (now (ends .entry))) (n - i0) q0 i0 dt least all (state ts ps (now (marks .entry)) bs) ≡ r) ⌝ }
     ensures { λ r. ⌜ r .i < 65535 ⌝ }
 {
     let mut q = q0;
     let mut i = i0;
     while i < n {
         if mark_at(marks, q) != 1 {
-            return Turn::holding(q, event, i, least, 0, all);
+            return Turn::holding(q, dt, i, least, 0, all);
         }
         q = end_at(ends, q);
         i = i + 1;

@@ -5,5 +5,5 @@ pub mod Loops
 pub mod WhenAll
 pub mod After
 pub mod Drive
-pub mod Flagged
+pub mod ByKind
 pub mod Visit

@@ -1,5 +1,5 @@
 -- While and WhileAll, taken up again.
-use mathlib.Core.Path.{_≡_, refl, _∙_}
+use mathlib.Core.Path.{_≡_, refl, sym, _∙_}
 use mathlib.Core.Bool.{Bool, true, false, cond}
 use Prim.Native.Nat.{ℕ, zero, suc, _+_, _-_, _<_, _≤_}
 use native.Mathlib.Numerals.{add-one}
@@ -15,13 +15,13 @@ use Rattle.rules.specs.declared.status.Status.the-variants.{Running, Success, F
 use Rattle.rules.specs.declared.event.Event.{Event}
 use Rattle.rules.specs.declared.event.Event.the-variants.{Update, Other}
 use Rattle.rules.specs.Tree.{zeroTime}
-use Rattle.rules.specs.Outcome.{dt, rest, World, Out, done, short, _▸_, waiting}
+use Rattle.rules.specs.Outcome.{rest, World, Out, done, short, _▸_, waiting}
 use Rattle.rules.specs.Loops.{budget}
 use Rattle.drivers.specs.declared.turn.Turn.{Turn}
 use Rattle.runs.specs.Runs.{Table, State, numberAt, endOf, placeAt, setPlace, freshNode, first, nowhere, childIn, childPlace}
 use Rattle.runs.specs.FlatRules.{FTicker, fwhileBody, fwhileAll, placed, frule}
-use Rattle.drivers.specs.Turns.{dueTurn, movedOn, firstBody, whileStart, bodyStart, bodyNext, whileTurn, whileAllStart, loopNext, whileAllTurn}
-use Rattle.resume.specs.Resume.{Resume, Driven, whether, bind-ext, bind-assoc, at, turnAt, by-visits}
+use Rattle.drivers.specs.Turns.{eventOf, dueTurn, movedOn, firstBody, whileStart, bodyStart, bodyNext, whileTurn, whileAllStart, loopNext, whileAllTurn}
+use Rattle.resume.specs.Resume.{Resume, Driven, due, rest-event, whether, bind-ext, bind-assoc, at, turnAt, by-visits}
 use Rattle.resume.specs.Sequence.{up-suc}
 use Rattle.resume.specs.Node.{Lost}
 
@@ -74,36 +74,6 @@ module _ (F : Format) (T : Table) (child : FTicker) (p : ℕ) where
     | Failure ↦ done Failure r S w
   ]
 
-  abbrev pub whiled : ℕ → Turn → Status → Float → State → World → Out State
-  whiled k t s r S w = cond (t .all) (conditioned k (t .event) s r S w) (looped (looping k) (t .event) (t .q) (t .i) s r S w)
-
-  abbrev pub whiling : ℕ → Turn → State → World → Out State
-  whiling zero t S w = short
-  whiling (suc k) t S w = child (t .q) S (t .event) w ▸ whiled k t
-
-  abbrev pub resumeWhile : Resume
-  resumeWhile k = at (whiling k)
-
-  body : (k : ℕ) (e : Event) (q i : ℕ) (S : State) (w : World) → looping k e q i S w ≡ resumeWhile k (dueTurn q e i) S w
-  unfolding looping
-  body zero e q i S w = refl
-  body (suc k) e q i S w = refl
-
-  while-next : (k : ℕ) (t : Turn) → t .i < 65535 → (a : Bool) (e : Event) (s : Status) (r : Float) (S : State) (w : World) → t .all ≡ a → t .event ≡ e
-      → whiled k t s r S w ≡ (let x = whileTurn T p t s r S in resumeWhile k (x .0) (x .1) w)
-  unfolding whileTurn bodyStart bodyNext looped conditioned entered
-  while-next k t lt true e Running r S w ha he = rw ha (whether (ltb (placeAt S p) (bodies T p)) (λ h. rw h (body k _ _ _ S w)) (λ h. rw h (body k _ _ _ S w)))
-  while-next k t lt true e Success r S w ha he = rw ha
-  while-next k t lt true e Failure r S w ha he = rw ha
-  while-next k t lt false e Running r S w ha he = rw ha
-  while-next k t lt false e Failure r S w ha he = rw ha
-  while-next k t lt false (Update x) Success r S w ha he = rw (ha) (rw he (rw (up-suc (t .i) lt)
-      (whether (ltb (t .i + 1) (bodies T p)) (λ h. rw h (body k _ _ _ _ w)) (λ h. rw h (body k _ _ _ _ w)))))
-  while-next k t lt false Other Success r S w ha he = rw (ha) (rw he)
-
-  pub while-driven : Driven child (whileTurn T p) resumeWhile
-  while-driven = by-visits child _ whiling whiled (λ k t S w. refl) (λ k t lt s r S w. while-next k t lt (t .all) (t .event) s r S w refl refl)
-
   -- the flat rule finds the child by its index
   in-body : (k : ℕ) (e : Event) (i : ℕ) (S : State) (w : World) → i < bodies T p → placed p (fwhileBody F T child k i e (bodyAt T p) (bodies T p) S w) ≡ looping k e (childPlace T (bodyAt T p) i) i S w
   unfolding placed fwhileBody looping looped childIn
@@ -125,12 +95,45 @@ module _ (F : Format) (T : Table) (child : FTicker) (p : ℕ) where
   no-body zero e i S w lost h = refl
   no-body (suc k) e i S w lost h = rw (h, lost S e w)
 
-  pub while-start : (e : Event) (S : State) (w : World) → Lost child → frule F T child While p S e w ≡ resumeWhile (suc (budget w)) (whileStart p e) S w
+module _ (u : Bool) (F : Format) (T : Table) (child : FTicker) (p : ℕ) where
+  abbrev pub whiled : ℕ → Turn → Status → Float → State → World → Out State
+  whiled k t s r S w = cond (t .all) (conditioned F T child p k (due u t) s r S w) (looped F T child p (looping F T child p k) (due u t) (t .q) (t .i) s r S w)
+
+  abbrev pub whiling : ℕ → Turn → State → World → Out State
+  whiling zero t S w = short
+  whiling (suc k) t S w = child (t .q) S (due u t) w ▸ whiled k t
+
+  abbrev pub resumeWhile : Resume
+  resumeWhile k = at (whiling k)
+
+module _ (F : Format) (T : Table) (child : FTicker) (p : ℕ) where
+  body : (u : Bool) (k : ℕ) (x : Float) (q i : ℕ) (S : State) (w : World) → looping F T child p k (eventOf u x) q i S w ≡ resumeWhile u F T child p k (dueTurn q x i) S w
+  unfolding looping
+  body u zero x q i S w = refl
+  body u (suc k) x q i S w = refl
+
+  while-next : (u : Bool) (k : ℕ) (t : Turn) → t .i < 65535 → (a : Bool) (s : Status) (r : Float) (S : State) (w : World) → t .all ≡ a
+      → whiled u F T child p k t s r S w ≡ (let x = whileTurn u T p t s r S in resumeWhile u F T child p k (x .0) (x .1) w)
+  unfolding whileTurn bodyStart bodyNext looped conditioned entered
+  while-next u k t lt true Running r S w ha = rw ha (whether (ltb (placeAt S p) (bodies T p)) (λ h. rw h (body u k _ _ _ S w)) (λ h. rw h (body u k _ _ _ S w)))
+  while-next u k t lt true Success r S w ha = rw ha
+  while-next u k t lt true Failure r S w ha = rw ha
+  while-next u k t lt false Running r S w ha = rw ha
+  while-next u k t lt false Failure r S w ha = rw ha
+  while-next true k t lt false Success r S w ha = rw ha (rw (up-suc (t .i) lt)
+      (whether (ltb (t .i + 1) (bodies T p)) (λ h. rw h (body true k _ _ _ _ w)) (λ h. rw h (body true k _ _ _ _ w))))
+  while-next false k t lt false Success r S w ha = rw ha
+
+module _ (u : Bool) (F : Format) (T : Table) (child : FTicker) (p : ℕ) where
+  pub while-driven : Driven u child (whileTurn u T p) (resumeWhile u F T child p)
+  while-driven = by-visits u child _ (whiling u F T child p) (whiled u F T child p) (λ k t S w. refl) (λ k t lt s r S w. while-next F T child p u k t lt (t .all) s r S w refl)
+
+  pub while-start : (x : Float) (S : State) (w : World) → Lost child → frule F T child While p S (eventOf u x) w ≡ resumeWhile u F T child p (suc (budget w)) (whileStart p x) S w
   unfolding frule conditioned entered
-  while-start e S w lost = bind-ext (child (first p) S e w) λ s. elim s [
+  while-start x S w lost = bind-ext (child (first p) S (eventOf u x) w) λ s. elim s [
     | Running ↦ λ r S' w'. whether (ltb (placeAt S' p) (bodies T p))
-        (λ h. in-body (budget w) e (placeAt S' p) S' w' (ltb-true (placeAt S' p) (bodies T p) h) ∙ rw h)
-        (λ h. no-body (budget w) e (placeAt S' p) S' w' lost h ∙ rw h)
+        (λ h. in-body F T child p (budget w) (eventOf u x) (placeAt S' p) S' w' (ltb-true (placeAt S' p) (bodies T p) h) ∙ rw h)
+        (λ h. no-body F T child p (budget w) (eventOf u x) (placeAt S' p) S' w' lost h ∙ rw h)
     | Success ↦ λ r S' w'. refl
     | Failure ↦ λ r S' w'. refl
   ]
@@ -140,14 +143,13 @@ rest-rest : (r l : Float) (e : Event) → rest r (rest l e) ≡ rest r e
 rest-rest r l (Update x) = refl
 rest-rest r l Other = refl
 
-rest-dt : (e : Event) → e ≡ rest (dt e) e
-rest-dt (Update x) = refl
-rest-dt Other = refl
-
 suc-sub : (i : ℕ) → suc i - 1 ≡ i
 suc-sub i = omega arith
 
-module _ (F : Format) (T : Table) (child : FTicker) (p : ℕ) (whole : Event) where
+module _ (u : Bool) (F : Format) (T : Table) (child : FTicker) (p : ℕ) (x : Float) where
+  abbrev whole : Event
+  whole = eventOf u x
+
   -- after a visit at the place i: 0 is the condition, which holds on to what is left, and suc i the body's child i, at q; `next` goes on
   unfoldable pub circled : (ℕ → Float → Event → ℕ → State → World → Out State) → ℕ → Float → ℕ → Status → Float → State → World → Out State
   circled next zero l q s r S w = elim s [
@@ -169,21 +171,21 @@ module _ (F : Format) (T : Table) (child : FTicker) (p : ℕ) (whole : Event) wh
   circling (suc k) i l e q S w = child q S e w ▸ circled (circling k) i l q
 
   abbrev pub resumeWhileAll : Resume
-  resumeWhileAll k = at λ t. circling k (t .i) (t .left) (t .event) (t .q)
+  resumeWhileAll k = at λ t. circling k (t .i) (t .left) (due u t) (t .q)
 
   while-all-next : (k : ℕ) (t : Turn) (i : ℕ) → i < 65535 → (s : Status) (r : Float) (S : State) (w : World)
-      → circled (circling k) i (t .left) (t .q) s r S w ≡ (let x = whileAllTurn T p whole (turnAt t i) s r S in resumeWhileAll k (x .0) (x .1) w)
+      → circled (circling k) i (t .left) (t .q) s r S w ≡ (let y = whileAllTurn T p x (turnAt t i) s r S in resumeWhileAll k (y .0) (y .1) w)
   unfolding circled whileAllTurn loopNext
-  while-all-next k t zero lt Running r S w = refl
+  while-all-next k t zero lt Running r S w = rw (rest-event u (t .left) x)
   while-all-next k t zero lt Success r S w = refl
   while-all-next k t zero lt Failure r S w = refl
   while-all-next k t (suc i) lt Running r S w = rw (eqb·suc-zero i)
   while-all-next k t (suc i) lt Failure r S w = rw (eqb·suc-zero i)
-  while-all-next k t (suc i) lt Success r S w = rw (eqb·suc-zero i) (rw (up-suc (suc i) lt) (whether (ltb (suc i) (bodies T p)) (λ h. rw h) (λ h. rw h)))
+  while-all-next k t (suc i) lt Success r S w = rw (eqb·suc-zero i) (rw (up-suc (suc i) lt, rest-event u r x) (whether (ltb (suc i) (bodies T p)) (λ h. rw h) (λ h. rw h)))
 
-  pub while-all-driven : Driven child (whileAllTurn T p whole) resumeWhileAll
+  pub while-all-driven : Driven u child (whileAllTurn T p x) resumeWhileAll
   unfolding circling
-  while-all-driven = by-visits child _ (λ k t. circling k (t .i) (t .left) (t .event) (t .q)) (λ k t. circled (circling k) (t .i) (t .left) (t .q)) (λ k t S w. refl) (λ k t. while-all-next k t (t .i))
+  while-all-driven = by-visits u child _ (λ k t. circling k (t .i) (t .left) (due u t) (t .q)) (λ k t. circled (circling k) (t .i) (t .left) (t .q)) (λ k t S w. refl) (λ k t. while-all-next k t (t .i))
 
   -- the flat rule finds the child by its index
   abbrev found : ℕ → ℕ → Float → Event → State → World → Out State
@@ -219,13 +221,13 @@ module _ (F : Format) (T : Table) (child : FTicker) (p : ℕ) (whole : Event) wh
         ])
 
     -- the place 0, a body child's, or none
-    from-place : (k i : ℕ) (S : State) (w : World) → placeAt S p ≡ i → placed p (fwhileAll F T child k whole i whole (first p) (bodies T p) S w) ≡ resumeWhileAll k (whileAllStart T p whole S) S w
+    from-place : (k i : ℕ) (S : State) (w : World) → placeAt S p ≡ i → placed p (fwhileAll F T child k whole i whole (first p) (bodies T p) S w) ≡ resumeWhileAll k (whileAllStart T p x S) S w
     unfolding whileAllStart
-    from-place k zero S w e = in-loop k 0 (dt whole) whole S w (rest-dt whole) (omega arith) ∙ rw e
+    from-place k zero S w e = in-loop k 0 x whole S w (sym (rest-event u x x)) (omega arith) ∙ rw e
     from-place k (suc i) S w e = rw e (rw (eqb·suc-zero i) (whether (ltb i (bodies T p))
-        (λ h. rw h (in-loop k (suc i) (dt whole) whole S w (rest-dt whole) (ltb-true i (bodies T p) h) ∙ rw (suc-sub i)))
+        (λ h. rw h (in-loop k (suc i) x whole S w (sym (rest-event u x x)) (ltb-true i (bodies T p) h) ∙ rw (suc-sub i)))
         (λ h. rw h (no-child k i whole S w lost h))))
 
-    pub while-all-start : (S : State) (w : World) → frule F T child WhileAll p S whole w ≡ resumeWhileAll (budget w) (whileAllStart T p whole S) S w
+    pub while-all-start : (S : State) (w : World) → frule F T child WhileAll p S (eventOf u x) w ≡ resumeWhileAll (budget w) (whileAllStart T p x S) S w
     unfolding frule
     while-all-start S w = from-place (budget w) (placeAt S p) S w refl

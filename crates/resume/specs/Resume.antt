@@ -7,10 +7,18 @@ use Rattle.rules.specs.declared.status.Status.{Status}
 use Rattle.rules.specs.declared.status.Status.the-variants.{Running, Success, Failure}
 use Rattle.rules.specs.declared.event.Event.{Event}
 use Rattle.drivers.specs.declared.turn.Turn.{Turn}
-use Rattle.rules.specs.Outcome.{World, Out, done, asks, short, _▸_, exchanged, exchange}
+use Rattle.rules.specs.Outcome.{rest, World, Out, done, asks, short, _▸_, exchanged, exchange}
 use Rattle.runs.specs.Runs.{State}
 use Rattle.runs.specs.FlatRules.{FTicker, fexchanging}
-use Rattle.drivers.specs.Turns.{Next}
+use Rattle.drivers.specs.Turns.{Next, eventOf}
+
+-- the event with which the child is due
+abbrev pub due : Bool → Turn → Event
+due u t = eventOf u (t .dt)
+
+pub rest-event : (u : Bool) (r x : Float) → rest r (eventOf u x) ≡ eventOf u r
+rest-event true r x = refl
+rest-event false r x = refl
 
 -- what the turns of a driver give: `resume k` with k turns at most
 abbrev pub Resume : Type 0
@@ -20,10 +28,10 @@ abbrev pub Turning : Type 0
 Turning = Turn → Status → Float → State → Next
 
 -- a driver whose turns are `turn` gives, taken up again, what `resume` says
-pub record Driven (child : FTicker) (turn : Turning) (resume : Resume) : Type 0 where
+pub record Driven (u : Bool) (child : FTicker) (turn : Turning) (resume : Resume) : Type 0 where
   pub ends : (k : ℕ) (t : Turn) (S : State) (w : World) → t .over ≡ true → resume k t S w ≡ done (t .status) (t .left) S w
   pub goes : (k : ℕ) (t : Turn) (S : State) (w : World) → t .over ≡ false → t .i < 65535
-      → resume (suc k) t S w ≡ (child (t .q) S (t .event) w ▸ λ s r S' w'. let x = turn t s r S' in resume k (x .0) (x .1) w')
+      → resume (suc k) t S w ≡ (child (t .q) S (due u t) w ▸ λ s r S' w'. let x = turn t s r S' in resume k (x .0) (x .1) w')
 
 -- a test, both ways
 pub whether : {P : Type 0} (b : Bool) → (b ≡ true → P) → (b ≡ false → P) → P
@@ -57,26 +65,23 @@ at-over going t S w h = rw h
 pub at-going : (going : Turn → State → World → Out State) (t : Turn) (S : State) (w : World) → t .over ≡ false → at going t S w ≡ going t S w
 at-going going t S w h = rw h
 
--- a turn with another event, or at another index
-abbrev pub turnWith : Turn → Event → Turn
-turnWith t e = record { over = t .over; status = t .status; left = t .left; q = t .q; event = e; i = t .i; place = t .place; all = t .all }
-
+-- a turn at another index
 abbrev pub turnAt : Turn → ℕ → Turn
-turnAt t i = record { over = t .over; status = t .status; left = t .left; q = t .q; event = t .event; i = i; place = t .place; all = t .all }
+turnAt t i = record { over = t .over; status = t .status; left = t .left; q = t .q; dt = t .dt; i = i; place = t .place; all = t .all }
 
 -- a driver that visits the child that is due, and then does what `follow` says
-pub by-visits : (child : FTicker) (turn : Turning) (going : ℕ → Turn → State → World → Out State) (follow : ℕ → Turn → Status → Float → State → World → Out State)
-    → ((k : ℕ) (t : Turn) (S : State) (w : World) → going (suc k) t S w ≡ (child (t .q) S (t .event) w ▸ follow k t))
+pub by-visits : (u : Bool) (child : FTicker) (turn : Turning) (going : ℕ → Turn → State → World → Out State) (follow : ℕ → Turn → Status → Float → State → World → Out State)
+    → ((k : ℕ) (t : Turn) (S : State) (w : World) → going (suc k) t S w ≡ (child (t .q) S (due u t) w ▸ follow k t))
     → ((k : ℕ) (t : Turn) → t .i < 65535 → (s : Status) (r : Float) (S : State) (w : World) → follow k t s r S w ≡ (let x = turn t s r S in at (going k) (x .0) (x .1) w))
-    → Driven child turn (λ k. at (going k))
-by-visits child turn going follow visits follows = record {
+    → Driven u child turn (λ k. at (going k))
+by-visits u child turn going follow visits follows = record {
   ends = λ k t S w h. at-over (going k) t S w h;
-  goes = λ k t S w h lt. at-going (going (suc k)) t S w h ∙ (visits k t S w ∙ bind-ext (child (t .q) S (t .event) w) (follows k t lt));
+  goes = λ k t S w h lt. at-going (going (suc k)) t S w h ∙ (visits k t S w ∙ bind-ext (child (t .q) S (due u t) w) (follows k t lt));
 }
 
 -- ---- a driver that is the exchanged form of another
 abbrev pub exchangedTurn : Turn → Turn
-exchangedTurn t = record { over = t .over; status = exchanged (t .status); left = t .left; q = t .q; event = t .event; i = t .i; place = t .place; all = t .all }
+exchangedTurn t = record { over = t .over; status = exchanged (t .status); left = t .left; q = t .q; dt = t .dt; i = t .i; place = t .place; all = t .all }
 
 abbrev pub exchangedNext : Next → Next
 exchangedNext x = (exchangedTurn (x .0), x .1)
@@ -90,15 +95,15 @@ exchanged-twice Success = refl
 exchanged-twice Failure = refl
 
 pub twice-turn : (t : Turn) → exchangedTurn (exchangedTurn t) ≡ t
-twice-turn t = ap (λ (s : Status). record { over = t .over; status = s; left = t .left; q = t .q; event = t .event; i = t .i; place = t .place; all = t .all }) (exchanged-twice (t .status))
+twice-turn t = ap (λ (s : Status). record { over = t .over; status = s; left = t .left; q = t .q; dt = t .dt; i = t .i; place = t .place; all = t .all }) (exchanged-twice (t .status))
 
-pub exchanged-driven : (child : FTicker) (turn turn' : Turning) (resume : Resume) → Driven (fexchanging child) turn resume
+pub exchanged-driven : (u : Bool) (child : FTicker) (turn turn' : Turning) (resume : Resume) → Driven u (fexchanging child) turn resume
     → ((t : Turn) (s : Status) (r : Float) (S : State) → turn' t s r S ≡ exchangedNext (turn (exchangedTurn t) (exchanged s) r S))
-    → Driven child turn' (exchangedResume resume)
-exchanged-driven child turn turn' resume d same = record {
+    → Driven u child turn' (exchangedResume resume)
+exchanged-driven u child turn turn' resume d same = record {
   ends = λ k t S w h. ap exchange (d .ends k (exchangedTurn t) S w h) ∙ ap (λ (s : Status). done s (t .left) S w) (exchanged-twice (t .status));
   goes = λ k t S w h lt.
-      let o = child (t .q) S (t .event) w in
+      let o = child (t .q) S (due u t) w in
       ap exchange (d .goes k (exchangedTurn t) S w h lt)
       ∙ (bind-assoc (exchange o) _ _
       ∙ (bind-exchanged o _

@@ -24,7 +24,7 @@ use Rattle.runs.specs.Runs.{Table, State, state, setBoard, nowhere}
 use Rattle.runs.specs.FlatRules.{FTicker, frule, ftick}
 use Rattle.drivers.specs.declared.turn.Turn.{Turn}
 use Rattle.drivers.specs.declared.turn.Ran.{Ran}
-use Rattle.drivers.specs.Turns.{Next, waitingTurn, waitTurn, ranOf, shortRan, seenBoard, outOf, actionRan}
+use Rattle.drivers.specs.Turns.{Next, eventOf, waitingTurn, waitTurn, ranOf, shortRan, seenBoard, outOf, actionRan}
 use Rattle.resume.specs.Resume.{whether}
 use Rattle.resume.specs.Node.{wait-law}
 
@@ -100,11 +100,11 @@ module _ (A : List (Status × Float)) where
   unfolding outOf
   at-once t f u S r e = rw e
 
-  pub wait-ran : (T : Table) (child : FTicker) (p : ℕ) (e : Event) (S S' : State) (f u : ℕ) (t : Turn) (r : Ran) → waitTurn T p e S ≡ (t, S') → r ≡ ranOf t f u
-      → frule binary64 T child Wait p S e (world f (drop u A)) ≡ outOf A r S'
-  wait-ran T child p e S S' f u t r h g =
-      wait-law T child p e S (world f (drop u A))
-      ∙ (ap (λ (x : Next). done (x .0 .status) (x .0 .left) (x .1) (world f (drop u A))) h ∙ at-once t f u S' r g)
+  pub wait-ran : (T : Table) (child : FTicker) (p : ℕ) (v : Bool) (x : Float) (S S' : State) (f u : ℕ) (t : Turn) (r : Ran) → waitTurn v T p x S ≡ (t, S') → r ≡ ranOf t f u
+      → frule binary64 T child Wait p S (eventOf v x) (world f (drop u A)) ≡ outOf A r S'
+  wait-ran T child p v x S S' f u t r h g =
+      wait-law T child p v x S (world f (drop u A))
+      ∙ (ap (λ (y : Next). done (y .0 .status) (y .0 .left) (y .1) (world f (drop u A))) h ∙ at-once t f u S' r g)
 
   pub waits-ran : (T : Table) (child : FTicker) (p : ℕ) (e : Event) (S : State) (f u : ℕ) (t : Turn) (r : Ran) → t ≡ waitingTurn → r ≡ ranOf t f u
       → frule binary64 T child WaitForever p S e (world f (drop u A)) ≡ outOf A r S

@@ -1,6 +1,6 @@
 // What a tick brings: an update with the time that has passed, or any other event.
 ghost use mathlib.Core.Path.{_≡_};
-ghost use Rattle.rules.specs.Outcome.{dt, rest};
+ghost use Rattle.rules.specs.Outcome.{dt};
 
 pub enum Event {
     Update(f64),
@@ -15,16 +15,6 @@ impl Event {
         match self {
             Event::Update(x) => x,
             Event::Other => 0.0,
-        }
-    }
-
-    // The event with the rest for its dt; with an other event no rest is passed.
-    pub fn rest(self, left: f64) -> Event
-        ensures { λ r. ⌜ r ≡ rest left self ⌝ }
-    {
-        match self {
-            Event::Update(_) => Event::Update(left),
-            Event::Other => Event::Other,
         }
     }
 }

@@ -1,14 +1,15 @@
--- A float told by its bits: the sign is the top bit, and an infinity's bits lie above those of every finite number.
+-- A float told by its bits, of which the sign is the top one, and by comparisons.
 use mathlib.Core.Path.{_≡_, refl, sym, ap, subst, _∙_}
-use mathlib.Core.Bool.{Bool, true, false, not, cond, _&&_}
-use Prim.Native.Nat.{ℕ, zero, suc, _+_, _/_, _%_, _^_, _≤_, _<_}
-use native.Mathlib.Nat.{zero-mul, zero-div}
+use mathlib.Core.Bool.{Bool, true, false, not, cond}
+use Prim.Native.Nat.{ℕ, zero, suc, _+_, _*_, _/_, _%_, _^_, _≤_}
+use native.Mathlib.Nat.{zero-mul, zero-div, mul-pos, zero-lt-suc}
 use native.Mathlib.Omega.{arith}
-use borrow.Author.Tests.{lt-ltb, le-ltb, leb-true, eq-eqb, ne-eqb, eqb-true, eqb-false, ltb-true, ltb-false, leb-false}
+use borrow.Author.Tests.{lt-ltb, le-ltb, leb-true, ne-eqb, eqb-true, eqb-false, ltb-false, leb-false}
 use lib.Dec.{T, leb, ltb, eqb}
-use lib.Ieee.{Float, nan, inf, fin, binary64, fits, isNan, odd, ofFields, ofBits, toBits, ne}
+use lib.Ieee.{Float, nan, inf, fin, binary64, fits, isNan, odd, ofFields, ofBits, toBits, ne, lt, up, down}
 use lib.Ieee.Bits.{ofBits-toBits}
 use lib.Ieee.Compare.{differs-from-itself}
+use lib.Ieee.Fits.{up-pos}
 use Rattle.rules.specs.Table.{number, zeroBits}
 use Rattle.rules.specs.Cells.{elapsed}
 
@@ -23,27 +24,10 @@ no-nan (inf s) e = tt
 no-nan (fin s m d) e = tt
 
 -- ---- of the three fields
-number-odd : (s : Bool) (t k : ℕ) → number (odd 53 s t k 1074) ≡ not s
-unfolding odd
-number-odd s zero k = refl
-number-odd s (suc t) k = refl
-
 elapsed-odd : (s : Bool) (t k : ℕ) → elapsed (odd 53 s t k 1074) ≡ not s
 unfolding odd
 elapsed-odd s zero k = refl
 elapsed-odd s (suc t) k = refl
-
-and-true : (b : Bool) → b ≡ b && true
-and-true true = refl
-and-true false = refl
-
-and-false : (b : Bool) → false ≡ b && false
-and-false true = refl
-and-false false = refl
-
-number-special : (s b : Bool) → number (cond b (inf s) nan) ≡ false
-number-special s true = refl
-number-special s false = refl
 
 elapsed-special : (s b : Bool) → T (not (isNan (cond b (inf s) nan))) → elapsed (cond b (inf s) nan) ≡ not s
 unfolding isNan
@@ -51,18 +35,9 @@ elapsed-special s true h = refl
 elapsed-special s false h = absurd h
 
 module _ (s : Bool) (x t u : ℕ) where
-  number-at : (b : Bool) → number (cond b (cond (eqb t 0) (inf s) nan) (odd 53 s u x 1074)) ≡ not s && not b
-  number-at true = number-special s (eqb t 0) ∙ and-false (not s)
-  number-at false = number-odd s u x ∙ and-true (not s)
-
   elapsed-at : (b : Bool) → T (not (isNan (cond b (cond (eqb t 0) (inf s) nan) (odd 53 s u x 1074)))) → elapsed (cond b (cond (eqb t 0) (inf s) nan) (odd 53 s u x 1074)) ≡ not s
   elapsed-at true h = elapsed-special s (eqb t 0) h
   elapsed-at false h = elapsed-odd s u x
-
-number-fields : (s : Bool) (x t : ℕ) → number (ofFields binary64 s x t) ≡ not s && not (eqb x 2047)
-unfolding ofFields
-number-fields s zero t = number-odd s t 0 ∙ and-true (not s)
-number-fields s (suc x) t = number-at s x t (2 ^ 52 + t) (eqb (suc x) 2047)
 
 elapsed-fields : (s : Bool) (x t : ℕ) → T (not (isNan (ofFields binary64 s x t))) → elapsed (ofFields binary64 s x t) ≡ not s
 unfolding ofFields
@@ -73,17 +48,8 @@ elapsed-fields s (suc x) t h = elapsed-at s x t (2 ^ 52 + t) (eqb (suc x) 2047) 
 abbrev signBit : ℕ
 signBit = 0x8000000000000000
 
-abbrev infinity : ℕ
-infinity = 0x7ff0000000000000
-
 abbrev fieldOf : ℕ → ℕ
 fieldOf b = b % signBit / 0x10000000000000
-
-finite-test : (b : ℕ) (p q : Bool) → leb signBit b ≡ p → ltb b infinity ≡ q → not p && not (eqb (fieldOf b) 2047) ≡ q
-finite-test b true true e f = let h : b < infinity = ltb-true _ _ f in let k : signBit ≤ b = leb-true _ _ e in absurd (omega arith)
-finite-test b true false e f = refl
-finite-test b false true e f = let h : b < infinity = ltb-true _ _ f in rw (ne-eqb (fieldOf b) 2047 (omega arith))
-finite-test b false false e f = let h : infinity ≤ b = ltb-false _ _ f in let k : b < signBit = leb-false _ _ e in rw (eq-eqb (fieldOf b) 2047 (omega arith))
 
 sign-test : (b : ℕ) (p : Bool) → leb signBit b ≡ p → not p ≡ ltb b signBit
 sign-test b true e = sym (le-ltb b signBit (leb-true signBit b e))
@@ -99,12 +65,6 @@ zero-bits (fin false zero e) h = absurd (h (simp (zero-mul, zero-div)))
 zero-bits (fin false (suc m) e) h = ne-eqb (suc m) 0 (omega arith)
 
 module _ (x : Float) (ok : T (fits binary64 x)) where
-  pub number-bits : number x ≡ ltb (toBits binary64 x) infinity
-  unfolding ofBits
-  number-bits =
-      let b = toBits binary64 x in
-      ap number (sym (ofBits-toBits binary64 x ok)) ∙ number-fields (leb signBit b) (fieldOf b) (b % 0x10000000000000) ∙ finite-test b _ _ refl refl
-
   pub elapsed-bits : T (not (isNan x)) → elapsed x ≡ ltb (toBits binary64 x) signBit
   unfolding ofBits
   elapsed-bits h =
@@ -119,3 +79,38 @@ module _ (x : Float) (ok : T (fits binary64 x)) where
 
   pub zero-bits-test : zeroBits x ≡ eqb (toBits binary64 x) 0
   zero-bits-test = zero-test _ refl
+
+-- ---- what comparisons tell
+abbrev nought : Float
+nought = ofBits binary64 0
+
+abbrev endless : Float
+endless = ofBits binary64 0x7ff0000000000000
+
+pub is-number : (x : Float) → lt x endless ≡ true → lt nought x ≡ true → number x ≡ true
+unfolding lt ofBits ofFields odd
+is-number nan below above = below
+is-number (inf true) below above = above
+is-number (inf false) below above = below
+is-number (fin true m e) below above = above
+is-number (fin false m e) below above = refl
+
+pub zero-number : (x : Float) → zeroBits x ≡ true → number x ≡ true
+zero-number nan e = e
+zero-number (inf s) e = e
+zero-number (fin true m d) e = e
+zero-number (fin false m d) e = refl
+
+pub not-above : (x : Float) → lt nought x ≡ false → zeroBits x ≡ false → number x ≡ false
+unfolding lt ofBits ofFields odd
+not-above nan low e = refl
+not-above (inf s) low e = refl
+not-above (fin true m d) low e = refl
+not-above (fin false zero d) low e = e
+not-above (fin false (suc m) d) low e = let f : suc m * up d * 1 ≤ 0 * 1 * down d = ltb-false (0 * 1 * down d) (suc m * up d * 1) low in absurd (omega (arith, mul-pos (zero-lt-suc m) (up-pos d), zero-mul (down d)))
+
+pub not-below : (x : Float) → lt x endless ≡ false → number x ≡ false
+unfolding lt ofBits ofFields
+not-below nan h = refl
+not-below (inf s) h = refl
+not-below (fin s m e) h = let z : _≡_ {A = Bool} true false = h in cc

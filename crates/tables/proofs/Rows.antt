@@ -1,16 +1,17 @@
 -- How a row is answered, and what the answer tells of the row.
 use mathlib.Core.Path.{_≡_, refl}
-use mathlib.Core.Bool.{Bool, true, false, cond}
+use mathlib.Core.Bool.{Bool, true, false, not, cond, _&&_, and-false}
 use mathlib.Core.List.{List}
 use mathlib.Core.List
 use Prim.Native.Nat.{ℕ, zero, suc, _≤_, _<_, min}
 use native.Mathlib.Omega.{arith}
-use borrow.Author.Tests.{le-leb, lt-leb}
+use borrow.Author.Tests.{le-leb, lt-leb, ne-eqb, not-true, not-false}
+use lib.Dec.{leb, eqb}
 use lib.Ieee.{Float}
 use lib.ListN.{length, getD}
 use Rattle.rules.specs.declared.behavior.Kind.{Kind}
 use Rattle.rules.specs.Kinds.{kindOf, fewest, most, children}
-use Rattle.rules.specs.Table.{rows, limitAllowed, rowAllowed}
+use Rattle.rules.specs.Table.{rows, countAllowed, limitAllowed, rowAllowed}
 use Rattle.tables.specs.declared.table.Row.the-variants.{Children, Bad}
 use Rattle.tables.specs.Checks.{rowOf}
 
@@ -35,30 +36,30 @@ row-allowed k n l c e = allowed-test (rowAllowed k n l) (children (kindOf k) n) 
 pub row-children : (k n : ℕ) (l : Float) (c : ℕ) → rowOf k n l ≡ Children c → c ≡ children (kindOf k) n
 row-children k n l c e = children-test (rowAllowed k n l) (children (kindOf k) n) c e
 
+-- ---- how many children are allowed
+pub none-allowed : (f m : ℕ) → eqb f 0 ≡ leb f 0 && leb 0 m
+none-allowed zero m = rw (le-leb 0 m (omega arith))
+none-allowed (suc f) m = rw (ne-eqb (suc f) 0 (omega arith), lt-leb (suc f) 0 (omega arith))
+
 -- ---- the tests, in their order
 module _ (k n : ℕ) (l : Float) where
   pub no-kind : 16 < k → Bad ≡ rowOf k n l
   unfolding rowAllowed
   no-kind h = rw (lt-leb k 16 h)
 
-  module _ (kind : Kind) (is : kind ≡ kindOf k) (low : k ≤ 16) (c f : ℕ) (cs : c ≡ children kind n) (fs : f ≡ fewest kind) where
-    pub too-few : c < f → Bad ≡ rowOf k n l
+  module _ (kind : Kind) (is : kind ≡ kindOf k) (low : k ≤ 16) (b : Bool) (bs : b ≡ limitAllowed kind l) where
+    pub no-limit : not b ≡ true → Bad ≡ rowOf k n l
     unfolding rowAllowed
-    too-few h = rw (le-leb k 16 low, ← is, ← cs, ← fs, lt-leb f c h)
+    no-limit h = rw (le-leb k 16 low, ← is, ← bs, not-true b h, and-false (countAllowed kind n))
 
-    module _ (m : ℕ) (ms : m ≡ most kind) (enough : f ≤ c) where
-      pub too-many : m < c → Bad ≡ rowOf k n l
+    module _ (good : not b ≡ false) (c : ℕ) (cs : c ≡ children kind n) (a : Bool) (counts : a ≡ leb (fewest kind) c && leb c (most kind)) where
+      pub no-count : a ≡ false → Bad ≡ rowOf k n l
       unfolding rowAllowed
-      too-many h = rw (le-leb k 16 low, ← is, ← cs, ← fs, le-leb f c enough, ← ms, lt-leb c m h)
+      no-count h = rw (le-leb k 16 low, ← is, ← cs, ← counts, h)
 
-      module _ (b : Bool) (bs : b ≡ limitAllowed kind l) (fits : c ≤ m) where
-        pub no-limit : b ≡ false → Bad ≡ rowOf k n l
-        unfolding rowAllowed
-        no-limit h = rw (le-leb k 16 low, ← is, ← cs, ← fs, le-leb f c enough, ← ms, le-leb c m fits, ← bs, h)
-
-        pub all-allowed : b ≡ true → Children c ≡ rowOf k n l
-        unfolding rowAllowed
-        all-allowed h = rw (le-leb k 16 low, ← is, ← cs, ← fs, le-leb f c enough, ← ms, le-leb c m fits, ← bs, h)
+      pub all-allowed : a ≡ true → Children c ≡ rowOf k n l
+      unfolding rowAllowed
+      all-allowed h = rw (le-leb k 16 low, ← is, ← cs, ← counts, h, ← bs, not-false b good)
 
 -- ---- an element that is there needs no default
 pub any-default : {A : Type 0} (xs : List A) (i : ℕ) (d d' : A) → i < length xs → getD xs i d ≡ getD xs i d'

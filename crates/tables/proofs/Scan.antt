@@ -92,9 +92,10 @@ module _ (kinds ns : List ℕ) (limits : List Float) where
   Behind ends q [] stop = q ≡ stop
   Behind ends q (t ∷ kids) stop = (s : ℕ) × (Behind ends q kids s × (At kinds ns limits ends s t × (getD ends s 0 ≡ stop)))
 
-  abbrev Open : List ℕ → List ℕ → List ℕ → List Frame → ℕ → Type 0
-  Open begins owed ends List.[] at = at ≡ 0
-  Open begins owed ends (List._∷_ (frame p k n l kids m) σ) at = Row kinds ns limits p k n l (count kids + suc m) × (Behind ends (suc p) kids at × ((getD owed (length σ) 0 ≡ m) × ((getD begins (length σ) 0 ≡ p) × Open begins owed ends σ p)))
+  -- the innermost owes `left` children behind the next one, and `owed` has for each node what is owed around it
+  abbrev Open : List ℕ → List ℕ → List ℕ → List Frame → ℕ → ℕ → Type 0
+  Open begins owed ends List.[] left at = (left ≡ 0) × (at ≡ 0)
+  Open begins owed ends (List._∷_ (frame p k n l kids m) σ) left at = Row kinds ns limits p k n l (count kids + suc m) × (Behind ends (suc p) kids at × ((left ≡ m) × ((getD begins (length σ) 0 ≡ p) × Open begins owed ends σ (getD owed (length σ) 0) p)))
 
   behind-le : (kids : Forest) (ends : List ℕ) (q stop : ℕ) → Behind ends q kids stop → q ≤ stop
   behind-le [] ends q stop h = omega arith
@@ -114,43 +115,45 @@ module _ (kinds ns : List ℕ) (limits : List Float) where
         (s, (behind-keeps kids q s b (λ j x y. same j x (omega arith)), (at-keeps kinds ns limits ends ends' t s a (λ j x y. same j (omega arith) (omega arith)), same s le (omega arith) ∙ e)))
 
     module _ (begins begins' owed owed' : List ℕ) where
-      open-keeps : (σ : List Frame) (at : ℕ) → Open begins owed ends σ at → ((i : ℕ) → i < length σ → getD begins' i 0 ≡ getD begins i 0) → ((i : ℕ) → i < length σ → getD owed' i 0 ≡ getD owed i 0) → ((j : ℕ) → j < at → getD ends' j 0 ≡ getD ends j 0) → Open begins' owed' ends' σ at
-      open-keeps List.[] at h sb so se = h
-      open-keeps (List._∷_ (frame p k n l kids m) σ) at (r, (b, (o, (g, h)))) sb so se =
+      open-keeps : (σ : List Frame) (left at : ℕ) → Open begins owed ends σ left at → ((i : ℕ) → i < length σ → getD begins' i 0 ≡ getD begins i 0) → ((i : ℕ) → i < length σ → getD owed' i 0 ≡ getD owed i 0) → ((j : ℕ) → j < at → getD ends' j 0 ≡ getD ends j 0) → Open begins' owed' ends' σ left at
+      open-keeps List.[] left at h sb so se = h
+      open-keeps (List._∷_ (frame p k n l kids m) σ) left at (r, (b, (o, (g, h)))) sb so se =
           let le = behind-le kids ends (suc p) at b in
-          (r, (behind-keeps kids (suc p) at b (λ j x y. se j y), (so (length σ) (omega arith) ∙ o, (sb (length σ) (omega arith) ∙ g, open-keeps σ p h (λ i x. sb i (omega arith)) (λ i x. so i (omega arith)) (λ j x. se j (omega arith))))))
+          let h' = open-keeps σ (getD owed (length σ) 0) p h (λ i x. sb i (omega arith)) (λ i x. so i (omega arith)) (λ j x. se j (omega arith)) in
+          (r, (behind-keeps kids (suc p) at b (λ j x y. se j y), (o, (sb (length σ) (omega arith) ∙ g, subst (λ (x : ℕ). Open begins' owed' ends' σ x p) (sym (so (length σ) (omega arith))) h'))))
 
   -- ---- what the loops keep
   abbrev all : List T.Row
   all = rows kinds ns limits
 
   -- the tree at `at` is next
-  pub record Reading (begins owed ends : List ℕ) (open' at : ℕ) : Type 0 where
+  pub record Reading (begins owed ends : List ℕ) (open' left at : ℕ) : Type 0 where
     deep : ℕ
     frames : List Frame
     level : open' ≡ length frames
     levels : deep + length frames ≡ 16
-    opened : Open begins owed ends frames at
+    pub owes : 0 < left
+    opened : Open begins owed ends frames (left - 1) at
     reads : resume deep frames (readTree deep at (drop at all)) ≡ readTree 16 0 all
 
   -- a tree that ends at `at` is read
-  pub record Closing (begins owed ends : List ℕ) (open' at : ℕ) : Type 0 where
+  pub record Closing (begins owed ends : List ℕ) (open' left at : ℕ) : Type 0 where
     deep : ℕ
     frames : List Frame
     tree : Tree
     place : ℕ
     level : open' ≡ length frames
     levels : deep + length frames ≡ 16
-    opened : Open begins owed ends frames place
+    opened : Open begins owed ends frames left place
     placed : At kinds ns limits ends place tree
     stop : getD ends place 0 ≡ at
     reads : resume deep frames (got tree at (drop at all)) ≡ readTree 16 0 all
 
-  pub start : (begins owed ends : List ℕ) → Reading begins owed ends 0 0
+  pub start : (begins owed ends : List ℕ) → Reading begins owed ends 0 1 0
   unfolding resume
-  start begins owed ends = record { deep = 16; frames = List.[]; level = refl; levels = refl; opened = refl; reads = refl }
+  start begins owed ends = record { deep = 16; frames = List.[]; level = refl; levels = refl; owes = omega arith; opened = (refl, refl); reads = refl }
 
-  module _ (begins owed ends : List ℕ) (open' at : ℕ) (r : Reading begins owed ends open' at) where
+  module _ (begins owed ends : List ℕ) (open' left at : ℕ) (r : Reading begins owed ends open' left at) where
     ends-here : readTree (r .deep) at (drop at all) ≡ fault at → readTree 16 0 all ≡ fault at
     ends-here e = sym (r .reads) ∙ ap (resume (r .deep) (r .frames)) e ∙ resume-fault (r .deep) (r .frames) at
 
@@ -196,21 +199,23 @@ module _ (kinds ns : List ℕ) (limits : List Float) where
       refuses h = sym reads-row ∙ ap (resume (suc (r .deep - 1)) (r .frames)) (refused (r .deep - 1) at k n l (drop (suc at) all) (r .frames) low h) ∙ resume-fault (suc (r .deep - 1)) (r .frames) at
 
       module _ (ok : rowAllowed k n l ≡ true) (c : ℕ) (e : c ≡ children (kindOf k) n) where
-        pub descends : 0 < c → length begins ≡ 16 → length owed ≡ 16 → Reading (set begins open' at) (set owed open' (c - 1)) ends (open' + 1) (at + 1)
+        pub descends : 0 < c → length begins ≡ 16 → length owed ≡ 16 → Reading (set begins open' at) (set owed open' (left - 1)) ends (open' + 1) c (at + 1)
         descends pos lb lo =
             let σ = r .frames in
             let lev = r .level in
             let more : children (kindOf k) n ≡ suc (c - 1) = omega arith in
+            let around : getD (set owed open' (left - 1)) (length σ) 0 ≡ left - 1 = rw (← lev) (getD-set-same owed open' (left - 1) 0 (omega arith)) in
             record {
               deep = r .deep - 1;
               frames = List._∷_ (frame at (kindOf k) n l [] (c - 1)) σ;
               level = omega arith;
               levels = omega (arith, r .levels, level-up);
-              opened = (record { kind = refl; number = refl; limit = refl; allowed = ok; kids = omega arith }, (omega arith, (rw (← lev) (getD-set-same owed open' (c - 1) 0 (omega arith)), (rw (← lev) (getD-set-same begins open' at 0 (omega arith)), open-keeps ends ends begins (set begins open' at) owed (set owed open' (c - 1)) σ at (r .opened) (λ i x. getD-set-other begins open' i at 0 (omega arith)) (λ i x. getD-set-other owed open' i (c - 1) 0 (omega arith)) (λ j x. refl)))));
+              owes = pos;
+              opened = (record { kind = refl; number = refl; limit = refl; allowed = ok; kids = omega arith }, (omega arith, (refl, (rw (← lev) (getD-set-same begins open' at 0 (omega arith)), subst (λ (x : ℕ). Open (set begins open' at) (set owed open' (left - 1)) ends σ x at) (sym around) (open-keeps ends ends begins (set begins open' at) owed (set owed open' (left - 1)) σ (left - 1) at (r .opened) (λ i x. getD-set-other begins open' i at 0 (omega arith)) (λ i x. getD-set-other owed open' i (left - 1) 0 (omega arith)) (λ j x. refl))))));
               reads = rw (add-one at) (sym (descend (r .deep - 1) at k n l (drop (suc at) all) σ low ok (c - 1) more) ∙ reads-row);
             }
 
-        pub leaves : c ≤ 0 → length ends ≡ 256 → Closing begins owed (set ends at (at + 1)) open' (at + 1)
+        pub leaves : c ≤ 0 → length ends ≡ 256 → Closing begins owed (set ends at (at + 1)) open' (left - 1) (at + 1)
         leaves none le =
             let σ = r .frames in
             let here : getD (set ends at (at + 1)) at 0 ≡ at + 1 = getD-set-same ends at (at + 1) 0 (omega arith) in
@@ -222,45 +227,42 @@ module _ (kinds ns : List ℕ) (limits : List Float) where
               place = at;
               level = r .level;
               levels = r .levels;
-              opened = open-keeps ends (set ends at (at + 1)) begins begins owed owed σ at (r .opened) (λ i x. refl) (λ i x. refl) (λ j x. getD-set-other ends at j (at + 1) 0 (omega arith));
+              opened = open-keeps ends (set ends at (at + 1)) begins begins owed owed σ (left - 1) at (r .opened) (λ i x. refl) (λ i x. refl) (λ j x. getD-set-other ends at j (at + 1) 0 (omega arith));
               placed = (record { kind = refl; number = refl; limit = refl; allowed = ok; kids = sym zero' }, omega arith);
               stop = here;
               reads = rw (level-up, add-one at) (ap (resume (suc (r .deep - 1)) σ) (sym (leaf (r .deep - 1) at k n l (drop (suc at) all) σ low ok zero')) ∙ reads-row);
             }
 
-  module _ (begins owed ends : List ℕ) (open' at : ℕ) (le : length ends ≡ 256) (lo : length owed ≡ 16) (low : at ≤ 256) where
+  module _ (begins owed ends : List ℕ) (open' left at : ℕ) (le : length ends ≡ 256) (low : at ≤ 256) where
     module _ (d : ℕ) (t : Tree) (q : ℕ) (placed : At kinds ns limits ends q t) (stop : getD ends q 0 ≡ at) where
-      nexts-at : (σ : List Frame) → open' ≡ length σ → d + length σ ≡ 16 → Open begins owed ends σ q → resume d σ (got t at (drop at all)) ≡ readTree 16 0 all → 0 < open' → 0 < getD owed (open' - 1) 0 → Reading begins (set owed (open' - 1) (getD owed (open' - 1) 0 - 1)) ends open' at
-      nexts-at List.[] lev ups opened reads pos more = absurd (omega arith)
-      nexts-at (List._∷_ (frame p k n l kids m) σ) lev ups (r, (b, (o, (g, h)))) reads pos more =
-          let top : open' - 1 ≡ length σ = omega arith in
-          let left = getD owed (open' - 1) 0 in
-          let o' : left ≡ m = rw top o in
+      nexts-at : (σ : List Frame) → open' ≡ length σ → d + length σ ≡ 16 → Open begins owed ends σ left q → resume d σ (got t at (drop at all)) ≡ readTree 16 0 all → 0 < left → Reading begins owed ends open' left at
+      nexts-at List.[] lev ups (none, z) reads more = absurd (omega arith)
+      nexts-at (List._∷_ (frame p k n l kids m) σ) lev ups (r, (b, (o, (g, h)))) reads more =
           let m' : m ≡ suc (left - 1) = omega arith in
           record {
             deep = d;
             frames = List._∷_ (frame p k n l (t ∷ kids) (left - 1)) σ;
             level = lev;
             levels = ups;
-            opened = (record { kind = r .kind; number = r .number; limit = r .limit; allowed = r .allowed; kids = omega (arith, r .kids) }, ((q, (b, (placed, stop))), (subst (λ (x : ℕ). getD (set owed (open' - 1) (left - 1)) x 0 ≡ left - 1) top (getD-set-same owed (open' - 1) (left - 1) 0 (omega arith)), (g, open-keeps ends ends begins begins owed (set owed (open' - 1) (left - 1)) σ p h (λ i x. refl) (λ i x. getD-set-other owed (open' - 1) i (left - 1) 0 (omega arith)) (λ j x. refl)))));
+            owes = more;
+            opened = (record { kind = r .kind; number = r .number; limit = r .limit; allowed = r .allowed; kids = omega (arith, r .kids) }, ((q, (b, (placed, stop))), (refl, (g, h))));
             reads = sym (next d p k n l kids σ t at (drop at all) (left - 1)) ∙ subst (λ (x : ℕ). resume d (List._∷_ (frame p k n l kids x) σ) (got t at (drop at all)) ≡ readTree 16 0 all) m' reads;
           }
 
       -- the top node begins before its end
-      begins-at : (σ : List Frame) → open' ≡ length σ → Open begins owed ends σ q → 0 < open' → getD begins (open' - 1) 0 < at
+      begins-at : (σ : List Frame) → open' ≡ length σ → Open begins owed ends σ left q → 0 < open' → getD begins (open' - 1) 0 < at
       begins-at List.[] lev opened pos = absurd (omega arith)
       begins-at (List._∷_ (frame p k n l kids m) σ) lev (r, (b, (o, (g, h)))) pos =
           let top : open' - 1 ≡ length σ = omega arith in
           let g' : getD begins (open' - 1) 0 ≡ p = rw top g in
           omega (arith, behind-le kids ends (suc p) q b, at-end kinds ns limits t ends q placed)
 
-      closes-at : (σ : List Frame) → open' ≡ length σ → d + length σ ≡ 16 → Open begins owed ends σ q → resume d σ (got t at (drop at all)) ≡ readTree 16 0 all → 0 < open' → getD owed (open' - 1) 0 ≤ 0 → Closing begins owed (set ends (getD begins (open' - 1) 0) at) (open' - 1) at
+      closes-at : (σ : List Frame) → open' ≡ length σ → d + length σ ≡ 16 → Open begins owed ends σ left q → resume d σ (got t at (drop at all)) ≡ readTree 16 0 all → 0 < open' → left ≡ 0 → Closing begins owed (set ends (getD begins (open' - 1) 0) at) (open' - 1) (getD owed (open' - 1) 0) at
       closes-at List.[] lev ups opened reads pos none = absurd (omega arith)
       closes-at (List._∷_ (frame p k n l kids m) σ) lev ups (r, (b, (o, (g, h)))) reads pos none =
           let top : open' - 1 ≡ length σ = omega arith in
-          let left = getD owed (open' - 1) 0 in
-          let o' : left ≡ m = rw top o in
           let g' : getD begins (open' - 1) 0 ≡ p = rw top g in
+          let h' : Open begins owed ends σ (getD owed (open' - 1) 0) p = rw top h in
           let none' : m ≡ 0 = omega arith in
           let a = behind-le kids ends (suc p) q b in
           let z = at-end kinds ns limits t ends q placed in
@@ -273,20 +275,20 @@ module _ (kinds ns : List ℕ) (limits : List Float) where
             place = p;
             level = top;
             levels = omega arith;
-            opened = open-keeps ends ends' begins begins owed owed σ p h (λ i x. refl) (λ i x. refl) (λ j x. getD-set-other ends p j at 0 (omega arith));
+            opened = open-keeps ends ends' begins begins owed owed σ (getD owed (open' - 1) 0) p h' (λ i x. refl) (λ i x. refl) (λ j x. getD-set-other ends p j at 0 (omega arith));
             placed = (record { kind = r .kind; number = r .number; limit = r .limit; allowed = r .allowed; kids = omega (arith, r .kids, count-onto kids (t ∷ [])) }, behind-ats kids (t ∷ []) ends' (suc p) q (getD ends' p 0) (behind-keeps ends ends' kids (suc p) q b (λ j x y. getD-set-other ends p j at 0 (omega arith))) (at-keeps kinds ns limits ends ends' t q placed (λ j x y. getD-set-other ends p j at 0 (omega arith)), getD-set-other ends p q at 0 (omega arith) ∙ stop ∙ sym here));
             stop = here;
             reads = sym (close d p k n l kids σ t at (drop at all)) ∙ subst (λ (x : ℕ). resume d (List._∷_ (frame p k n l kids x) σ) (got t at (drop at all)) ≡ readTree 16 0 all) none' reads;
           })
 
-    module _ (c : Closing begins owed ends open' at) where
-      pub nexts : 0 < open' → 0 < getD owed (open' - 1) 0 → Reading begins (set owed (open' - 1) (getD owed (open' - 1) 0 - 1)) ends open' at
+    module _ (c : Closing begins owed ends open' left at) where
+      pub nexts : 0 < left → Reading begins owed ends open' left at
       nexts = nexts-at (c .deep) (c .tree) (c .place) (c .placed) (c .stop) (c .frames) (c .level) (c .levels) (c .opened) (c .reads)
 
       pub begins-before : 0 < open' → getD begins (open' - 1) 0 < at
       begins-before = begins-at (c .deep) (c .tree) (c .place) (c .placed) (c .stop) (c .frames) (c .level) (c .opened)
 
-      pub closes : 0 < open' → getD owed (open' - 1) 0 ≤ 0 → Closing begins owed (set ends (getD begins (open' - 1) 0) at) (open' - 1) at
+      pub closes : 0 < open' → left ≡ 0 → Closing begins owed (set ends (getD begins (open' - 1) 0) at) (open' - 1) (getD owed (open' - 1) 0) at
       closes = closes-at (c .deep) (c .tree) (c .place) (c .placed) (c .stop) (c .frames) (c .level) (c .levels) (c .opened) (c .reads)
 
   -- ---- the root is read
@@ -296,10 +298,10 @@ module _ (kinds ns : List ℕ) (limits : List Float) where
     pub placed : At kinds ns limits ends 0 tree
     pub sized : at ≡ size tree
 
-  whole-at : (begins owed ends : List ℕ) (at d : ℕ) (σ : List Frame) (t : Tree) (q : ℕ) → length σ ≡ 0 → Open begins owed ends σ q → At kinds ns limits ends q t → getD ends q 0 ≡ at → resume d σ (got t at (drop at all)) ≡ readTree 16 0 all → Whole ends at
+  whole-at : (begins owed ends : List ℕ) (left at d : ℕ) (σ : List Frame) (t : Tree) (q : ℕ) → length σ ≡ 0 → Open begins owed ends σ left q → At kinds ns limits ends q t → getD ends q 0 ≡ at → resume d σ (got t at (drop at all)) ≡ readTree 16 0 all → Whole ends at
   unfolding resume
-  whole-at begins owed ends at d List.[] t q lev opened placed stop reads = let root : At kinds ns limits ends 0 t = rw opened at placed in record { tree = t; reads = sym reads; placed = root; sized = omega (arith, at-end kinds ns limits t ends q placed) }
-  whole-at begins owed ends at d (List._∷_ f σ) t q lev opened placed stop reads = absurd (omega arith)
+  whole-at begins owed ends left at d List.[] t q lev (none, opened) placed stop reads = let root : At kinds ns limits ends 0 t = rw opened at placed in record { tree = t; reads = sym reads; placed = root; sized = omega (arith, at-end kinds ns limits t ends q placed) }
+  whole-at begins owed ends left at d (List._∷_ f σ) t q lev opened placed stop reads = absurd (omega arith)
 
-  pub whole : (begins owed ends : List ℕ) (open' at : ℕ) → Closing begins owed ends open' at → open' ≤ 0 → Whole ends at
-  whole begins owed ends open' at c h = whole-at begins owed ends at (c .deep) (c .frames) (c .tree) (c .place) (omega (arith, c .level)) (c .opened) (c .placed) (c .stop) (c .reads)
+  pub whole : (begins owed ends : List ℕ) (open' left at : ℕ) → Closing begins owed ends open' left at → open' ≡ 0 → Whole ends at
+  whole begins owed ends open' left at c h = whole-at begins owed ends left at (c .deep) (c .frames) (c .tree) (c .place) (omega (arith, c .level)) (c .opened) (c .placed) (c .stop) (c .reads)

@@ -20,23 +20,23 @@ use Rattle.tables.proofs.Depth.{read-depth}
 use Rattle.tables.proofs.Scan.{Reading, Closing, start, past, too-deep, refuses, descends, leaves, nexts, begins-before, closes, Whole, whole}
 
 -- with ends₀ before the loop
-pub record Kept (kinds ns : List ℕ) (limits : List Float) (State : List ℕ → List ℕ → List ℕ → ℕ → ℕ → Type 0) (ends₀ begins owed ends : List ℕ) (open' at : ℕ) : Type 0 where
-  pub state : State begins owed ends open' at
+pub record Kept (kinds ns : List ℕ) (limits : List Float) (State : List ℕ → List ℕ → List ℕ → ℕ → ℕ → ℕ → Type 0) (ends₀ begins owed ends : List ℕ) (open' left at : ℕ) : Type 0 where
+  pub state : State begins owed ends open' left at
   pub begins-long : length begins ≡ 16
   pub owed-long : length owed ≡ 16
   pub ends-long : length ends ≡ 256
   pub low : at ≤ 256
   pub inside : at ≤ length (rows kinds ns limits)
-  pub room : open' ≤ 16
+  pub room : open' < 16
   pub stays : (i : ℕ) → at ≤ i → getD ends i 0 ≡ getD ends₀ i 0
 
-abbrev pub Nodes : List ℕ → List ℕ → List Float → List ℕ → List ℕ → List ℕ → List ℕ → ℕ → ℕ → Type 0
+abbrev pub Nodes : List ℕ → List ℕ → List Float → List ℕ → List ℕ → List ℕ → List ℕ → ℕ → ℕ → ℕ → Type 0
 Nodes kinds ns limits = Kept kinds ns limits (Reading kinds ns limits)
 
-abbrev pub Ended : List ℕ → List ℕ → List Float → List ℕ → List ℕ → List ℕ → List ℕ → ℕ → ℕ → Type 0
+abbrev pub Ended : List ℕ → List ℕ → List Float → List ℕ → List ℕ → List ℕ → List ℕ → ℕ → ℕ → ℕ → Type 0
 Ended kinds ns limits = Kept kinds ns limits (Closing kinds ns limits)
 
-pub first : {kinds ns : List ℕ} {limits : List Float} {begins owed ends : List ℕ} → length begins ≡ 16 → length owed ≡ 16 → length ends ≡ 256 → Nodes kinds ns limits ends begins owed ends 0 0
+pub first : {kinds ns : List ℕ} {limits : List Float} {begins owed ends : List ℕ} → length begins ≡ 16 → length owed ≡ 16 → length ends ≡ 256 → Nodes kinds ns limits ends begins owed ends 0 1 0
 first {kinds = kinds} {ns = ns} {limits = limits} {begins = begins} {owed = owed} {ends = ends} lb lo le = record {
   state = start kinds ns limits begins owed ends;
   begins-long = lb;
@@ -49,7 +49,7 @@ first {kinds = kinds} {ns = ns} {limits = limits} {begins = begins} {owed = owed
 }
 
 -- seen from before the outer loop
-pub since : {kinds ns : List ℕ} {limits : List Float} {State : List ℕ → List ℕ → List ℕ → ℕ → ℕ → Type 0} {first begins owed begins' owed' ends ends' : List ℕ} {open' open'' at : ℕ} → Nodes kinds ns limits first begins owed ends open' at → Kept kinds ns limits State (set ends at (at + 1)) begins' owed' ends' open'' (at + 1) → Kept kinds ns limits State first begins' owed' ends' open'' (at + 1)
+pub since : {kinds ns : List ℕ} {limits : List Float} {State : List ℕ → List ℕ → List ℕ → ℕ → ℕ → ℕ → Type 0} {first begins owed begins' owed' ends ends' : List ℕ} {open' open'' left left' at : ℕ} → Nodes kinds ns limits first begins owed ends open' left at → Kept kinds ns limits State (set ends at (at + 1)) begins' owed' ends' open'' left' (at + 1) → Kept kinds ns limits State first begins' owed' ends' open'' left' (at + 1)
 since {ends = ends} {at = at} w v = record {
   state = v .state;
   begins-long = v .begins-long;
@@ -61,21 +61,18 @@ since {ends = ends} {at = at} w v = record {
   stays = λ i h. v .stays i h ∙ getD-set-other ends at i (at + 1) 0 (omega arith) ∙ w .stays i (omega arith);
 }
 
-module _ {kinds ns : List ℕ} {limits : List Float} {ends₀ begins owed ends : List ℕ} {open' at : ℕ} where
+module _ {kinds ns : List ℕ} {limits : List Float} {ends₀ begins owed ends : List ℕ} {open' left at : ℕ} where
   -- ---- the answers
-  refused : {State : List ℕ → List ℕ → List ℕ → ℕ → ℕ → Type 0} → Kept kinds ns limits State ends₀ begins owed ends open' at → readTree 16 0 (rows kinds ns limits) ≡ fault at → Tabled kinds ns limits ends₀ ends (Bad at)
+  refused : {State : List ℕ → List ℕ → List ℕ → ℕ → ℕ → ℕ → Type 0} → Kept kinds ns limits State ends₀ begins owed ends open' left at → readTree 16 0 (rows kinds ns limits) ≡ fault at → Tabled kinds ns limits ends₀ ends (Bad at)
   unfolding table
   refused v e = record { said = rw e; tree = rw e tt; long = v .ends-long; stays = v .stays }
 
-  pub at-end : Nodes kinds ns limits ends₀ begins owed ends open' at → min (length (rows kinds ns limits)) 256 ≤ at → Tabled kinds ns limits ends₀ ends (Bad at)
-  at-end v h = refused v (past kinds ns limits begins owed ends open' at (v .state) h)
+  pub at-end : Nodes kinds ns limits ends₀ begins owed ends open' left at → min (length (rows kinds ns limits)) 256 ≤ at → Tabled kinds ns limits ends₀ ends (Bad at)
+  at-end v h = refused v (past kinds ns limits begins owed ends open' left at (v .state) h)
 
-  pub too-deep-at : Nodes kinds ns limits ends₀ begins owed ends open' at → 16 ≤ open' → Tabled kinds ns limits ends₀ ends (Bad at)
-  too-deep-at v h = refused v (too-deep kinds ns limits begins owed ends open' at (v .state) h)
-
-  module _ (v : Ended kinds ns limits ends₀ begins owed ends open' at) (none : open' ≤ 0) where
+  module _ (v : Ended kinds ns limits ends₀ begins owed ends open' left at) (none : open' ≡ 0) where
     abbrev w : Whole kinds ns limits ends at
-    w = whole kinds ns limits begins owed ends open' at (v .state) none
+    w = whole kinds ns limits begins owed ends open' left at (v .state) none
 
     pub too-long : at < length (rows kinds ns limits) → Tabled kinds ns limits ends₀ ends (Bad at)
     unfolding table
@@ -88,7 +85,7 @@ module _ {kinds ns : List ℕ} {limits : List Float} {ends₀ begins owed ends :
         record { said = rw e (ap Good (w .sized)); tree = rw e (record { nodes = omega (arith, w .sized, v .inside); few = omega (arith, w .sized, v .low); levels = read-depth 16 0 (rows kinds ns limits) (w .reads); placed = w .placed }); long = v .ends-long; stays = v .stays }
 
   -- ---- the turns
-  module _ (v : Nodes kinds ns limits ends₀ begins owed ends open' at) (inside : at < min (length (rows kinds ns limits)) 256) (room : open' < 16) where
+  module _ (v : Nodes kinds ns limits ends₀ begins owed ends open' left at) (inside : at < min (length (rows kinds ns limits)) 256) where
     low : at < 256
     low = omega arith
 
@@ -104,7 +101,7 @@ module _ {kinds ns : List ℕ} {limits : List Float} {ends₀ begins owed ends :
       same = ap (rowOf (getD kinds at 0) (getD ns at 0)) (any-default limits at zeroTime d (omega (arith, in-rows, length-rows kinds ns limits)))
 
       pub row-refused : told ≡ row.Bad → Tabled kinds ns limits ends₀ ends (Bad at)
-      row-refused h = refused v (refuses kinds ns limits begins owed ends open' at (v .state) low in-rows room (row-bad _ _ _ (same ∙ h)))
+      row-refused h = refused v (refuses kinds ns limits begins owed ends open' left at (v .state) low in-rows (v .room) (row-bad _ _ _ (same ∙ h)))
 
       module _ (c : ℕ) (is : told ≡ row.Children c) where
         ok : rowAllowed (getD kinds at 0) (getD ns at 0) (getD limits at zeroTime) ≡ true
@@ -113,21 +110,31 @@ module _ {kinds ns : List ℕ} {limits : List Float} {ends₀ begins owed ends :
         e : c ≡ children (kindOf (getD kinds at 0)) (getD ns at 0)
         e = row-children _ _ _ c (same ∙ is)
 
-        pub opens : 0 < c → Nodes kinds ns limits ends₀ (set begins open' at) (set owed open' (c - 1)) ends (open' + 1) (at + 1)
-        opens pos = record {
-          state = descends kinds ns limits begins owed ends open' at (v .state) low in-rows room ok c e pos (v .begins-long) (v .owed-long);
-          begins-long = length-set begins open' at ∙ v .begins-long;
-          owed-long = length-set owed open' (c - 1) ∙ v .owed-long;
-          ends-long = v .ends-long;
-          low = omega arith;
-          inside = omega arith;
-          room = omega arith;
-          stays = λ i h. v .stays i (omega arith);
-        }
+        module _ (pos : 0 < c) where
+          below : Reading kinds ns limits (set begins open' at) (set owed open' (left - 1)) ends (open' + 1) c (at + 1)
+          below = descends kinds ns limits begins owed ends open' left at (v .state) low in-rows (v .room) ok c e pos (v .begins-long) (v .owed-long)
 
-        pub ends-leaf : c ≤ 0 → Ended kinds ns limits (set ends at (at + 1)) begins owed (set ends at (at + 1)) open' (at + 1)
+          pub too-deep-at : 16 ≤ open' + 1 → Tabled kinds ns limits ends₀ ends (Bad (at + 1))
+          unfolding table
+          too-deep-at h =
+              let f = too-deep kinds ns limits (set begins open' at) (set owed open' (left - 1)) ends (open' + 1) c (at + 1) below h in
+              record { said = rw f; tree = rw f tt; long = v .ends-long; stays = λ i z. v .stays i (omega arith) }
+
+          pub opens : open' + 1 < 16 → Nodes kinds ns limits ends₀ (set begins open' at) (set owed open' (left - 1)) ends (open' + 1) c (at + 1)
+          opens room = record {
+            state = below;
+            begins-long = length-set begins open' at ∙ v .begins-long;
+            owed-long = length-set owed open' (left - 1) ∙ v .owed-long;
+            ends-long = v .ends-long;
+            low = omega arith;
+            inside = omega arith;
+            room = room;
+            stays = λ i h. v .stays i (omega arith);
+          }
+
+        pub ends-leaf : c ≤ 0 → Ended kinds ns limits (set ends at (at + 1)) begins owed (set ends at (at + 1)) open' (left - 1) (at + 1)
         ends-leaf none = record {
-          state = leaves kinds ns limits begins owed ends open' at (v .state) low in-rows room ok c e none (v .ends-long);
+          state = leaves kinds ns limits begins owed ends open' left at (v .state) low in-rows (v .room) ok c e none (v .ends-long);
           begins-long = v .begins-long;
           owed-long = v .owed-long;
           ends-long = length-set ends at (at + 1) ∙ v .ends-long;
@@ -137,30 +144,31 @@ module _ {kinds ns : List ℕ} {limits : List Float} {ends₀ begins owed ends :
           stays = λ i h. refl;
         }
 
-  module _ (v : Ended kinds ns limits ends₀ begins owed ends open' at) (pos : 0 < open') where
-    pub begin-low : getD begins (open' - 1) 0 < at
-    begin-low = begins-before kinds ns limits begins owed ends open' at (v .ends-long) (v .owed-long) (v .low) (v .state) pos
-
-    pub closes-one : getD owed (open' - 1) 0 ≤ 0 → Ended kinds ns limits ends₀ begins owed (set ends (getD begins (open' - 1) 0) at) (open' - 1) at
-    closes-one none = record {
-      state = closes kinds ns limits begins owed ends open' at (v .ends-long) (v .owed-long) (v .low) (v .state) pos none;
+  module _ (v : Ended kinds ns limits ends₀ begins owed ends open' left at) where
+    pub goes-on : 0 < left → Nodes kinds ns limits ends₀ begins owed ends open' left at
+    goes-on more = record {
+      state = nexts kinds ns limits begins owed ends open' left at (v .ends-long) (v .low) (v .state) more;
       begins-long = v .begins-long;
       owed-long = v .owed-long;
-      ends-long = length-set ends (getD begins (open' - 1) 0) at ∙ v .ends-long;
-      low = v .low;
-      inside = v .inside;
-      room = omega (arith, v .room);
-      stays = λ i h. getD-set-other ends (getD begins (open' - 1) 0) i at 0 (omega (arith, begin-low)) ∙ v .stays i h;
-    }
-
-    pub goes-on : 0 < getD owed (open' - 1) 0 → Nodes kinds ns limits ends₀ begins (set owed (open' - 1) (getD owed (open' - 1) 0 - 1)) ends open' at
-    goes-on more = record {
-      state = nexts kinds ns limits begins owed ends open' at (v .ends-long) (v .owed-long) (v .low) (v .state) pos more;
-      begins-long = v .begins-long;
-      owed-long = length-set owed (open' - 1) (getD owed (open' - 1) 0 - 1) ∙ v .owed-long;
       ends-long = v .ends-long;
       low = v .low;
       inside = v .inside;
       room = v .room;
       stays = v .stays;
     }
+
+    module _ (pos : 0 < open') where
+      pub begin-low : getD begins (open' - 1) 0 < at
+      begin-low = begins-before kinds ns limits begins owed ends open' left at (v .ends-long) (v .low) (v .state) pos
+
+      pub closes-one : left ≡ 0 → Ended kinds ns limits ends₀ begins owed (set ends (getD begins (open' - 1) 0) at) (open' - 1) (getD owed (open' - 1) 0) at
+      closes-one none = record {
+        state = closes kinds ns limits begins owed ends open' left at (v .ends-long) (v .low) (v .state) pos none;
+        begins-long = v .begins-long;
+        owed-long = v .owed-long;
+        ends-long = length-set ends (getD begins (open' - 1) 0) at ∙ v .ends-long;
+        low = v .low;
+        inside = v .inside;
+        room = omega (arith, v .room);
+        stays = λ i h. getD-set-other ends (getD begins (open' - 1) 0) i at 0 (omega (arith, begin-low)) ∙ v .stays i h;
+      }

@@ -1,5 +1,5 @@
-// Numbers that a host gives, told by their bits: the sign is the top bit, and an infinity's bits lie
-// above those of every finite number.
+// Numbers that a host gives. A comparison does not tell -0.0 from 0.0, and so the bits do: the sign is
+// the top bit.
 ghost use mathlib.Core.Path.{_≡_};
 ghost use Rattle.rules.specs.Table.{zeroBits};
 ghost use Rattle.rules.specs.Cells.{elapsed};
@@ -16,13 +16,16 @@ const SIGN: u64 = 0x8000000000000000;
 
 const INFINITY: u64 = 0x7ff0000000000000;
 
+// Finite and above 0, or 0 with the sign bit clear.
 pub fn number_of(x: f64) -> Number
     ensures { λ r. ⌜ r ≡ numberOf x ⌝ }
 {
-    if x != x {
-        return Number::Bad;
+    if x < f64::from_bits(INFINITY) {
+        if 0.0 < x {
+            return Number::Good(x);
+        }
     }
-    if f64::to_bits(x) < INFINITY {
+    if zero_bits(x) {
         Number::Good(x)
     } else {
         Number::Bad

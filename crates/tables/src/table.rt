@@ -4,8 +4,11 @@ use crate::number::number_of;
 use crate::number::zero_bits;
 use rules::Kind;
 ghost use mathlib.Core.Path.{_≡_};
+ghost use mathlib.Core.Bool.{_&&_};
 ghost use Prim.Native.Nat.{min};
+ghost use lib.Dec.{leb};
 ghost use lib.ListN.{length};
+ghost use Rattle.rules.specs.Kinds.{fewest, most};
 ghost use Rattle.rules.specs.Table.{rows, limitAllowed};
 ghost use Rattle.tables.specs.Checks.{rowOf, Tabled};
 
@@ -46,6 +49,19 @@ fn limit_allowed(kind: Kind, limit: f64) -> bool
     }
 }
 
+// None are never too many.
+fn count_allowed(kind: Kind, children: u16) -> bool
+    ensures { λ r. ⌜ r ≡ leb (fewest kind) children && leb children (most kind) ⌝ }
+{
+    if children == 0 {
+        return kind.fewest() == 0;
+    }
+    if children < kind.fewest() {
+        return false;
+    }
+    children <= kind.most()
+}
+
 fn row_of(number: u8, n: u16, limit: f64) -> Row
     ensures { λ r. ⌜ r ≡ rowOf number n limit ⌝ }
 {
@@ -53,14 +69,11 @@ fn row_of(number: u8, n: u16, limit: f64) -> Row
         return Row::Bad;
     }
     let kind = Kind::of(number);
+    if !limit_allowed(kind, limit) {
+        return Row::Bad;
+    }
     let children = kind.children(n);
-    if children < kind.fewest() {
-        return Row::Bad;
-    }
-    if kind.most() < children {
-        return Row::Bad;
-    }
-    if limit_allowed(kind, limit) {
+    if count_allowed(kind, children) {
         Row::Children(children)
     } else {
         Row::Bad
@@ -75,47 +88,45 @@ pub fn check_table(kinds: &[u8], ns: &[u16], limits: &[f64], ends: &mut [u16; 25
 {
     let rows = rows_of(kinds, ns, limits);
     let last = least(rows, 256);
-    // The open nodes: where each begins, and how many children it still has behind the one that is
-    // being read.
+    // The open nodes: where each begins, and how many of its parent's children are still to be read;
+    // `left` is how many of the innermost's are, and at first 1, for the root.
     let mut begins = [0u16; 16];
     let mut owed = [0u16; 16];
     let mut open: usize = 0;
+    let mut left: u16 = 1;
     let mut at: usize = 0;
-    'nodes: loop {
-        if last <= at {
-            return Checked::Bad(at);
-        }
-        if 16 <= open {
-            return Checked::Bad(at);
-        }
+    while at < last {
         let begin = at;
         let row = row_of(kinds[begin], ns[begin], limits[begin]);
         let Row::Children(children) = row else {
             return Checked::Bad(begin);
         };
         at += 1;
+        left -= 1;
         if 0 < children {
             begins[open] = begin as u16;
-            owed[open] = children - 1;
+            owed[open] = left;
+            left = children;
             open += 1;
-            continue;
-        }
-        ends[begin] = at as u16;
-        // A subtree ends here, and with it each open node that has no child left.
-        while 0 < open {
-            let top = open - 1;
-            let left = owed[top];
-            if 0 < left {
-                owed[top] = left - 1;
-                continue 'nodes;
+            if 16 <= open {
+                return Checked::Bad(at);
             }
-            let done = begins[top] as usize;
-            ends[done] = at as u16;
-            open = top;
+        } else {
+            ends[begin] = at as u16;
+            // A subtree ends here, and with it each open node that has no child left.
+            while left == 0 {
+                if open == 0 {
+                    if at < rows {
+                        return Checked::Bad(at);
+                    }
+                    return Checked::Good(at);
+                }
+                open -= 1;
+                left = owed[open];
+                let done = begins[open] as usize;
+                ends[done] = at as u16;
+            }
         }
-        if at < rows {
-            return Checked::Bad(at);
-        }
-        return Checked::Good(at);
     }
+    Checked::Bad(at)
 }

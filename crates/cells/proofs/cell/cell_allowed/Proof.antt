@@ -1,5 +1,6 @@
 -- The tests of a cell, in their order.
 use mathlib.Core.Path.{sym, _∙_}
+use mathlib.Core.Bool.{and-false}
 use borrow.Author.Needs.{needs}
 use borrow.Author.Tests.{eq-eqb, ne-eqb, not-true, not-false}
 use Rattle.rules.specs.Cells.{cellAllowed}
@@ -24,27 +25,27 @@ returns-3 : tie.Need-returns-3
 unfolding cellAllowed
 returns-3 c = rw (c .before .before .before .if1 .left, eq-eqb (c .before .before .before .before .args .mark) 0 (c .before .before .if3 .taken), sym (c .before .time-allowed .ensures) ∙ not-true (c .before .time-allowed .result) (c .if4 .taken))
 
-last-place-requires : tie.Need-last-place-requires
-last-place-requires c κs = search needs
+place-allowed-requires : tie.Need-place-allowed-requires
+place-allowed-requires c κs = search needs
 
 returns-4 : tie.Need-returns-4
 unfolding cellAllowed
-returns-4 c = rw (c .before .before .before .before .if1 .left, eq-eqb (c .before .before .before .before .before .args .mark) 0 (c .before .before .before .if3 .taken), sym (c .before .before .time-allowed .ensures) ∙ not-false (c .before .before .time-allowed .result) (c .before .if4 .left), c .last-place .ensures)
+returns-4 c = rw (c .before .before .before .before .if1 .left, eq-eqb (c .before .before .before .before .before .args .mark) 0 (c .before .before .before .if3 .taken), sym (c .before .before .time-allowed .ensures) ∙ not-false (c .before .before .time-allowed .result) (c .before .if4 .left)) (c .place-allowed .ensures)
 
 returns-5 : tie.Need-returns-5
 unfolding cellAllowed
-returns-5 c = rw (c .before .before .if1 .left, ne-eqb (c .before .before .before .args .mark) 0 (c .before .if3 .left), ne-eqb (c .before .before .before .args .mark) 1 (c .if5 .taken))
+returns-5 c = rw (c .before .before .if1 .left, ne-eqb (c .before .before .before .args .mark) 0 (c .before .if3 .left), not-true (c .before .before .before .args .may-end) (c .if5 .taken), and-false)
 
 returns-6 : tie.Need-returns-6
 unfolding cellAllowed
-returns-6 c = rw (c .before .before .before .if1 .left, ne-eqb (c .before .before .before .before .args .mark) 0 (c .before .before .if3 .left), eq-eqb (c .before .before .before .before .args .mark) 1 (c .before .if5 .left), not-true (c .before .before .before .before .args .may-end) (c .if6 .taken))
+returns-6 c = rw (c .before .before .before .if1 .left, ne-eqb (c .before .before .before .before .args .mark) 0 (c .before .before .if3 .left), ne-eqb (c .before .before .before .before .args .mark) 1 (c .if6 .taken))
 
 at-start-requires-2 : tie.Need-at-start-requires-2
 at-start-requires-2 c κs = search needs
 
 returns-7 : tie.Need-returns-7
 unfolding cellAllowed
-returns-7 c = rw (c .before .before .before .before .if1 .left, ne-eqb (c .before .before .before .before .before .args .mark) 0 (c .before .before .before .if3 .left), eq-eqb (c .before .before .before .before .before .args .mark) 1 (c .before .before .if5 .left), not-false (c .before .before .before .before .before .args .may-end) (c .before .if6 .left)) (c .at-start2 .ensures)
+returns-7 c = rw (c .before .before .before .before .if1 .left, ne-eqb (c .before .before .before .before .before .args .mark) 0 (c .before .before .before .if3 .left), not-false (c .before .before .before .before .before .args .may-end) (c .before .before .if5 .left), eq-eqb (c .before .before .before .before .before .args .mark) 1 (c .before .if6 .left)) (c .at-start2 .ensures)
 
 pub cell-allowed-spec : {M : Type 1} → statement M
 cell-allowed-spec =
@@ -55,7 +56,7 @@ cell-allowed-spec =
     returns-2
     time-allowed-requires
     returns-3
-    last-place-requires
+    place-allowed-requires
     returns-4
     returns-5
     returns-6

@@ -4,7 +4,7 @@ use Prim.Native.Nat.{_≤_}
 use native.Mathlib.Omega.{arith}
 use borrow.Author.Needs.{needs}
 use Rattle.cells.specs.Check.{stillOpen}
-use Rattle.cells.proofs.Still.{stays, drops, ends}
+use Rattle.cells.proofs.Still.{all-stay, drops, ends}
 use Rattle.cells.proofs.check.still_open.Statement.{statement}
 use Rattle.cells.proofs.check.still_open.Tie as tie
 
@@ -27,7 +27,7 @@ element-copy-out-if1 : tie.Need-element-copy-out-if1 Inv-loop μ-loop
 element-copy-out-if1 c = search needs
 
 returns : tie.Need-returns Inv-loop μ-loop
-returns c = sym (stays (c .before .before .before .before .args .stops .now) (c .before .before .before .before .args .at) (c .before .before .before .loop .left) (c .before .before .loop-test .taken) (c .if1 .taken)) ∙ c .before .before .before .loop .inv .1
+returns c = sym (all-stay (c .before .before .before .before .args .stops .now) (c .before .before .before .before .args .at) (c .before .before .before .loop .left) (omega arith) (c .if1 .taken)) ∙ c .before .before .before .loop .inv .1
 
 loop-less : tie.Need-loop-less Inv-loop μ-loop
 loop-less c = search needs

@@ -13,11 +13,11 @@ use Rattle.drivers.proofs.loops.loop_next.Tie as tie
 returns : tie.Need-returns
 unfolding loopNext
 returns c =
-    let two = c .before .before .before .before .before .before .before .before .before in
+    let two = c .before .before .before .before .before .before .before .before in
     let end = two .before .before .before .before in
     let number = end .before .before .before in
     let one = number .before .before .before .before .before .before .before in
-    (λ ks ls bs. rw (← number .number-at .ensures, ← end .before .before .down .ensures, lt-ltb _ _ (end .before .if1 .taken), c .due .ensures, c .before .up .ensures, c .before .before .rest .ensures) (next {R = state _ _ _ bs} (rw (end .end-at .ensures)) (freshened-two _ _ _ _ _ _ bs (end .end-at .ensures) (one .fresh-node .ensures) (two .fresh-node2 .ensures))), held-small (c .due .ensures) (last-small _ _ (c .before .up .ensures) (end .before .before .down .ensures) (end .before .if1 .taken) (omega arith)))
+    (λ ks ls bs. rw (← number .number-at .ensures, ← end .before .before .down .ensures, lt-ltb _ _ (end .before .if1 .taken), c .due .ensures, c .before .up .ensures) (next {R = state _ _ _ bs} (rw (end .end-at .ensures)) (freshened-two _ _ _ _ _ _ bs (end .end-at .ensures) (one .fresh-node .ensures) (two .fresh-node2 .ensures))), held-small (c .due .ensures) (last-small _ _ (c .before .up .ensures) (end .before .before .down .ensures) (end .before .if1 .taken) (omega arith)))
 
 returns-2 : tie.Need-returns-2
 unfolding loopNext
@@ -32,7 +32,6 @@ pub loop-next-spec : {M : Type 1} → statement M
 loop-next-spec =
     tie.close
     (tie.spec
-    (λ c κs. search needs)
     (λ c κs. search needs)
     (λ c κs. search needs)
     (λ c κs. search needs)

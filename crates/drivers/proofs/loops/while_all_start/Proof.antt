@@ -10,8 +10,8 @@ use Rattle.drivers.proofs.loops.while_all_start.Tie as tie
 returns : tie.Need-returns
 unfolding whileAllStart
 returns c =
-    let test = c .before .before .before in
-    (λ ks ls ts ms bs. rw (← test .before .place-at .ensures, eq-eqb _ _ (test .if1 .taken), c .holding .ensures, c .before .dt .ensures, c .before .before .first .ensures), held-small (c .holding .ensures) (omega arith))
+    let test = c .before .before in
+    (λ ks ls ts ms bs. rw (← test .before .place-at .ensures, eq-eqb _ _ (test .if1 .taken), c .holding .ensures, c .before .first .ensures), held-small (c .holding .ensures) (omega arith))
 
 returns-2 : tie.Need-returns-2
 unfolding whileAllStart
@@ -30,7 +30,6 @@ pub while-all-start-spec : {M : Type 1} → statement M
 while-all-start-spec =
     tie.close
     (tie.spec
-    (λ c κs. search needs)
     (λ c κs. search needs)
     (λ c κs. search needs)
     (λ c κs. search needs)

@@ -10,9 +10,8 @@ use Rattle.drivers.proofs.loops.while_all_turn.Tie as tie
 returns : tie.Need-returns
 unfolding whileAllTurn
 returns c =
-    let rest = c .before in
-    let test = rest .before .before .before in
-    (λ ks ls bs. rw (eq-eqb _ _ (test .if1 .taken), rest .before .enum-told .given .1, ← rest .rest .ensures, c .loop-start .ensures .0 ks ls), c .loop-start .ensures .1)
+    let arm = c .before in
+    (λ ks ls bs. rw (eq-eqb _ _ (arm .before .before .if1 .taken), arm .enum-told .given .1, c .loop-start .ensures .0 ks ls), c .loop-start .ensures .1)
 
 returns-2 : tie.Need-returns-2
 unfolding whileAllTurn setPlace
@@ -54,7 +53,6 @@ while-all-turn-spec =
     tie.close
     (tie.spec
     (λ c. search needs)
-    (λ c κs. search needs)
     (λ c κs. search needs)
     (λ c. search needs)
     (λ c κs. search needs)

@@ -42,16 +42,17 @@ returns-6 : tie.Need-returns-6
 unfolding whileTurn
 returns-6 c =
     let went = c .before .before .before .before .before .before in
-    let arm = went .before .before .before .before in
-    let test = arm .before .before .before .before in
-    (λ ks ls bs. rw (test .if1 .left, arm .before .before .enum-told6 .given .1, arm .enum-told7 .given .1) (went .body-next .ensures .0 ks ls bs), went .body-next .ensures .1)
+    let event = went .before .before .before .before in
+    let arm = event .before in
+    (λ ks ls bs. rw (arm .before .before .if1 .left, arm .enum-told6 .given .1, event .if2 .taken) (went .body-next .ensures .0 ks ls bs), went .body-next .ensures .1)
 
 returns-7 : tie.Need-returns-7
 unfolding whileTurn setPlace
 returns-7 c =
     let put = c .before .before .before in
-    let arm = put .before .before .before .before in
-    (λ ks ls bs. rw (arm .before .before .if1 .left, arm .enum-told6 .given .1, put .before .before .enum-told8 .given .1, c .waiting2 .ensures, put .put-place3 .ensures), over-small (c .waiting2 .ensures))
+    let event = put .before .before in
+    let arm = event .before in
+    (λ ks ls bs. rw (arm .before .before .if1 .left, arm .enum-told6 .given .1, event .if2 .left, c .waiting2 .ensures, put .put-place3 .ensures), over-small (c .waiting2 .ensures))
 
 pub while-turn-spec : {M : Type 1} → statement M
 while-turn-spec =
@@ -70,9 +71,7 @@ while-turn-spec =
     (λ c κs. search needs)
     (λ c κs. search needs)
     (λ c. search needs)
-    (λ c. search needs)
     (λ c κs. search needs)
-    (λ c. search needs)
     (λ c κs. search needs)
     (λ c κs. search needs)
     (λ c. search needs)

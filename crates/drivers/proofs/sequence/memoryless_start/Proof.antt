@@ -13,7 +13,7 @@ unfolding memorylessStart clear
 returns c =
     let test = c .before .before .before in
     let fresh = test .before .before .before .before .before .before .before .before in
-    (λ ks ls bs. rw (← test .before .number-at .ensures, test .if1 .taken, ← fresh .before .before .before .before .before .first .ensures, ← fresh .before .end-at .ensures, c .ended .ensures, c .before .before .exchange-if .ensures, c .before .dt .ensures, fresh .fresh .ensures .0, fresh .fresh .ensures .1 .0, fresh .fresh .ensures .1 .1), over-small (c .ended .ensures))
+    (λ ks ls bs. rw (← test .before .number-at .ensures, test .if1 .taken, ← fresh .before .before .before .before .before .first .ensures, ← fresh .before .end-at .ensures, c .ended .ensures, c .before .before .exchange-if .ensures, c .before .passed .ensures, fresh .fresh .ensures .0, fresh .fresh .ensures .1 .0, fresh .fresh .ensures .1 .1), over-small (c .ended .ensures))
 
 returns-2 : tie.Need-returns-2
 unfolding memorylessStart clear

@@ -27,7 +27,7 @@ returns-3 c =
     let test = fresh .before .before .before .before in
     let arm = test .before .before .before in
     let exch = arm .before .before in
-    (λ ks ls bs. rw (← exch .exchange-if .ensures, arm .enum-told3 .given .1, ← test .before .before .number-at .ensures, ← test .before .more .ensures, test .if1 .taken, c .due .ensures, end .end-at .ensures, exch .before .rest .ensures, c .before .up .ensures) (next refl (freshened-node _ _ _ _ _ _ (fresh .fresh-node .ensures))), held-small (c .due .ensures) (next-small _ _ (c .before .up .ensures) (test .before .more .ensures) (test .if1 .taken) (omega arith)))
+    (λ ks ls bs. rw (← exch .exchange-if .ensures, arm .enum-told3 .given .1, ← test .before .before .number-at .ensures, ← test .before .more .ensures, test .if1 .taken, c .due .ensures, end .end-at .ensures, c .before .up .ensures) (next refl (freshened-node _ _ _ _ _ _ (fresh .fresh-node .ensures))), held-small (c .due .ensures) (next-small _ _ (c .before .up .ensures) (test .before .more .ensures) (test .if1 .taken) (omega arith)))
 
 returns-4 : tie.Need-returns-4
 unfolding memorylessTurn
@@ -35,13 +35,12 @@ returns-4 c =
     let test = c .before .before in
     let arm = test .before .before .before in
     let exch = arm .before .before in
-    (λ ks ls bs. rw (← exch .exchange-if .ensures, arm .enum-told3 .given .1, ← test .before .before .number-at .ensures, ← test .before .more .ensures, test .if1 .left, c .ended2 .ensures, c .before .dt .ensures, exch .before .rest .ensures), over-small (c .ended2 .ensures))
+    (λ ks ls bs. rw (← exch .exchange-if .ensures, arm .enum-told3 .given .1, ← test .before .before .number-at .ensures, ← test .before .more .ensures, test .if1 .left, c .ended2 .ensures, c .before .passed .ensures), over-small (c .ended2 .ensures))
 
 pub memoryless-turn-spec : {M : Type 1} → statement M
 memoryless-turn-spec =
     tie.close
     (tie.spec
-    (λ c κs. search needs)
     (λ c κs. search needs)
     (λ c. search needs)
     (λ c κs. search needs)

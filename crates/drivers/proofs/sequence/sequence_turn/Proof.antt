@@ -26,42 +26,42 @@ returns-3 : tie.Need-returns-3
 unfolding sequenceTurn setPlace
 returns-3 c =
     let event = c .before .before in
-    let two = event .before .before .before .before .before .before .before .before in
+    let two = event .before .before .before .before .before .before .before in
     let one = two .before .before .before .before .before .before .before .before .before .before in
     let end = one .before .before .before .before in
     let test = end .before in
     let arm = test .before .before .before in
-    (λ ks ls bs. rw (← arm .before .before .exchange-if .ensures, arm .enum-told3 .given .1, ← test .before .before .number-at .ensures, ← test .before .more .ensures, test .if1 .taken, event .enum-told4 .given .1, c .due .ensures, c .before .up .ensures, end .end-at .ensures) (next refl (freshened-two _ _ _ _ _ _ _ (end .end-at .ensures) (one .fresh-node .ensures) (two .fresh-node2 .ensures))), held-small (c .due .ensures) (next-small _ _ (c .before .up .ensures) (test .before .more .ensures) (test .if1 .taken) (omega arith)))
+    (λ ks ls bs. rw (← arm .before .before .exchange-if .ensures, arm .enum-told3 .given .1, ← test .before .before .number-at .ensures, ← test .before .more .ensures, test .if1 .taken, event .if2 .taken, c .due .ensures, c .before .up .ensures, end .end-at .ensures) (next refl (freshened-two _ _ _ _ _ _ _ (end .end-at .ensures) (one .fresh-node .ensures) (two .fresh-node2 .ensures))), held-small (c .due .ensures) (next-small _ _ (c .before .up .ensures) (test .before .more .ensures) (test .if1 .taken) (omega arith)))
 
 returns-4 : tie.Need-returns-4
 unfolding sequenceTurn setPlace
 returns-4 c =
     let put = c .before .before .before in
     let event = put .before .before .before in
-    let two = event .before .before .before .before .before .before .before .before in
+    let two = event .before .before .before .before .before .before .before in
     let one = two .before .before .before .before .before .before .before .before .before .before in
     let end = one .before .before .before .before in
     let test = end .before in
     let arm = test .before .before .before in
-    (λ ks ls bs. rw (← arm .before .before .exchange-if .ensures, arm .enum-told3 .given .1, ← test .before .before .number-at .ensures, ← test .before .more .ensures, test .if1 .taken, event .enum-told5 .given .1, c .waiting2 .ensures, put .put-place3 .ensures, put .before .up2 .ensures) (next refl (ap (setPlace _ _) (freshened-two _ _ _ _ _ _ _ (end .end-at .ensures) (one .fresh-node .ensures) (two .fresh-node2 .ensures)))), over-small (c .waiting2 .ensures))
+    (λ ks ls bs. rw (← arm .before .before .exchange-if .ensures, arm .enum-told3 .given .1, ← test .before .before .number-at .ensures, ← test .before .more .ensures, test .if1 .taken, event .if2 .left, c .waiting2 .ensures, put .put-place3 .ensures, put .before .up2 .ensures) (next refl (ap (setPlace _ _) (freshened-two _ _ _ _ _ _ _ (end .end-at .ensures) (one .fresh-node .ensures) (two .fresh-node2 .ensures)))), over-small (c .waiting2 .ensures))
 
 returns-5 : tie.Need-returns-5
 unfolding sequenceTurn setPlace
 returns-5 c =
     let put = c .before .before .before in
     let event = put .before .before .before in
-    let test = event .before .before in
+    let test = event .before in
     let arm = test .before .before .before in
-    (λ ks ls bs. rw (← arm .before .before .exchange-if .ensures, arm .enum-told3 .given .1, ← test .before .before .number-at .ensures, ← test .before .more .ensures, test .if1 .left, event .enum-told6 .given .1, c .ended2 .ensures, put .put-place4 .ensures, put .before .up3 .ensures), over-small (c .ended2 .ensures))
+    (λ ks ls bs. rw (← arm .before .before .exchange-if .ensures, arm .enum-told3 .given .1, ← test .before .before .number-at .ensures, ← test .before .more .ensures, test .if1 .left, event .if3 .taken, c .ended2 .ensures, put .put-place4 .ensures, put .before .up3 .ensures), over-small (c .ended2 .ensures))
 
 returns-6 : tie.Need-returns-6
 unfolding sequenceTurn setPlace
 returns-6 c =
     let put = c .before .before .before in
     let event = put .before .before in
-    let test = event .before .before in
+    let test = event .before in
     let arm = test .before .before .before in
-    (λ ks ls bs. rw (← arm .before .before .exchange-if .ensures, arm .enum-told3 .given .1, ← test .before .before .number-at .ensures, ← test .before .more .ensures, test .if1 .left, event .enum-told7 .given .1, c .ended3 .ensures, put .put-place5 .ensures), over-small (c .ended3 .ensures))
+    (λ ks ls bs. rw (← arm .before .before .exchange-if .ensures, arm .enum-told3 .given .1, ← test .before .before .number-at .ensures, ← test .before .more .ensures, test .if1 .left, event .if3 .left, c .ended3 .ensures, put .put-place5 .ensures), over-small (c .ended3 .ensures))
 
 pub sequence-turn-spec : {M : Type 1} → statement M
 sequence-turn-spec =
@@ -80,18 +80,14 @@ sequence-turn-spec =
     (λ c κs. search needs)
     (λ c κs. search needs)
     (λ c κs. search needs)
-    (λ c. search needs)
-    (λ c κs. search needs)
-    (λ c κs. search needs)
-    (λ c. search needs)
     (λ c κs. search needs)
     (λ c κs. search needs)
     (λ c κs. search needs)
-    (λ c. search needs)
     (λ c κs. search needs)
     (λ c κs. search needs)
     (λ c κs. search needs)
-    (λ c. search needs)
+    (λ c κs. search needs)
+    (λ c κs. search needs)
     (λ c κs. search needs)
     (λ c κs. search needs)
     (λ c. search needs)

@@ -19,7 +19,7 @@ returns c =
 
 returns-2 : tie.Need-returns-2
 unfolding actionRan
-returns-2 c = rw (used-up _ _ _ (⊎-elim (λ w. inr (w .1 .left)) (λ w. inl (w .left)) (c .before .before .if1 .came)), c .number-at .ensures, c .before .dt .ensures)
+returns-2 c = rw (used-up _ _ _ (⊎-elim (λ w. inr (w .1 .left)) (λ w. inl (w .left)) (c .before .before .if1 .came)), c .number-at .ensures, c .before .passed .ensures)
 
 pub action-spec : {M : Type 1} → statement M
 action-spec =

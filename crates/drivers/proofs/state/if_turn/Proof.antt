@@ -19,15 +19,15 @@ returns-2 : tie.Need-returns-2
 unfolding ifTurn
 returns-2 c =
     let chosen = c .before .before .before .before .before .before in
-    let arm = chosen .before .before .before .before .before in
-    (λ ks nn ls bs. rw (eq-eqb _ _ (arm .before .before .if1 .taken), arm .enum-told2 .given .1, ← chosen .before .rest .ensures) (chosen .choose .ensures .0 ks nn ls bs), omega (arith, chosen .choose .ensures .1))
+    let arm = chosen .before .before .before .before in
+    (λ ks nn ls bs. rw (eq-eqb _ _ (arm .before .before .if1 .taken), arm .enum-told2 .given .1) (chosen .choose .ensures .0 ks nn ls bs), omega (arith, chosen .choose .ensures .1))
 
 returns-3 : tie.Need-returns-3
 unfolding ifTurn
 returns-3 c =
     let chosen = c .before .before .before .before .before .before in
-    let arm = chosen .before .before .before .before .before in
-    (λ ks nn ls bs. rw (eq-eqb _ _ (arm .before .before .if1 .taken), arm .enum-told3 .given .1, ← chosen .before .rest2 .ensures) (chosen .choose2 .ensures .0 ks nn ls bs), omega (arith, chosen .choose2 .ensures .1))
+    let arm = chosen .before .before .before .before in
+    (λ ks nn ls bs. rw (eq-eqb _ _ (arm .before .before .if1 .taken), arm .enum-told3 .given .1) (chosen .choose2 .ensures .0 ks nn ls bs), omega (arith, chosen .choose2 .ensures .1))
 
 returns-4 : tie.Need-returns-4
 unfolding ifTurn setPlace
@@ -44,9 +44,7 @@ if-turn-spec =
     (λ c κs. search needs)
     (λ c. search needs)
     (λ c κs. search needs)
-    (λ c κs. search needs)
     (λ c. search needs)
-    (λ c κs. search needs)
     (λ c κs. search needs)
     (λ c κs. search needs)
     (λ c κs. search needs)

@@ -12,7 +12,7 @@ returns c =
     let put = c .before .before .before .before in
     let time = put .before .before .before in
     let arm = time .before .before .before in
-    (λ ks nn es ps ms bs. rw (arm .enum-told .given .1, ← time .before .before .limit-at .ensures, ← time .time-at .ensures, ← put .before .before .dt .ensures, c .before .if1 .taken, c .ended .ensures, put .put-time .ensures), over-small (c .ended .ensures))
+    (λ ks nn es ps ms bs. rw (arm .enum-told .given .1, ← time .before .before .limit-at .ensures, ← time .time-at .ensures, ← put .before .before .passed .ensures, c .before .if1 .taken, c .ended .ensures, put .put-time .ensures), over-small (c .ended .ensures))
 
 returns-2 : tie.Need-returns-2
 unfolding timeoutTurn setTime
@@ -20,7 +20,7 @@ returns-2 c =
     let put = c .before .before .before .before in
     let time = put .before .before .before in
     let arm = time .before .before .before in
-    (λ ks nn es ps ms bs. rw (arm .enum-told .given .1, ← time .before .before .limit-at .ensures, ← time .time-at .ensures, ← put .before .before .dt .ensures, c .before .if1 .left, c .waiting .ensures, put .put-time .ensures), over-small (c .waiting .ensures))
+    (λ ks nn es ps ms bs. rw (arm .enum-told .given .1, ← time .before .before .limit-at .ensures, ← time .time-at .ensures, ← put .before .before .passed .ensures, c .before .if1 .left, c .waiting .ensures, put .put-time .ensures), over-small (c .waiting .ensures))
 
 returns-3 : tie.Need-returns-3
 unfolding timeoutTurn

@@ -9,31 +9,30 @@ use lib.Ieee.{Float}
 use borrow.Author.Needs.{needs}
 use borrow.Author.Tests.{ne-eqb}
 use Rattle.rules.specs.declared.status.Status.the-variants.{Success}
-use Rattle.rules.specs.declared.event.Event.{Event}
 use Rattle.runs.specs.Runs.{Table, State, tableOf, state, endOf, markAt}
 use Rattle.drivers.specs.Turns.{whenFrom, heldTurn, overTurn, waitingTurn, exchangeIf}
 use Rattle.drivers.proofs.Laws.{over-small, held-small}
 use Rattle.drivers.proofs.when_all.when_from.Statement.{statement}
 use Rattle.drivers.proofs.when_all.when_from.Tie as tie
 
-module _ (any : Bool) (T : Table) (n q i : ℕ) (e : Event) (least : Float) (all : Bool) (S : State) where
-  marked : {r : ℕ} {m : ℕ} → i < n → r ≡ markAt S q → r ≡ 1 → m ≡ endOf T q → whenFrom any T (n - i) q i e least all S ≡ whenFrom any T (n - (i + 1)) m (i + 1) e least all S
+module _ (any : Bool) (T : Table) (n q i : ℕ) (x : Float) (least : Float) (all : Bool) (S : State) where
+  marked : {r : ℕ} {m : ℕ} → i < n → r ≡ markAt S q → r ≡ 1 → m ≡ endOf T q → whenFrom any T (n - i) q i x least all S ≡ whenFrom any T (n - (i + 1)) m (i + 1) x least all S
   unfolding whenFrom
-  marked h g d x = let k : n - i ≡ suc (n - (i + 1)) = omega arith in rw (k, ← g, d, x, add-one)
+  marked h g d y = let k : n - i ≡ suc (n - (i + 1)) = omega arith in rw (k, ← g, d, y, add-one)
 
-  unmarked : {r : ℕ} → i < n → r ≡ markAt S q → (r ≡ 1 → ⊥) → whenFrom any T (n - i) q i e least all S ≡ heldTurn q e i least 0 all
+  unmarked : {r : ℕ} → i < n → r ≡ markAt S q → (r ≡ 1 → ⊥) → whenFrom any T (n - i) q i x least all S ≡ heldTurn q x i least 0 all
   unfolding whenFrom
   unmarked {r} h g d = let k : n - i ≡ suc (n - (i + 1)) = omega arith in rw (k, ← g, ne-eqb r 1 d)
 
-  none : n ≤ i → whenFrom any T (n - i) q i e least all S ≡ cond all (overTurn (exchangeIf any Success) least) waitingTurn
+  none : n ≤ i → whenFrom any T (n - i) q i x least all S ≡ cond all (overTurn (exchangeIf any Success) least) waitingTurn
   unfolding whenFrom
   none h = let k : n - i ≡ 0 = omega arith in rw k
 
 abbrev Inv-loop : tie.InvT-loop
-Inv-loop any n ends marks q0 i0 event least all q₀ i₀ q i = (ks nn : List ℕ) (ls ts : List Float) (ps bs : List ℕ) → whenFrom any (tableOf ks nn ls ends) (n - i0) q0 i0 event least all (state ts ps marks bs) ≡ whenFrom any (tableOf ks nn ls ends) (n - i) q i event least all (state ts ps marks bs)
+Inv-loop any n ends marks q0 i0 dt least all q₀ i₀ q i = (ks nn : List ℕ) (ls ts : List Float) (ps bs : List ℕ) → whenFrom any (tableOf ks nn ls ends) (n - i0) q0 i0 dt least all (state ts ps marks bs) ≡ whenFrom any (tableOf ks nn ls ends) (n - i) q i dt least all (state ts ps marks bs)
 
 abbrev μ-loop : tie.MeasureT-loop
-μ-loop any n ends marks q0 i0 event least all q₀ i₀ q i = n - i
+μ-loop any n ends marks q0 i0 dt least all q₀ i₀ q i = n - i
 
 loop-holds : tie.Need-loop-holds Inv-loop μ-loop
 loop-holds c ks nn ls ts ps bs = refl

@@ -12,7 +12,7 @@ returns : tie.Need-returns
 unfolding whenStart ofBits
 returns c =
     let test = c .before .before .before in
-    (λ ks ls ts ps bs. rw (← test .before .number-at .ensures, test .if1 .taken, c .ended .ensures, c .before .before .exchange-if .ensures, c .before .dt .ensures), over-small (c .ended .ensures))
+    (λ ks ls ts ps bs. rw (← test .before .number-at .ensures, test .if1 .taken, c .ended .ensures, c .before .before .exchange-if .ensures, c .before .passed .ensures), over-small (c .ended .ensures))
 
 returns-2 : tie.Need-returns-2
 unfolding whenStart ofBits
