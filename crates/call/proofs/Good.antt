@@ -10,7 +10,7 @@ use Rattle.rules.specs.Table.{Table, good, bad, table}
 use Rattle.tables.specs.declared.table.Checked.{Checked}
 use Rattle.tables.specs.declared.table.Checked.the-variants as checked
 use Rattle.tables.specs.At.{At, Ats}
-use Rattle.tables.specs.Checks.{checkedOf, Standing, Laid, Tabled}
+use Rattle.tables.specs.Checks.{checkedOf, Laid, Tabled}
 use Rattle.tables.proofs.Placed.{at-end}
 use Rattle.tables.proofs.Rows.{length-rows}
 use Rattle.link.specs.Ends.{EndsAt, EndsAll}

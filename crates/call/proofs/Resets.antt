@@ -17,7 +17,6 @@ use Rattle.rules.specs.Cells.{column, columns, timeOf, placeOf, markOf}
 use Rattle.rules.specs.Call.{Run, run, runLength, ontoRun, resetLeft, resetCall}
 use Rattle.runs.specs.Runs.{clear}
 use Rattle.calls.specs.Tables.{tabled, tabled-fresh}
-use Rattle.call.specs.Onto.{Long}
 use Rattle.call.proofs.Good.{Good}
 use Rattle.call.proofs.Long.{long}
 

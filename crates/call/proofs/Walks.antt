@@ -14,20 +14,20 @@ use Rattle.rules.specs.declared.answer.Answer.{Answer}
 use Rattle.rules.specs.declared.answer.Answer.the-variants.{Ticked, Asked, OutOfFuel}
 use Rattle.rules.specs.declared.answer.Record.{Record}
 use Rattle.rules.specs.Tree.{Cell, Tree, size}
-use Rattle.rules.specs.Outcome.{World, world, Out, done, asks, short}
+use Rattle.rules.specs.Outcome.{world, Out, done, asks, short}
 use Rattle.rules.specs.State.{tick}
 use Rattle.rules.specs.Table.{mostDeep}
-use Rattle.rules.specs.Cells.{cells, withCells, column, timeOf, placeOf, markOf, boardOf}
+use Rattle.rules.specs.Cells.{cells, column, timeOf, placeOf, markOf, boardOf}
 use Rattle.rules.specs.Call.{Given, Run, run, left, answers, counted, ontoRun, ontoBoard, walked, tickCall}
-use Rattle.runs.specs.Runs.{State, state, tableOf}
+use Rattle.runs.specs.Runs.{State, tableOf}
 use Rattle.runs.specs.FlatRules.{ftick}
 use Rattle.drivers.specs.declared.turn.Ran.{Ran}
 use Rattle.drivers.specs.Turns.{outOf}
-use Rattle.link.specs.Shape.{shape, same-size, with-shape, columnsOf, column-behind, time-column, place-column, mark-column}
+use Rattle.link.specs.Shape.{same-size, with-shape, columnsOf, column-behind, time-column, place-column, mark-column}
 use Rattle.link.specs.Kept.{tick-size}
 use Rattle.link.specs.Loaded.{inColumns, whole-cut}
-use Rattle.call.specs.Onto.{onto, Long, ontoCells}
-use Rattle.call.specs.Due.{loaded, walkOf, Due}
+use Rattle.call.specs.Onto.{onto, ontoCells}
+use Rattle.call.specs.Due.{loaded, Due}
 use Rattle.call.specs.Part.{part, Behind}
 use Rattle.call.specs.Told.{told}
 

@@ -1,5 +1,4 @@
 -- The first elements of a run put over those of another; what stands behind stays.
-use mathlib.Core.Path.{_≡_}
 use mathlib.Core.List.{List, _++_}
 use Prim.Native.Nat.{ℕ, _≤_}
 use lib.ListN.{length, take, drop}

@@ -4,9 +4,6 @@ use rules::Status;
 use runs::put_board;
 ghost use mathlib.Core.Path.{_≡_};
 ghost use mathlib.Core.Bool.{true, false};
-ghost use Prim.Native.Nat.{ℕ, _≤_};
-ghost use lib.Ieee.{Float};
-ghost use mathlib.Core.List.{List};
 ghost use Rattle.rules.specs.declared.status.Status.the-variants.{Running};
 ghost use Rattle.rules.specs.Tree.{zeroTime};
 ghost use Rattle.rules.specs.Outcome.{smaller};
@@ -25,9 +22,9 @@ pub struct Ran {
 }
 
 // What a driver does next: its node is over, with a status and what is left; else the child i, at q,
-// is due with dt, which counts only in an update. Until it is over, left is what the driver holds on to: the least leftover so
-// far, or the rest that a condition does not get; all says that no child was Running so far, or that
-// a condition is due; place is where After stands.
+// is due with dt, which counts only in an update. Until it is over, left is what the driver holds on
+// to: the least leftover so far, or the rest that a condition does not get; all says that no child
+// was Running so far, or that a condition is due; place is where After stands.
 pub struct Turn {
     pub over: bool,
     pub status: Status,

@@ -12,7 +12,7 @@ use lib.Seq.{length-take-le}
 use borrow.Author.Tests.{ltb-true, leb-true}
 use Rattle.rules.specs.declared.event.Event.{Event}
 use Rattle.rules.specs.Kinds.{kindOf, fewest, most, children}
-use Rattle.rules.specs.Tree.{zeroTime, Tree, node, Forest, [], _∷_, size, sizes, count}
+use Rattle.rules.specs.Tree.{zeroTime, Tree, Forest, [], _∷_, size, sizes, count}
 use Rattle.rules.specs.Outcome.{World, Out, done, asks, short, _▸_}
 use Rattle.rules.specs.State.{tick}
 use Rattle.rules.specs.Table.{mostNodes, mostDeep, Row, row, rows, rowAllowed, countAllowed, limitAllowed, Read, got, fault, _andThen_, readChildren, readTree, good, table}

@@ -11,8 +11,7 @@ use Rattle.rules.specs.declared.behavior.Kind.{Kind}
 use Rattle.rules.specs.declared.behavior.Kind.the-variants.{Wait, WaitForever, Action, Invert, AlwaysSucceed, Timeout, Select, If, Sequence, MemorylessSequence, MemorylessSelector, While, WhileAll, WhenAll, WhenAny, After, Race}
 use Rattle.rules.specs.declared.status.Status.{Status}
 use Rattle.rules.specs.Kinds.{code, kindOf, is}
-use Rattle.rules.specs.Loops.{budget}
-use Rattle.rules.specs.Outcome.{World, world, Out, done, _▸_, waiting}
+use Rattle.rules.specs.Outcome.{World, world, Out, _▸_, waiting}
 use Rattle.runs.specs.Runs.{Table, State}
 use Rattle.runs.specs.FlatRules.{FTicker, fexchanging, frule}
 use Rattle.drivers.specs.declared.turn.Turn.{Turn}

@@ -12,8 +12,6 @@ use borrow.Author.Tests.{lt-ltb, ltb-true, ltb-false, eqb-true, eqb-false}
 use Rattle.rules.specs.declared.behavior.Kind.the-variants.{Select, Sequence, MemorylessSequence, MemorylessSelector}
 use Rattle.rules.specs.declared.status.Status.{Status}
 use Rattle.rules.specs.declared.status.Status.the-variants.{Running, Success, Failure}
-use Rattle.rules.specs.declared.event.Event.{Event}
-use Rattle.rules.specs.declared.event.Event.the-variants.{Update, Other}
 use Rattle.rules.specs.Outcome.{World, Out, done, asks, short, _▸_, waiting, exchanged, exchange}
 use Rattle.drivers.specs.declared.turn.Turn.{Turn}
 use Rattle.runs.specs.Runs.{Table, State, state, numberAt, endOf, placeAt, setPlace, freshen, first, up}

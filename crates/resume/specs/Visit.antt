@@ -1,24 +1,23 @@
 -- A visit, from its node's rule; and the rule of an Action, from the answers that are lent.
 use mathlib.Core.Path.{_≡_, refl, sym, ap, _∙_}
-use mathlib.Core.Bool.{Bool, true, false, cond, _&&_}
+use mathlib.Core.Bool.{Bool, true, false, _&&_}
 use mathlib.Core.List.{List}
 use mathlib.Core.List
-use Prim.Native.Nat.{ℕ, zero, suc, _+_, _-_, _<_, _≤_}
+use Prim.Native.Nat.{ℕ, zero, suc, _-_, _<_, _≤_}
 use mathlib.Core.Logic.{_⊎_, inl, inr}
 use native.Mathlib.Nat.{not-suc-le-zero, le-of-suc-le-suc, le-refl}
 use native.Mathlib.Numerals.{add-one, sub-one}
 use native.Mathlib.Omega.{arith}
-use lib.Dec.{ltb, eqb}
+use lib.Dec.{ltb}
 use lib.Ieee.{Float, Format, binary64}
 use lib.ListN.{getD, length, drop}
 use borrow.Author.Tests.{ne-eqb, ltb-true, ltb-false}
-use Rattle.rules.specs.declared.behavior.Kind.{Kind}
 use Rattle.rules.specs.declared.behavior.Kind.the-variants.{Wait, WaitForever, Action}
 use Rattle.rules.specs.declared.status.Status.{Status}
 use Rattle.rules.specs.declared.event.Event.{Event}
 use Rattle.rules.specs.Tree.{zeroTime}
 use Rattle.rules.specs.Kinds.{kindOf}
-use Rattle.rules.specs.Outcome.{dt, World, world, Out, done, asks, short, _▸_, byte, statusOf}
+use Rattle.rules.specs.Outcome.{dt, World, world, Out, done, asks, _▸_, byte, statusOf}
 use Rattle.rules.specs.Call.{answers}
 use Rattle.runs.specs.Runs.{Table, State, state, setBoard, nowhere}
 use Rattle.runs.specs.FlatRules.{FTicker, frule, ftick}

@@ -1,7 +1,7 @@
 -- What holds in an arm of a `match` on a kind: it holds of the kind of each number that the arm has.
 use mathlib.Core.Path.{_≡_, refl, subst, ap, sym, _∙_}
 use mathlib.Core.List.{List, [], _∷_}
-use mathlib.Core.Logic.{_⊎_, inl, inr}
+use mathlib.Core.Logic.{inl, inr}
 use Prim.Native.Nat.{ℕ}
 use types.Run.{OneOf}
 use denote.Enum.Declared.{tagOf}

@@ -1,16 +1,15 @@
 -- The finish bound, worked out from the leaves of the tree upward: document 01, "The finish bound".
-use mathlib.Core.Bool.{Bool, true, false, cond, not, _&&_}
+use mathlib.Core.Bool.{Bool, true, cond, not, _&&_}
 use mathlib.Core.List.{List}
 use Prim.Native.Nat.{ℕ, _+_, _-_, _*_, _/_, _^_, max, min}
 use lib.Dec.{leb, eqb}
 use lib.Ieee.{Float, Format, binary32, binary64, inUnsigned, toUnsigned}
-use Rattle.rules.specs.declared.behavior.Kind.{Kind}
 use Rattle.rules.specs.declared.behavior.Kind.the-variants.{Wait, WaitForever, Action, Invert, AlwaysSucceed, Timeout, Select, If, Sequence, MemorylessSequence, MemorylessSelector, While, WhileAll, WhenAll, WhenAny, After, Race}
 use Rattle.rules.specs.declared.answer.BoundAnswer.{BoundAnswer}
 use Rattle.rules.specs.declared.answer.BoundAnswer.the-variants as says
 use Rattle.rules.specs.Kinds.{is, timed}
 use Rattle.rules.specs.Tree.{Tree, node, Forest, [], _∷_, count}
-use Rattle.rules.specs.Table.{Table, good, bad, table}
+use Rattle.rules.specs.Table.{good, bad, table}
 
 -- whole times go up to 2 ^ 40, of f32 to 2 ^ 20
 abbrev pub cap : Format → ℕ

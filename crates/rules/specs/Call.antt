@@ -1,9 +1,9 @@
 -- The whole call: what a tick and a reset answer and what they leave, refusals in their order. Document 01, "What a call can say".
 use mathlib.Core.Bool.{Bool, true, false, cond, not, _||_}
-use mathlib.Core.List.{List, map}
+use mathlib.Core.List.{List}
 use mathlib.Core.List
-use Prim.Native.Nat.{ℕ, zero, suc, _+_, _-_, _%_, _^_}
-use lib.Dec.{leb, ltb, eqb}
+use Prim.Native.Nat.{ℕ, suc, _+_, _-_, _%_, _^_}
+use lib.Dec.{leb}
 use lib.Ieee.{Float, binary64}
 use lib.ListN.{length, drop}
 use Rattle.rules.specs.declared.status.Status.{Status}
@@ -17,9 +17,9 @@ use Rattle.rules.specs.declared.answer.ResetAnswer.the-variants as reset
 use Rattle.rules.specs.declared.answer.Record.{Record}
 use Rattle.rules.specs.declared.answer.Said.{Said}
 use Rattle.rules.specs.Tree.{zeroTime, Tree, size}
-use Rattle.rules.specs.Outcome.{World, world, Out, done, asks, short, byte, statusOf}
+use Rattle.rules.specs.Outcome.{world, Out, done, asks, short, byte, statusOf}
 use Rattle.rules.specs.State.{tick}
-use Rattle.rules.specs.Table.{mostDeep, number, Table, good, bad, table}
+use Rattle.rules.specs.Table.{mostDeep, number, good, bad, table}
 use Rattle.rules.specs.Cells.{cells, withCells, column, timeOf, placeOf, markOf, boardOf, Found, faulty, none, badCell}
 
 -- a run of cells, as it is lent

@@ -7,7 +7,7 @@ use Prim.Native.Nat.{ℕ}
 use lib.IntN.{pos}
 use lib.Ieee.{Float, binary64, ofInt, toUnsigned, whole}
 use Rattle.rules.specs.declared.behavior.Kind.{Kind}
-use Rattle.rules.specs.declared.behavior.Kind.the-variants.{Wait, WaitForever, Action, Invert, AlwaysSucceed, Timeout, Select, If, Sequence, MemorylessSequence, MemorylessSelector, While, WhileAll, WhenAll, WhenAny, After, Race}
+use Rattle.rules.specs.declared.behavior.Kind.the-variants.{Wait, WaitForever, Action, Timeout, Select, Sequence, MemorylessSequence, While, WhileAll, WhenAll, WhenAny, After, Race}
 use Rattle.rules.specs.declared.status.Status.{Status}
 use Rattle.rules.specs.declared.status.Status.the-variants.{Running, Success, Failure}
 use Rattle.rules.specs.declared.event.Event.{Event}
@@ -16,12 +16,11 @@ use Rattle.rules.specs.declared.answer.Answer.{Answer}
 use Rattle.rules.specs.declared.answer.Answer.the-variants.{Ticked, Asked, Finished, OutOfFuel}
 use Rattle.rules.specs.declared.answer.BoundAnswer.{BoundAnswer}
 use Rattle.rules.specs.declared.answer.BoundAnswer.the-variants.{Within, Never, NoBound}
-use Rattle.rules.specs.declared.answer.Record.{Record}
 use Rattle.rules.specs.Kinds.{code, kindOf}
 use Rattle.rules.specs.Tree.{zeroTime, freshCell, Tree, node, Forest, [], _∷_, size, count}
 use Rattle.rules.specs.Outcome.{byte, largest}
 use Rattle.rules.specs.Cells.{column}
-use Rattle.rules.specs.Call.{Run, run, Given, Left, tickCall}
+use Rattle.rules.specs.Call.{run, Given, Left, tickCall}
 use Rattle.rules.specs.Bound.{boundCall}
 
 -- ---- trees, and their tables

@@ -1,5 +1,5 @@
 -- The kinds of nodes and the fewest and most children that each allows: document 01, "The tree and its cells".
-use mathlib.Core.Bool.{Bool, true, false, cond, _||_}
+use mathlib.Core.Bool.{Bool, cond, _||_}
 use Prim.Native.Nat.{ℕ}
 use lib.Dec.{eqb}
 use Rattle.rules.specs.declared.behavior.Kind.{Kind}

@@ -1,7 +1,7 @@
 -- What a visit is given and what it gives: document 01, "One tick", its first two paragraphs.
-use mathlib.Core.Bool.{Bool, true, false, cond}
+use mathlib.Core.Bool.{false, cond}
 use mathlib.Core.List.{List}
-use Prim.Native.Nat.{ℕ, suc}
+use Prim.Native.Nat.{ℕ}
 use lib.Dec.{eqb}
 use lib.Ieee.{Float, fin, Format, binary32, binary64, lt}
 use lib.IntN.{pos}

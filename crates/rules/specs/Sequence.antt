@@ -1,6 +1,5 @@
 -- Sequence and the memoryless forms: document 01, "One tick". Each driver is given the ticker of the children.
 use Prim.Native.Nat.{ℕ, zero, suc}
-use Rattle.rules.specs.declared.status.Status.{Status}
 use Rattle.rules.specs.declared.status.Status.the-variants.{Running, Success, Failure}
 use Rattle.rules.specs.declared.event.Event.{Event}
 use Rattle.rules.specs.declared.event.Event.the-variants.{Update, Other}

@@ -10,7 +10,7 @@ use Rattle.rules.specs.declared.status.Status.{Status}
 use Rattle.rules.specs.declared.status.Status.the-variants.{Running, Success, Failure}
 use Rattle.rules.specs.declared.event.Event.{Event}
 use Rattle.rules.specs.declared.event.Event.the-variants.{Update, Other}
-use Rattle.rules.specs.Tree.{Cell, cell, Tree, node, Forest, [], _∷_, fresh}
+use Rattle.rules.specs.Tree.{Cell, cell, node, Forest, [], _∷_, fresh}
 use Rattle.rules.specs.Outcome.{dt, rest, World, world, Out, done, asks, short, Ticker, _▸_, waiting, exchanged, exchange, exchanging, alwaysSucceed, largest, byte}
 use Rattle.rules.specs.Sequence.{sequenceAt, memoryless}
 use Rattle.rules.specs.WhenAll.{whenAll, raceFrom, afterAt}

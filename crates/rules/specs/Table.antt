@@ -1,13 +1,12 @@
 -- The table: the preorder encoding of one tree of 1 to 256 nodes, at most 16 deep. Reading goes from left to right, so the place that
 -- it stops at is the smallest faulty one. Document 01, "The tree and its cells".
-use mathlib.Core.Bool.{Bool, true, false, cond, not, _&&_, _||_}
+use mathlib.Core.Bool.{Bool, false, cond, not, _&&_}
 use mathlib.Core.List.{List}
 use mathlib.Core.List
 use Prim.Native.Nat.{ℕ, zero, suc}
 use lib.Dec.{leb, ltb, eqb}
 use lib.Ieee.{Float, nan, inf, fin}
 use Rattle.rules.specs.declared.behavior.Kind.{Kind}
-use Rattle.rules.specs.declared.behavior.Kind.the-variants.{Action}
 use Rattle.rules.specs.Kinds.{kindOf, fewest, most, children, timed}
 use Rattle.rules.specs.Tree.{freshCell, Tree, node, Forest, [], _∷_}
 

@@ -2,11 +2,9 @@
 use mathlib.Core.Bool.{Bool, true, false, cond, _&&_}
 use Prim.Native.Nat.{ℕ, zero, suc}
 use lib.Ieee.{Float, lt}
-use Rattle.rules.specs.declared.status.Status.{Status}
 use Rattle.rules.specs.declared.status.Status.the-variants.{Running, Success, Failure}
 use Rattle.rules.specs.declared.event.Event.{Event}
-use Rattle.rules.specs.declared.event.Event.the-variants.{Update, Other}
-use Rattle.rules.specs.Tree.{zeroTime, Tree, Forest, [], _∷_, fresh, marked, mark}
+use Rattle.rules.specs.Tree.{zeroTime, Forest, [], _∷_, fresh, marked, mark}
 use Rattle.rules.specs.Outcome.{dt, World, Out, done, Ticker, _▸_, waiting, smaller}
 use Rattle.rules.specs.Sequence.{keep, pass}
 

@@ -1,6 +1,5 @@
 // What a call answers, and the record that stands between calls.
 use crate::status::Status;
-ghost use mathlib.Core.Path.{_≡_};
 
 // Finished, and how many ticks were carried out.
 #[repr(C)]

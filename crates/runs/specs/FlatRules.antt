@@ -3,13 +3,12 @@
 use mathlib.Core.Bool.{Bool, true, false, cond, _&&_}
 use mathlib.Core.List.{List}
 use mathlib.Core.List
-use Prim.Native.Nat.{ℕ, zero, suc, _+_, _-_}
+use Prim.Native.Nat.{ℕ, zero, suc, _-_}
 use lib.Dec.{leb, ltb, eqb}
 use lib.Ieee.{Float, Format, add, sub, le, lt}
 use lib.ListN.{getD}
 use Rattle.rules.specs.declared.behavior.Kind.{Kind}
 use Rattle.rules.specs.declared.behavior.Kind.the-variants.{Wait, WaitForever, Action, Invert, AlwaysSucceed, Timeout, Select, If, Sequence, MemorylessSequence, MemorylessSelector, While, WhileAll, WhenAll, WhenAny, After, Race}
-use Rattle.rules.specs.declared.status.Status.{Status}
 use Rattle.rules.specs.declared.status.Status.the-variants.{Running, Success, Failure}
 use Rattle.rules.specs.declared.event.Event.{Event}
 use Rattle.rules.specs.declared.event.Event.the-variants.{Update, Other}
@@ -17,7 +16,7 @@ use Rattle.rules.specs.Tree.{zeroTime}
 use Rattle.rules.specs.Kinds.{kindOf}
 use Rattle.rules.specs.Outcome.{dt, rest, World, world, Out, done, asks, short, _▸_, waiting, exchange, exchanged, alwaysSucceed, largest, smaller, byte}
 use Rattle.rules.specs.Loops.{budget}
-use Rattle.runs.specs.Runs.{Table, State, state, numberAt, limitAt, endOf, timeAt, placeAt, markAt, setTime, setPlace, setMark, setBoard, freshen, freshNode, first, nowhere, childPlace}
+use Rattle.runs.specs.Runs.{Table, State, numberAt, limitAt, endOf, timeAt, placeAt, markAt, setTime, setPlace, setMark, setBoard, freshen, freshNode, first, nowhere, childPlace}
 
 abbrev pub FTicker : Type 0
 FTicker = ℕ → State → Event → World → Out State

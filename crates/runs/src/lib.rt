@@ -2,10 +2,9 @@
 // specs/ has the tick over such runs.
 use rules::Kind;
 ghost use mathlib.Core.Path.{_≡_};
-ghost use Prim.Native.Nat.{ℕ, _+_, _-_};
+ghost use Prim.Native.Nat.{_+_, _-_};
 ghost use lib.Dec.{ltb};
 ghost use lib.ListN.{getD, set};
-ghost use lib.Ieee.{Float};
 ghost use Rattle.rules.specs.Tree.{zeroTime};
 ghost use Rattle.rules.specs.Kinds.{kindOf};
 ghost use Rattle.runs.specs.Runs.{first, up, childIn, clear};

@@ -13,7 +13,7 @@ use runs::kind_at;
 use stride::stride;
 ghost use mathlib.Core.Path.{_≡_};
 ghost use mathlib.Core.Bool.{true};
-ghost use Prim.Native.Nat.{ℕ, _<_, _≤_};
+ghost use Prim.Native.Nat.{_<_, _≤_};
 ghost use lib.Ieee.{binary64};
 ghost use lib.ListN.{getD, drop};
 ghost use Rattle.rules.specs.Kinds.{kindOf};

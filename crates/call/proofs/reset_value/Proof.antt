@@ -1,10 +1,7 @@
 -- The refusals in their order, then the fresh cells.
-use mathlib.Core.Path.{_≡_, sym, _∙_}
-use mathlib.Core.Bool.{true}
+use mathlib.Core.Path.{sym, _∙_}
 use mathlib.Core.List.{List}
 use borrow.Author.Tests.{not-true, not-false}
-use lib.Dec.{leb}
-use lib.Ieee.{ofBits}
 use Rattle.call.proofs.Good.{Good, found-good, found-bad}
 use Rattle.call.proofs.Resets.{bad-table, too-short, was-reset}
 use Prim.Native.Nat.{ℕ}

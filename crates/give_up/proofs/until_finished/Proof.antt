@@ -1,7 +1,6 @@
 -- A turn of the loop counts up to a thousand, and every slice keeps its length.
 use mathlib.Core.Path.{_≡_}
 use Prim.Native.Nat.{_≤_, _-_}
-use native.Mathlib.Omega.{arith}
 use lib.ListN.{length}
 use borrow.Author.Needs.{needs}
 use Rattle.give_up.proofs.until_finished.Statement.{statement}

@@ -2,7 +2,6 @@
 use mathlib.Core.Path.{refl}
 use Prim.Native.Nat.{_-_}
 use native.Mathlib.Omega.{arith}
-use borrow.Author.Needs.{needs}
 use Rattle.call.proofs.Copies.{Copying, copying-start, copying-more, copying-end}
 use Rattle.call.proofs.copy.copy_marks.Statement.{statement}
 use Rattle.call.proofs.copy.copy_marks.Tie as tie

@@ -1,12 +1,12 @@
 -- The refusals in their order.
 use mathlib.Core.Path.{_≡_, sym, _∙_}
-use mathlib.Core.Bool.{true, false}
+use mathlib.Core.Bool.{true}
 use mathlib.Core.List.{List}
 use Prim.Native.Nat.{ℕ}
 use borrow.Author.Needs.{needs}
 use borrow.Author.Tests.{not-true, not-false}
 use lib.Dec.{leb}
-use Rattle.rules.specs.Call.{Given, given, run, runLength, timeAllowed}
+use Rattle.rules.specs.Call.{Given, given, run, runLength}
 use Rattle.call.proofs.Good.{Good, found-good, found-bad}
 use Rattle.call.proofs.Gates.{Fit, Held, Timed, Answerable, bad-table, short-cells, short-spare, short-board, room, bad-cell, fine-cells, bad-time, bad-answer, fine-answers, finished, due}
 use Rattle.call.proofs.gate.checks.Statement.{statement}

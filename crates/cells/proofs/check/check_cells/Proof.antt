@@ -1,5 +1,5 @@
 -- Each cell is checked in the innermost open node; each way through a turn keeps what is known of the open nodes.
-use mathlib.Core.Path.{refl, sym, _∙_}
+use mathlib.Core.Path.{refl, _∙_}
 use mathlib.Core.Logic.{⊎-elim}
 use Prim.Native.Nat.{_-_}
 use native.Mathlib.Omega.{arith}

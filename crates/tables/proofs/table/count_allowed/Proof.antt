@@ -1,5 +1,4 @@
 -- None are never too many; some are told by both bounds.
-use mathlib.Core.Path.{sym, _∙_}
 use borrow.Author.Needs.{needs}
 use borrow.Author.Tests.{le-leb, lt-leb}
 use Rattle.rules.specs.Kinds.{fewest, most}

@@ -1,6 +1,5 @@
 -- An Action has no children, every other kind as many as its number says.
 use borrow.Author.Needs.{needs}
-use mathlib.Core.Path.{_≡_}
 use mathlib.Core.List.{[], _∷_}
 use Rattle.rules.proofs.Arms.{gives}
 use Rattle.rules.specs.Kinds.{kindOf, children}

@@ -1,6 +1,5 @@
 -- The largest place of each kind, gives by arm.
 use borrow.Author.Needs.{needs}
-use mathlib.Core.Path.{_≡_}
 use mathlib.Core.List.{[], _∷_}
 use Rattle.rules.proofs.Arms.{gives}
 use Rattle.rules.specs.Kinds.{kindOf}

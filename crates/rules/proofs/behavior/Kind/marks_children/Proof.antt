@@ -1,5 +1,4 @@
 -- WhenAll and WhenAny, and no other kind.
-use mathlib.Core.Path.{_≡_}
 use mathlib.Core.List.{[], _∷_}
 use Rattle.rules.proofs.Arms.{gives}
 use Rattle.rules.specs.Kinds.{kindOf, marksChildren}
