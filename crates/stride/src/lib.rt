@@ -8,14 +8,10 @@ use leaf::visit_leaf;
 use rules::Kind;
 use rules::Status;
 ghost use Prim.Native.Nat.{_≤_};
-ghost use lib.Ieee.{binary64};
-ghost use Rattle.rules.specs.Outcome.{Out};
 ghost use Rattle.rules.specs.Call.{answers};
-ghost use Rattle.runs.specs.Runs.{State, tableOf, state};
-ghost use Rattle.runs.specs.FlatRules.{ftick};
+ghost use Rattle.runs.specs.Runs.{tableOf, state};
 ghost use Rattle.drivers.specs.ByKind.{nextOf};
-ghost use Rattle.resume.specs.Drive.{Pending, Going};
-ghost use Rattle.resume.specs.ByKind.{resumeOf};
+ghost use Rattle.stride.specs.Leads.{Leads};
 
 // Where the node stands: it is over, or a child is due that has to be ticked by the cycle.
 pub struct Strode {
@@ -24,6 +20,7 @@ pub struct Strode {
     pub used: usize,
 }
 
+// From the node's start, or from its next turn once it has begun, with what the last visit gave.
 pub fn stride(
     kinds: &[u8],
     ns: &[u16],
@@ -47,7 +44,7 @@ pub fn stride(
     fuel0: u32,
     used0: usize,
 ) -> Strode
-    ensures { λ r. ⌜ ((o : Out State) → Pending (resumeOf update (tableOf (now (kinds .entry)) (now (ns .entry)) (now (limits .entry)) (now (ends .entry))) (ftick binary64 (tableOf (now (kinds .entry)) (now (ns .entry)) (now (limits .entry)) (now (ends .entry))) depth) p dt kind) (answers (now (statuses .entry)) (now (leftovers .entry))) o fuel0 used0 (nextOf kind update (tableOf (now (kinds .entry)) (now (ns .entry)) (now (limits .entry)) (now (ends .entry))) p dt begun0 t0 status0 left0 (state (now (times .entry)) (now (places .entry)) (now (marks .entry)) (now (board .entry)))) → Going (resumeOf update (tableOf (now (kinds .entry)) (now (ns .entry)) (now (limits .entry)) (now (ends .entry))) (ftick binary64 (tableOf (now (kinds .entry)) (now (ns .entry)) (now (limits .entry)) (now (ends .entry))) depth) p dt kind) (answers (now (statuses .entry)) (now (leftovers .entry))) o (r .fuel) (r .used) (r .t) (state (now (times .exit)) (now (places .exit)) (now (marks .exit)) (now (board .exit)))) ⌝ }
+    ensures { λ r. ⌜ Leads kind update (tableOf (now (kinds .entry)) (now (ns .entry)) (now (limits .entry)) (now (ends .entry))) (answers (now (statuses .entry)) (now (leftovers .entry))) depth p dt fuel0 used0 (nextOf kind update (tableOf (now (kinds .entry)) (now (ns .entry)) (now (limits .entry)) (now (ends .entry))) p dt begun0 t0 status0 left0 (state (now (times .entry)) (now (places .entry)) (now (marks .entry)) (now (board .entry)))) (r .fuel) (r .used) (r .t) (state (now (times .exit)) (now (places .exit)) (now (marks .exit)) (now (board .exit))) ⌝ }
     ensures { λ r. ⌜ r .fuel ≤ fuel0 ⌝ }
 {
     let mut begun = begun0;
