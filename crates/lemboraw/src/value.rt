@@ -1,7 +1,5 @@
 // The calls by value, in a host's numbers: the record comes and goes with the answer.
 use crate::numbers::event_of;
-use crate::numbers::said_of;
-use crate::numbers::said_of_reset;
 use call::reset_value;
 use call::tick_value;
 use rules::Record;
@@ -57,7 +55,7 @@ pub fn tick_said(
     );
     let after = called.record;
     let answer = called.answer;
-    let said = said_of(answer);
+    let said = answer.said();
     Told {
         said,
         record: after,
@@ -79,6 +77,6 @@ pub fn reset_said(
     let was = reset_value(record, kinds, ns, limits, times, places, marks);
     let kept = was.record;
     let answer = was.answer;
-    let said = said_of_reset(answer);
+    let said = answer.said();
     Told { said, record: kept }
 }

@@ -1,5 +1,8 @@
 // What a call answers, and the record that stands between calls.
 use crate::status::Status;
+ghost use mathlib.Core.Path.{_≡_};
+ghost use Rattle.rules.specs.Tree.{zeroTime};
+ghost use Rattle.rules.specs.Call.{numbers, saidOf, saidOfReset};
 
 // Finished, and how many ticks were carried out.
 #[repr(C)]
@@ -54,4 +57,69 @@ pub struct Said {
     pub used: usize,
     pub extra: usize,
     pub time: f64,
+}
+
+impl Answer {
+    // A tick's answer in numbers.
+    pub fn said(self) -> Said
+        ensures { λ r. ⌜ r ≡ saidOf self ⌝ }
+    {
+        match self {
+            Answer::Ticked {
+                status,
+                leftover,
+                visits,
+                used,
+            } => Said {
+                no: 0,
+                status: status.byte(),
+                visits,
+                used,
+                extra: 0,
+                time: leftover,
+            },
+            Answer::Asked { action, dt } => Said {
+                no: 1,
+                status: 0,
+                visits: 0,
+                used: 0,
+                extra: action as usize,
+                time: dt,
+            },
+            Answer::Finished => bare(2, 0),
+            Answer::BadTable(p) => bare(3, p),
+            Answer::TooShort => bare(4, 0),
+            Answer::BadTime => bare(5, 0),
+            Answer::BadAnswer(i) => bare(6, i),
+            Answer::OutOfFuel => bare(7, 0),
+            Answer::BadCell(p) => bare(9, p),
+        }
+    }
+}
+
+impl ResetAnswer {
+    // A reset's answer in numbers.
+    pub fn said(self) -> Said
+        ensures { λ r. ⌜ r ≡ saidOfReset self ⌝ }
+    {
+        match self {
+            ResetAnswer::Reset => bare(0, 0),
+            ResetAnswer::BadTable(p) => bare(3, p),
+            ResetAnswer::TooShort => bare(4, 0),
+        }
+    }
+}
+
+// An answer that names no field but perhaps a place or an index.
+fn bare(no: u8, extra: usize) -> Said
+    ensures { λ r. ⌜ r ≡ numbers no 0 0 0 extra zeroTime ⌝ }
+{
+    Said {
+        no,
+        status: 0,
+        visits: 0,
+        used: 0,
+        extra,
+        time: 0.0,
+    }
 }

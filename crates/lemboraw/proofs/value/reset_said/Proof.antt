@@ -7,7 +7,7 @@ use Rattle.lemboraw.proofs.value.reset_said.Tie as tie
 
 returns : tie.Need-returns
 unfolding hostReset
-returns c = reset-told (c .before .before .before .before .before .before .before .before .reset-value .ensures) (c .said-of-reset .ensures)
+returns c = reset-told (c .before .before .before .before .before .before .before .before .reset-value .ensures) (c .said .ensures)
 
 pub reset-said-spec : {M : Type 1} → statement M
 reset-said-spec =

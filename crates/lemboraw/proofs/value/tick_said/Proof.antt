@@ -10,7 +10,7 @@ unfolding hostTick
 returns c =
     tick-told
     (rw (c .before .before .before .before .before .before .before .before .before .before .before .before .before .before .before .before .before .before .before .before .before .before .before .before .event-of .ensures) at (c .before .before .before .before .before .before .before .before .before .before .before .before .before .before .before .before .tick-value .ensures))
-    (c .said-of .ensures)
+    (c .said .ensures)
 
 pub tick-said-spec : {M : Type 1} → statement M
 tick-said-spec =

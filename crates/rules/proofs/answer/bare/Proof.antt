@@ -1,8 +1,8 @@
 -- The literal 0.0 is the rules' zero time.
 use mathlib.Core.Path.{refl}
 use lib.Ieee.{ofBits}
-use Rattle.lemboraw.proofs.numbers.bare.Statement.{statement}
-use Rattle.lemboraw.proofs.numbers.bare.Tie as tie
+use Rattle.rules.proofs.answer.bare.Statement.{statement}
+use Rattle.rules.proofs.answer.bare.Tie as tie
 
 returns : tie.Need-returns
 unfolding ofBits
