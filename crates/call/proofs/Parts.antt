@@ -8,11 +8,11 @@ use lib.ListN.{length, take, drop}
 use lib.Seq.{length-take-le, take-at, drop-at}
 use Rattle.rules.specs.declared.event.Event.{Event}
 use Rattle.rules.specs.declared.event.Event.the-variants.{Update, Other}
-use Rattle.rules.specs.Outcome.{dt, World, Out}
+use Rattle.rules.specs.Outcome.{eventOf, dt, World, Out}
 use Rattle.rules.specs.Call.{Run, run}
 use Rattle.runs.specs.Runs.{Table, State, state}
 use Rattle.runs.specs.FlatRules.{ftick}
-use Rattle.drivers.specs.Turns.{eventOf, updates}
+use Rattle.drivers.specs.Turns.{updates}
 use Rattle.call.specs.Onto.{Long}
 use Rattle.call.specs.Part.{part, Behind}
 

@@ -7,6 +7,7 @@ use native.Mathlib.Omega.{arith}
 use types.Run.{OneOf}
 use denote.Enum.Declared.{tagOf}
 use lib.Ieee.{Float, binary64, le, add}
+use Rattle.rules.specs.Outcome.{eventOf}
 use Rattle.rules.specs.declared.behavior.Kind.{Kind}
 use Rattle.rules.specs.declared.behavior.Kind.the-variants.{Wait, Timeout, If, While, WhileAll, After, Race}
 use Rattle.rules.specs.declared.status.Status.{Status}
@@ -16,7 +17,7 @@ use Rattle.rules.proofs.behavior.Kind.{the-type}
 use Rattle.rules.proofs.Arms.{arm}
 use Rattle.runs.specs.Runs.{Table, State, limitAt, timeAt, first}
 use Rattle.drivers.specs.declared.turn.Turn.{Turn}
-use Rattle.drivers.specs.Turns.{Next, eventOf, waitingTurn, dueTurn, overTurn, decorated, waitTurn, timeoutTurn, ifStart, ifTurn, sequenceStart, sequenceTurn, memorylessStart, memorylessTurn, whileStart, whileTurn, whileAllStart, whileAllTurn, whenStart, whenTurn, raceStart, raceTurn, afterStart, afterTurn}
+use Rattle.drivers.specs.Turns.{Next, waitingTurn, dueTurn, overTurn, decorated, waitTurn, timeoutTurn, ifStart, ifTurn, sequenceStart, sequenceTurn, memorylessStart, memorylessTurn, whileStart, whileTurn, whileAllStart, whileAllTurn, whenStart, whenTurn, raceStart, raceTurn, afterStart, afterTurn}
 use Rattle.drivers.specs.ByKind.{exchanges, inverts, startOf, turnOf, nextOf}
 
 -- the kind has one of these numbers

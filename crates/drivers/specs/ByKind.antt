@@ -3,13 +3,14 @@
 use mathlib.Core.Bool.{Bool, true, false, cond, _||_}
 use Prim.Native.Nat.{ℕ}
 use lib.Ieee.{Float}
+use Rattle.rules.specs.Outcome.{eventOf}
 use Rattle.rules.specs.declared.behavior.Kind.{Kind}
 use Rattle.rules.specs.declared.behavior.Kind.the-variants.{Wait, WaitForever, Action, Invert, AlwaysSucceed, Timeout, Select, If, Sequence, MemorylessSequence, MemorylessSelector, While, WhileAll, WhenAll, WhenAny, After, Race}
 use Rattle.rules.specs.declared.status.Status.{Status}
 use Rattle.rules.specs.Kinds.{is}
 use Rattle.runs.specs.Runs.{Table, State, first}
 use Rattle.drivers.specs.declared.turn.Turn.{Turn}
-use Rattle.drivers.specs.Turns.{Next, eventOf, waitingTurn, dueTurn, overTurn, decorated, waitTurn, timeoutTurn, ifStart, ifTurn, sequenceStart, sequenceTurn, memorylessStart, memorylessTurn, whileStart, whileTurn, whileAllStart, whileAllTurn, whenStart, whenTurn, raceStart, raceTurn, afterStart, afterTurn}
+use Rattle.drivers.specs.Turns.{Next, waitingTurn, dueTurn, overTurn, decorated, waitTurn, timeoutTurn, ifStart, ifTurn, sequenceStart, sequenceTurn, memorylessStart, memorylessTurn, whileStart, whileTurn, whileAllStart, whileAllTurn, whenStart, whenTurn, raceStart, raceTurn, afterStart, afterTurn}
 
 -- the kinds that are another with Success and Failure exchanged
 abbrev pub exchanges : Kind → Bool

@@ -12,14 +12,10 @@ use Rattle.rules.specs.declared.event.Event.the-variants.{Update, Other}
 use Rattle.drivers.specs.declared.turn.Turn.{Turn}
 use Rattle.drivers.specs.declared.turn.Ran.{Ran}
 use Rattle.rules.specs.Tree.{zeroTime}
-use Rattle.rules.specs.Outcome.{dt, world, Out, done, asks, short, exchanged, alwaysSucceed, largest, smaller, byte, statusOf}
+use Rattle.rules.specs.Outcome.{eventOf, dt, world, Out, done, asks, short, exchanged, alwaysSucceed, largest, smaller, byte, statusOf}
 use Rattle.runs.specs.Runs.{Table, State, numberAt, limitAt, endOf, timeAt, placeAt, markAt, setTime, setPlace, setMark, freshen, freshNode, first, nowhere, up, childPlace}
 
--- an update with a dt, or any other event; which of the two it is does not change within a tick
-abbrev pub eventOf : Bool → Float → Event
-eventOf true x = Update x
-eventOf false x = Other
-
+-- whether it is an update, which does not change within a tick
 abbrev pub updates : Event → Bool
 updates (Update x) = true
 updates Other = false

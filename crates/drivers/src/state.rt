@@ -22,8 +22,9 @@ ghost use mathlib.Core.Path.{_≡_};
 ghost use mathlib.Core.List.{List};
 ghost use Prim.Native.Nat.{ℕ, _<_};
 ghost use lib.Ieee.{Float};
+ghost use Rattle.rules.specs.Outcome.{eventOf};
 ghost use Rattle.runs.specs.Runs.{tableOf, state, first};
-ghost use Rattle.drivers.specs.Turns.{eventOf, actionRan, waitTurn, timeoutTurn, dueTurn, overTurn, decorated, ifStart, ifTurn, choose, raceStart, raceTurn, afterStart, afterTurn, afterNext, stands};
+ghost use Rattle.drivers.specs.Turns.{actionRan, waitTurn, timeoutTurn, dueTurn, overTurn, decorated, ifStart, ifTurn, choose, raceStart, raceTurn, afterStart, afterTurn, afterNext, stands};
 
 // The next lent answer, unchanged; or the action asks.
 pub fn action(

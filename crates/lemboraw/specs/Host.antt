@@ -1,23 +1,16 @@
 -- The calls as a host makes them: an answer in document 01's numbers, an event as a flag and a time.
-use mathlib.Core.Bool.{Bool, true, false, cond}
+use mathlib.Core.Bool.{Bool, cond}
 use mathlib.Core.List.{List}
 use Prim.Native.Nat.{ℕ}
 use lib.Dec.{leb}
 use lib.Ieee.{Float}
 use Rattle.rules.specs.declared.answer.Record.{Record}
 use Rattle.rules.specs.declared.answer.Said.{Said}
-use Rattle.rules.specs.declared.event.Event.{Event}
-use Rattle.rules.specs.declared.event.Event.the-variants.{Update, Other}
 use Rattle.rules.specs.declared.answer.BoundAnswer.{BoundAnswer}
 use Rattle.rules.specs.declared.answer.BoundAnswer.the-variants.{Within, Never, Above, BadTable, NoBound}
 use Rattle.rules.specs.Kinds.{code, kindOf, memory}
 use Rattle.rules.specs.Call.{Run, Given, Left, ResetLeft, tickCall, resetCall, saidOf, saidOfReset}
 use Rattle.lemboraw.specs.declared.numbers.Bound.{Bound}
-
--- an update carries its dt; of an other event dt is not looked at
-abbrev pub eventOf : Bool → Float → Event
-eventOf true dt = Update dt
-eventOf false dt = Other
 
 -- what a tick leaves
 pub record HostLeft : Type 0 where

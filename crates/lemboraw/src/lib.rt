@@ -10,9 +10,10 @@ use rules::Said;
 use value::reset_said;
 use value::tick_said;
 ghost use mathlib.Core.Path.{_≡_};
+ghost use Rattle.rules.specs.Outcome.{eventOf};
 ghost use Rattle.rules.specs.Call.{run, given};
 ghost use Rattle.rules.specs.Bound.{boundCall};
-ghost use Rattle.lemboraw.specs.Host.{eventOf, hostTick, hostLeft, hostReset, hostResetLeft, memoryOf, boundOf};
+ghost use Rattle.lemboraw.specs.Host.{hostTick, hostLeft, hostReset, hostResetLeft, memoryOf, boundOf};
 
 // A tick: the cells, the board and the record change only as its answer says.
 #[no_mangle]

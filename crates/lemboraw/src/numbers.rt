@@ -2,7 +2,8 @@
 use rules::BoundAnswer;
 use rules::Event;
 ghost use mathlib.Core.Path.{_≡_};
-ghost use Rattle.lemboraw.specs.Host.{eventOf, boundOf};
+ghost use Rattle.rules.specs.Outcome.{eventOf};
+ghost use Rattle.lemboraw.specs.Host.{boundOf};
 
 // The finish bound: kind 0 a number of ticks, 1 none, 2 above the largest that is told.
 #[repr(C)]

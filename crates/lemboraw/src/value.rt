@@ -5,8 +5,9 @@ use call::tick_value;
 use rules::Record;
 use rules::Said;
 ghost use mathlib.Core.Path.{_≡_};
+ghost use Rattle.rules.specs.Outcome.{eventOf};
 ghost use Rattle.rules.specs.Call.{run, given};
-ghost use Rattle.lemboraw.specs.Host.{eventOf, hostTick, hostLeft, hostReset, hostResetLeft};
+ghost use Rattle.lemboraw.specs.Host.{hostTick, hostLeft, hostReset, hostResetLeft};
 
 // What is said, and the record that stands after the call.
 pub struct Told {

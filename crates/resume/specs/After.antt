@@ -11,11 +11,11 @@ use Rattle.rules.specs.declared.behavior.Kind.the-variants.{After}
 use Rattle.rules.specs.declared.status.Status.{Status}
 use Rattle.rules.specs.declared.status.Status.the-variants.{Running, Success, Failure}
 use Rattle.rules.specs.Tree.{zeroTime}
-use Rattle.rules.specs.Outcome.{World, Out, done, _▸_, waiting, largest, smaller}
+use Rattle.rules.specs.Outcome.{eventOf, World, Out, done, _▸_, waiting, largest, smaller}
 use Rattle.drivers.specs.declared.turn.Turn.{Turn}
 use Rattle.runs.specs.Runs.{Table, State, numberAt, endOf, placeAt, setPlace, first, up, childPlace}
 use Rattle.runs.specs.FlatRules.{FTicker, fafterFrom, fafterAt, placed, frule}
-use Rattle.drivers.specs.Turns.{Next, eventOf, heldTurn, afterStart, stands, afterNext, afterTurn}
+use Rattle.drivers.specs.Turns.{Next, heldTurn, afterStart, stands, afterNext, afterTurn}
 use Rattle.resume.specs.Resume.{Resume, Driven, due, whether, bind-assoc, at, by-visits}
 use Rattle.resume.specs.Sequence.{up-suc, last-or-more, same-place}
 

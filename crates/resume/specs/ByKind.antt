@@ -11,11 +11,11 @@ use Rattle.rules.specs.declared.behavior.Kind.{Kind}
 use Rattle.rules.specs.declared.behavior.Kind.the-variants.{Wait, WaitForever, Action, Invert, AlwaysSucceed, Timeout, Select, If, Sequence, MemorylessSequence, MemorylessSelector, While, WhileAll, WhenAll, WhenAny, After, Race}
 use Rattle.rules.specs.declared.status.Status.{Status}
 use Rattle.rules.specs.Kinds.{code, kindOf, is}
-use Rattle.rules.specs.Outcome.{World, world, Out, _▸_, waiting}
+use Rattle.rules.specs.Outcome.{eventOf, World, world, Out, _▸_, waiting}
 use Rattle.runs.specs.Runs.{Table, State}
 use Rattle.runs.specs.FlatRules.{FTicker, fexchanging, frule}
 use Rattle.drivers.specs.declared.turn.Turn.{Turn}
-use Rattle.drivers.specs.Turns.{eventOf, waitingTurn, waitTurn}
+use Rattle.drivers.specs.Turns.{waitingTurn, waitTurn}
 use Rattle.drivers.specs.ByKind.{startOf, turnOf}
 use Rattle.resume.specs.Resume.{Resume, Driven, due, at, at-over, by-visits, exchangedResume}
 use Rattle.resume.specs.Sequence.{resumeSequence, sequence-driven, sequence-start, select-driven, select-start, resumeMemoryless, memoryless-driven, memoryless-start, resumeSelector, selector-driven, selector-start}

@@ -15,12 +15,12 @@ use Rattle.rules.specs.declared.status.Status.the-variants.{Running, Success, F
 use Rattle.rules.specs.declared.event.Event.{Event}
 use Rattle.rules.specs.declared.event.Event.the-variants.{Update, Other}
 use Rattle.rules.specs.Tree.{zeroTime}
-use Rattle.rules.specs.Outcome.{rest, World, Out, done, short, _▸_, waiting}
+use Rattle.rules.specs.Outcome.{eventOf, rest, World, Out, done, short, _▸_, waiting}
 use Rattle.rules.specs.Loops.{budget}
 use Rattle.drivers.specs.declared.turn.Turn.{Turn}
 use Rattle.runs.specs.Runs.{Table, State, numberAt, endOf, placeAt, setPlace, freshNode, first, nowhere, childIn, childPlace}
 use Rattle.runs.specs.FlatRules.{FTicker, fwhileBody, fwhileAll, placed, frule}
-use Rattle.drivers.specs.Turns.{eventOf, dueTurn, movedOn, firstBody, whileStart, bodyStart, bodyNext, whileTurn, whileAllStart, loopNext, whileAllTurn}
+use Rattle.drivers.specs.Turns.{dueTurn, movedOn, firstBody, whileStart, bodyStart, bodyNext, whileTurn, whileAllStart, loopNext, whileAllTurn}
 use Rattle.resume.specs.Resume.{Resume, Driven, due, rest-event, whether, bind-ext, bind-assoc, at, turnAt, by-visits}
 use Rattle.resume.specs.Sequence.{up-suc}
 use Rattle.resume.specs.Node.{Lost}

@@ -11,11 +11,11 @@ use Rattle.rules.specs.declared.behavior.Kind.the-variants.{Wait, Invert, Alway
 use Rattle.rules.specs.declared.status.Status.{Status}
 use Rattle.rules.specs.declared.status.Status.the-variants.{Running, Success, Failure}
 use Rattle.rules.specs.declared.event.Event.{Event}
-use Rattle.rules.specs.Outcome.{World, world, Out, done, short, _▸_, waiting}
+use Rattle.rules.specs.Outcome.{eventOf, World, world, Out, done, short, _▸_, waiting}
 use Rattle.drivers.specs.declared.turn.Turn.{Turn}
 use Rattle.runs.specs.Runs.{Table, State, numberAt, limitAt, endOf, timeAt, placeAt, setTime, setPlace, freshNode, first, nowhere, childIn, childPlace}
 use Rattle.runs.specs.FlatRules.{FTicker, fif, fraceFrom, placed, frule, ftick}
-use Rattle.drivers.specs.Turns.{Next, eventOf, passed, overTurn, dueTurn, waitTurn, decorated, timeoutTurn, ifStart, ifTurn, choose, raceStart, raceTurn}
+use Rattle.drivers.specs.Turns.{Next, passed, overTurn, dueTurn, waitTurn, decorated, timeoutTurn, ifStart, ifTurn, choose, raceStart, raceTurn}
 use Rattle.resume.specs.Resume.{Resume, Driven, due, rest-event, whether, bind-ext, bind-assoc, at, by-visits}
 use Rattle.resume.specs.Sequence.{up-suc, last-or-more, none-or-first}
 

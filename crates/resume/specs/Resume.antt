@@ -7,10 +7,10 @@ use Rattle.rules.specs.declared.status.Status.{Status}
 use Rattle.rules.specs.declared.status.Status.the-variants.{Running, Success, Failure}
 use Rattle.rules.specs.declared.event.Event.{Event}
 use Rattle.drivers.specs.declared.turn.Turn.{Turn}
-use Rattle.rules.specs.Outcome.{rest, World, Out, done, asks, short, _▸_, exchanged, exchange}
+use Rattle.rules.specs.Outcome.{eventOf, rest, World, Out, done, asks, short, _▸_, exchanged, exchange}
 use Rattle.runs.specs.Runs.{State}
 use Rattle.runs.specs.FlatRules.{FTicker, fexchanging}
-use Rattle.drivers.specs.Turns.{Next, eventOf}
+use Rattle.drivers.specs.Turns.{Next}
 
 -- the event with which the child is due
 abbrev pub due : Bool → Turn → Event

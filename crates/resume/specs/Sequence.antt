@@ -12,11 +12,11 @@ use borrow.Author.Tests.{lt-ltb, ltb-true, ltb-false, eqb-true, eqb-false}
 use Rattle.rules.specs.declared.behavior.Kind.the-variants.{Select, Sequence, MemorylessSequence, MemorylessSelector}
 use Rattle.rules.specs.declared.status.Status.{Status}
 use Rattle.rules.specs.declared.status.Status.the-variants.{Running, Success, Failure}
-use Rattle.rules.specs.Outcome.{World, Out, done, asks, short, _▸_, waiting, exchanged, exchange}
+use Rattle.rules.specs.Outcome.{eventOf, World, Out, done, asks, short, _▸_, waiting, exchanged, exchange}
 use Rattle.drivers.specs.declared.turn.Turn.{Turn}
 use Rattle.runs.specs.Runs.{Table, State, state, numberAt, endOf, placeAt, setPlace, freshen, first, up}
 use Rattle.runs.specs.FlatRules.{FTicker, fexchanging, fseqFrom, fseqAt, fmemFrom, fmemoryless, placed, frule}
-use Rattle.drivers.specs.Turns.{Next, eventOf, sequenceStart, sequenceTurn, memorylessStart, memorylessTurn}
+use Rattle.drivers.specs.Turns.{Next, sequenceStart, sequenceTurn, memorylessStart, memorylessTurn}
 use Rattle.resume.specs.Resume.{Resume, Turning, Driven, due, rest-event, whether, bind-ext, bind-assoc, at, at-over, at-going, exchangedTurn, exchangedNext, exchangedResume, exchanged-driven}
 
 -- to write a place where it stands already changes nothing

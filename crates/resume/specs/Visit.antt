@@ -17,13 +17,13 @@ use Rattle.rules.specs.declared.status.Status.{Status}
 use Rattle.rules.specs.declared.event.Event.{Event}
 use Rattle.rules.specs.Tree.{zeroTime}
 use Rattle.rules.specs.Kinds.{kindOf}
-use Rattle.rules.specs.Outcome.{dt, World, world, Out, done, asks, _▸_, byte, statusOf}
+use Rattle.rules.specs.Outcome.{eventOf, dt, World, world, Out, done, asks, _▸_, byte, statusOf}
 use Rattle.rules.specs.Call.{answers}
 use Rattle.runs.specs.Runs.{Table, State, state, setBoard, nowhere}
 use Rattle.runs.specs.FlatRules.{FTicker, frule, ftick}
 use Rattle.drivers.specs.declared.turn.Turn.{Turn}
 use Rattle.drivers.specs.declared.turn.Ran.{Ran}
-use Rattle.drivers.specs.Turns.{Next, eventOf, waitingTurn, waitTurn, ranOf, shortRan, seenBoard, outOf, actionRan}
+use Rattle.drivers.specs.Turns.{Next, waitingTurn, waitTurn, ranOf, shortRan, seenBoard, outOf, actionRan}
 use Rattle.resume.specs.Resume.{whether}
 use Rattle.resume.specs.Node.{wait-law}
 

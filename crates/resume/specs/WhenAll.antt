@@ -9,11 +9,11 @@ use lib.Ieee.{Float, binary64}
 use Rattle.rules.specs.declared.behavior.Kind.the-variants.{WhenAll, WhenAny}
 use Rattle.rules.specs.declared.status.Status.{Status}
 use Rattle.rules.specs.declared.status.Status.the-variants.{Running, Success, Failure}
-use Rattle.rules.specs.Outcome.{World, Out, done, _▸_, exchanged, exchange, largest, smaller}
+use Rattle.rules.specs.Outcome.{eventOf, World, Out, done, _▸_, exchanged, exchange, largest, smaller}
 use Rattle.drivers.specs.declared.turn.Turn.{Turn}
 use Rattle.runs.specs.Runs.{Table, State, numberAt, endOf, markAt, setMark, freshNode, first, up}
 use Rattle.runs.specs.FlatRules.{FTicker, fexchanging, fwhenFrom, fwhenAll, frule}
-use Rattle.drivers.specs.Turns.{eventOf, heldTurn, whenFrom, whenStart, whenTurn}
+use Rattle.drivers.specs.Turns.{heldTurn, whenFrom, whenStart, whenTurn}
 use Rattle.resume.specs.Resume.{Resume, Driven, due, whether, at, by-visits, exchangedTurn, twice-turn, exchangedNext, exchangedResume, exchanged-driven}
 use Rattle.resume.specs.Sequence.{up-suc, none-or-first}
 

@@ -1,5 +1,5 @@
 -- What a visit is given and what it gives: document 01, "One tick", its first two paragraphs.
-use mathlib.Core.Bool.{false, cond}
+use mathlib.Core.Bool.{Bool, true, false, cond}
 use mathlib.Core.List.{List}
 use Prim.Native.Nat.{ℕ}
 use lib.Dec.{eqb}
@@ -10,6 +10,11 @@ use Rattle.rules.specs.declared.status.Status.the-variants.{Running, Suc
 use Rattle.rules.specs.declared.event.Event.{Event}
 use Rattle.rules.specs.declared.event.Event.the-variants.{Update, Other}
 use Rattle.rules.specs.Tree.{zeroTime, Tree}
+
+-- an update carries its dt; of an other event dt is not looked at
+abbrev pub eventOf : Bool → Float → Event
+eventOf true x = Update x
+eventOf false x = Other
 
 -- the dt that an event carries, 0 for an other event; and the event with the rest for its dt
 abbrev pub dt : Event → Float

@@ -12,13 +12,13 @@ use Rattle.rules.specs.declared.behavior.Kind.the-variants.{Wait, WaitForever, 
 use Rattle.rules.specs.declared.status.Status.{Status}
 use Rattle.rules.specs.declared.event.Event.{Event}
 use Rattle.rules.specs.Kinds.{kindOf}
-use Rattle.rules.specs.Outcome.{Out, world, byte}
+use Rattle.rules.specs.Outcome.{eventOf, Out, world, byte}
 use Rattle.rules.specs.Call.{answers}
 use Rattle.runs.specs.Runs.{State, tableOf, state, nowhere}
 use Rattle.runs.specs.FlatRules.{frule, ftick}
 use Rattle.drivers.specs.declared.turn.Turn.{Turn}
 use Rattle.drivers.specs.declared.turn.Ran.{Ran}
-use Rattle.drivers.specs.Turns.{eventOf, waitTurn, waitingTurn, actionRan, ranOf, shortRan, seenBoard, outOf}
+use Rattle.drivers.specs.Turns.{waitTurn, waitingTurn, actionRan, ranOf, shortRan, seenBoard, outOf}
 use Rattle.resume.specs.Resume.{Resume}
 use Rattle.resume.specs.Drive.{Going}
 use Rattle.resume.specs.Visit.{visit, wait-ran, waits-ran, action-law, action-fuel, same-out, done-short}

@@ -9,8 +9,8 @@ use drivers::wait;
 use rules::Kind;
 use runs::NOWHERE;
 use runs::kind_at;
+ghost use Rattle.rules.specs.Outcome.{eventOf};
 ghost use Rattle.rules.specs.Call.{answers};
-ghost use Rattle.drivers.specs.Turns.{eventOf};
 ghost use Rattle.stride.specs.Leaf.{LeafVisit};
 
 // A leaf gives its result at once. Nothing is done where a leaf cannot: an action that asks, no fuel,

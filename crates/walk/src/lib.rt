@@ -17,11 +17,11 @@ ghost use Prim.Native.Nat.{_<_, _≤_};
 ghost use lib.Ieee.{binary64};
 ghost use lib.ListN.{getD, drop};
 ghost use Rattle.rules.specs.Kinds.{kindOf};
-ghost use Rattle.rules.specs.Outcome.{world};
+ghost use Rattle.rules.specs.Outcome.{eventOf, world};
 ghost use Rattle.rules.specs.Call.{answers};
 ghost use Rattle.runs.specs.Runs.{tableOf, state};
 ghost use Rattle.runs.specs.FlatRules.{frule, ftick};
-ghost use Rattle.drivers.specs.Turns.{eventOf, outOf};
+ghost use Rattle.drivers.specs.Turns.{outOf};
 
 // A visit: one of the fuel, the node's own rule, and its status on the board.
 pub fn tick_node(

@@ -8,11 +8,10 @@ use lib.ListN.{length, drop}
 use borrow.Author.Needs.{needs}
 use borrow.Author.Tests.{not-true, not-false}
 use Rattle.rules.specs.declared.behavior.Kind.{Kind}
-use Rattle.rules.specs.Outcome.{world}
+use Rattle.rules.specs.Outcome.{eventOf, world}
 use Rattle.rules.specs.Call.{answers}
 use Rattle.runs.specs.Runs.{tableOf, state}
 use Rattle.runs.specs.FlatRules.{frule, ftick}
-use Rattle.drivers.specs.Turns.{eventOf}
 use Rattle.drivers.specs.ByKind.{turnOf, nextOf}
 use Rattle.resume.specs.Drive.{Pending, goes-on, stops, finished}
 use Rattle.resume.specs.ByKind.{resumeOf, driven-of, start-of, acting}
