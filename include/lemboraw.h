@@ -1,13 +1,37 @@
 /* Lemboraw: a behaviour-tree evaluator, for C and C++ hosts.
  *
- * Link the archive liblemboraw.a (x86-64 Linux, System V calling convention). It keeps nothing
- * between calls, allocates nothing and never fails to return: all memory is lent by the caller
- * for the length of one call. Two things lent to one call must not overlap.
+ * It keeps nothing between calls, allocates nothing, locks nothing and never fails to return: all
+ * memory is lent by the caller for the length of one call. Calls that lend different memory may run
+ * at the same time.
  *
- * Each run of memory is lent as a pointer and a number of elements. A pointer may not be null,
- * also where its length is 0. Several runs that make up one thing (kinds, ns and limits are the
- * table; times, places and marks the cells; statuses and leftovers the answers) count as long as
- * the shortest of them. Nothing past the table's length is read or written in cells, spare and board.
+ *   cc host.c -I include -L target/staticlib -llemboraw
+ *
+ * `struct lemboraw_tree` at the end of this file is the short way to everything here: with it a tick
+ * is a call with five arguments. c/station.c is a whole program.
+ *
+ * What the host sees to, and nothing here can check:
+ *
+ * - The machine is x86-64 Linux, with the System V calling convention. memcpy and memset come from
+ *   the host's C library, or from the host; nothing else is needed.
+ * - Each run of memory is lent as a pointer and a number of elements, and is there for its length.
+ *   Where the length is 0 the pointer may be null. The record is always there.
+ * - Every pointer is aligned as C aligns its type: 8 bytes for double and the record, 2 for uint16_t.
+ * - Two things lent to one call do not overlap, and nobody else writes to any of them, or reads what
+ *   is not const, until the call is back. Cells are changed in place, and put back where the call
+ *   then says 7 or 1.
+ * - What is not const can be written to, also in a call that is refused: the record is written back
+ *   as it was.
+ * - `finished`, `update` and `on` hold 0 or 1, as a bool does that C has written.
+ * - LEMBORAW_STACK bytes of stack are left.
+ * - The thread's floating-point settings (MXCSR) are those with which it starts: round to nearest,
+ *   no flush-to-zero, no denormals-are-zero, every exception masked. A host linked with -ffast-math
+ *   has others: there a Wait of 5e-324 ends at an update by 0. With others elapsed times are not
+ *   those of the rules, and with an exception unmasked a tick can end by a signal.
+ *   lemboraw_floats_are_usual() looks.
+ *
+ * Several runs that make up one thing (kinds, ns and limits are the table; times, places and marks
+ * the cells; statuses and leftovers the answers) count as long as the shortest of them. Nothing past
+ * the table's length is read or written in cells, spare and board.
  */
 #ifndef LEMBORAW_H
 #define LEMBORAW_H
@@ -23,6 +47,9 @@ extern "C" {
 /* A table has 1 to 256 nodes in preorder and is at most 16 deep; the root alone is 1 deep. */
 #define LEMBORAW_MOST_NODES 256
 #define LEMBORAW_MOST_DEPTH 16
+
+/* More stack than any call takes, in bytes: a tick of a tree 16 deep takes about 10,000. */
+#define LEMBORAW_STACK 12288
 
 /* The kinds of a node, with what the node's number n means. The limit is a time in Wait and
  * Timeout (finite, sign bit clear), and all its bits are 0 in every other kind. */
@@ -68,9 +95,11 @@ enum lemboraw_status {
  *   0   done                                                           new cells, record and board;
  *                                                                      the spare holds the cells at entry
  *
- * A place is an index into the table: the smallest faulty one; the table's length where it ends
- * too early; 256 where it is too long. A reset says 3, 4 (cells alone) or 0. The bound says 3, 8 or 0;
- * 8 stands for a step or a limit that is not whole or too large, or an After without children. */
+ * A place is an index into the table: the smallest faulty one. Where the table ends before its tree
+ * does that is the table's length; where it goes on behind its tree, the first node there; where the
+ * tree has more than 256 nodes, 256. A reset says 3, 4 (cells alone) or 0. The bound says 3, 8 or 0;
+ * 8 stands for a step that is not whole or not from 1 to 2^40, a limit that is not whole or above
+ * 2^40, or an After without children, anywhere in the tree. */
 enum lemboraw_no {
     LEMBORAW_DONE = 0,
     LEMBORAW_ASKS = 1,
@@ -95,22 +124,22 @@ struct lemboraw_said {
     uint8_t no;      /* enum lemboraw_no */
     uint8_t status;  /* of 0: the root's status */
     uint32_t visits; /* of 0: the nodes visited, each visit counted */
-    size_t used;   /* of 0: how many of the answers were used */
-    size_t extra;  /* of 1: the action's number; of 3 and 9: the place; of 6: the index */
+    size_t used;     /* of 0: how many of the answers were used */
+    size_t extra;    /* of 1: the action's number; of 3 and 9: the place; of 6: the index */
     double time;     /* of 0: the leftover time; of 1: the dt that the action sees */
 };
 
 /* What the finish bound says. */
 enum lemboraw_bound_kind {
-    LEMBORAW_TICKS = 0,      /* finished at or before that many ticks of at least `step` */
-    LEMBORAW_UNBOUNDED = 1,  /* no bound */
-    LEMBORAW_ABOVE = 2       /* a bound, but above 2^53 */
+    LEMBORAW_TICKS = 0,     /* finished at or before that tick */
+    LEMBORAW_UNBOUNDED = 1, /* no bound */
+    LEMBORAW_ABOVE = 2      /* a bound, but above 2^53 */
 };
 
 struct lemboraw_bound_said {
     uint8_t no;     /* 0, 3 or 8 */
     uint8_t kind;   /* of 0: enum lemboraw_bound_kind */
-    size_t place; /* of 3: the place */
+    size_t place;   /* of 3: the place */
     uint64_t ticks; /* of LEMBORAW_TICKS: the number */
 };
 
@@ -149,8 +178,16 @@ struct lemboraw_said lemboraw_reset(
     uint16_t *places, size_t places_len,
     uint8_t *marks, size_t marks_len);
 
-/* The most ticks of `step` (whole, 1 to 2^40) or longer that a fresh tree takes to finish,
- * whatever its actions answer. */
+/* The most ticks that a fresh tree takes to finish, whatever statuses its actions answer. It holds if,
+ * from the fresh tree on,
+ *
+ * - each tick carried out (answer 0) is an update by a whole dt from `step` to 2^40,
+ * - each answer that it used has a whole leftover up to 2^40,
+ * - and each call is lent the cells and the record as the last one left them.
+ *
+ * Calls that say another number do not count and do no harm. Times may be in any unit; milliseconds
+ * are whole. A bare Action or WaitForever has no bound, and what waits for it has none: put a Timeout
+ * around it. */
 struct lemboraw_bound_said lemboraw_bound(
     const uint8_t *kinds, size_t kinds_len,
     const uint16_t *ns, size_t ns_len,
@@ -160,6 +197,99 @@ struct lemboraw_bound_said lemboraw_bound(
 /* The kind with its memory on or off: Sequence and Select have a memoryless form each, and every
  * other kind is its own. */
 uint8_t lemboraw_memory(uint8_t kind, bool on);
+
+/* Whether the calling thread's floating-point settings are those that the calls above rest on. */
+static inline bool lemboraw_floats_are_usual(void) {
+    return (__builtin_ia32_stmxcsr() & 0xffc0u) == 0x1f80u;
+}
+
+/* ---- The short way: a tree with all that it lends to a call. Fill it in, or let
+ * lemboraw_tree_new() do so with room for the largest tree. ---- */
+
+struct lemboraw_tree {
+    struct lemboraw_record record;
+    size_t len; /* how many nodes the table has; the other runs are as long, and 256 is always enough */
+
+    const uint8_t *kinds; /* the table */
+    const uint16_t *ns;
+    const double *limits;
+
+    double *times; /* the cells, all 0 in a new tree */
+    uint16_t *places;
+    uint8_t *marks;
+
+    double *spare_times; /* the spare, whatever is in it */
+    uint16_t *spare_places;
+    uint8_t *spare_marks;
+
+    uint8_t *board; /* a status for each node, or 0, as the last tick carried out left it */
+};
+
+/* What a tree writes to, for the largest tree that there can be. */
+struct lemboraw_room {
+    double times[LEMBORAW_MOST_NODES], spare_times[LEMBORAW_MOST_NODES];
+    uint16_t places[LEMBORAW_MOST_NODES], spare_places[LEMBORAW_MOST_NODES];
+    uint8_t marks[LEMBORAW_MOST_NODES], spare_marks[LEMBORAW_MOST_NODES], board[LEMBORAW_MOST_NODES];
+};
+
+/* What the actions of a tick answered, in the order in which they were asked. */
+struct lemboraw_answers {
+    const uint8_t *statuses;
+    const double *leftovers;
+    size_t len;
+};
+
+/* A fresh tree over a table and room of its own. A table of more than 256 nodes is refused by the
+ * first call, as any bad table is. */
+static inline struct lemboraw_tree lemboraw_tree_new(
+    const uint8_t *kinds, const uint16_t *ns, const double *limits, size_t len, struct lemboraw_room *room) {
+    struct lemboraw_tree tree;
+    for (size_t i = 0; i < LEMBORAW_MOST_NODES; i++) {
+        room->times[i] = 0.0;
+        room->places[i] = 0;
+        room->marks[i] = 0;
+        room->board[i] = 0;
+    }
+    tree.record.finished = false;
+    tree.record.ticks = 0;
+    tree.len = len;
+    tree.kinds = kinds;
+    tree.ns = ns;
+    tree.limits = limits;
+    tree.times = room->times;
+    tree.places = room->places;
+    tree.marks = room->marks;
+    tree.spare_times = room->spare_times;
+    tree.spare_places = room->spare_places;
+    tree.spare_marks = room->spare_marks;
+    tree.board = room->board;
+    return tree;
+}
+
+/* lemboraw_tick of a tree. */
+static inline struct lemboraw_said lemboraw_tree_tick(
+    struct lemboraw_tree *tree, bool update, double dt, uint32_t fuel, struct lemboraw_answers answers) {
+    const size_t len = tree->len, room = len < LEMBORAW_MOST_NODES ? len : LEMBORAW_MOST_NODES;
+    return lemboraw_tick(
+        &tree->record, tree->kinds, len, tree->ns, len, tree->limits, len,
+        tree->times, room, tree->places, room, tree->marks, room,
+        tree->spare_times, room, tree->spare_places, room, tree->spare_marks, room,
+        tree->board, room, update, dt, fuel,
+        answers.statuses, answers.len, answers.leftovers, answers.len);
+}
+
+/* lemboraw_reset of a tree. */
+static inline struct lemboraw_said lemboraw_tree_reset(struct lemboraw_tree *tree) {
+    const size_t len = tree->len, room = len < LEMBORAW_MOST_NODES ? len : LEMBORAW_MOST_NODES;
+    return lemboraw_reset(
+        &tree->record, tree->kinds, len, tree->ns, len, tree->limits, len,
+        tree->times, room, tree->places, room, tree->marks, room);
+}
+
+/* lemboraw_bound of a tree. */
+static inline struct lemboraw_bound_said lemboraw_tree_bound(const struct lemboraw_tree *tree, double step) {
+    return lemboraw_bound(tree->kinds, tree->len, tree->ns, tree->len, tree->limits, tree->len, step);
+}
 
 #ifdef __cplusplus
 }

@@ -6,6 +6,12 @@ use std::path::PathBuf;
 use std::process::exit;
 
 fn main() {
+    let target = |name: &str| env::var(format!("CARGO_CFG_TARGET_{name}")).unwrap_or_default();
+    let (machine, system, width) = (target("ARCH"), target("OS"), target("POINTER_WIDTH"));
+    if (&*machine, &*system, &*width) != ("x86_64", "linux", "64") {
+        eprintln!("lemboraw's archive is for x86-64 Linux, and this build is for {machine} {system}, {width} bits");
+        exit(1);
+    }
     println!("cargo:rerun-if-env-changed=LEMBORAW_LIB");
     let folder = match env::var_os("LEMBORAW_LIB") {
         Some(folder) => PathBuf::from(folder),

@@ -245,29 +245,9 @@ pub fn print_stack() {
     for kind in 3..=16 {
         let case = case("", &chain(kind), 1.0, false);
         let [bonsai, ours] = [bonsai(&case), ours(&case, "ours", FUEL, false)].map(|mut side| stack(&mut *side.tick));
-        println!("| {} | {bonsai} | {ours} |", NAMES[usize::from(kind)]);
+        println!("| {} | {bonsai} | {ours} |", lemboraw::Kind::ALL[usize::from(kind)]);
     }
 }
-
-const NAMES: [&str; 17] = [
-    "Wait",
-    "WaitForever",
-    "Action",
-    "Invert",
-    "AlwaysSucceed",
-    "Timeout",
-    "Select",
-    "If",
-    "Sequence",
-    "MemorylessSequence",
-    "MemorylessSelector",
-    "While",
-    "WhileAll",
-    "WhenAll",
-    "WhenAny",
-    "After",
-    "Race",
-];
 
 /// Names of what can be counted, a line each: number, side, tree.
 pub fn list() {

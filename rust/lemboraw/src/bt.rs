@@ -1,12 +1,15 @@
 //! A tree with its state.
 
-use crate::behavior::{Behavior, Tree};
+use crate::behavior::Behavior;
 use crate::raw::{self, Cells, Record, Said};
+use crate::state::{Cell, State};
+use crate::tree::Tree;
 use crate::{Refusal, Status, UpdateEvent};
 
-/// The most visits that one tick makes, unless [`BT::set_fuel`] says otherwise: 256 for each
-/// behavior of the largest tree.
-pub const DEFAULT_FUEL: u32 = 65_536;
+/// Fuel that is there unless [`BT::set_fuel`] says otherwise: so many visits for each behavior.
+const FUEL_EACH: u32 = 16;
+/// And this many at least.
+const FUEL_LEAST: u32 = 1024;
 
 /// The arguments in the action callback.
 pub struct ActionArgs<'a, E: 'a, A: 'a> {
@@ -18,7 +21,7 @@ pub struct ActionArgs<'a, E: 'a, A: 'a> {
     pub action: &'a A,
 }
 
-/// How many ticks a tree takes at most.
+/// How many ticks a tree takes at most; see [`BT::finish_bound`].
 #[derive(Clone, Copy, Debug, PartialEq, Eq)]
 pub enum FinishBound {
     /// It has finished at or before that tick.
@@ -32,29 +35,38 @@ pub enum FinishBound {
 /// The execution state of a behavior tree, along with a "blackboard" that the actions share.
 #[derive(Clone, Debug)]
 pub struct BT<A, B> {
-    tree: Tree<A>,
+    pub(crate) tree: Tree<A>,
     record: Record,
-    cells: Room,
+    pub(crate) cells: Room,
     spare: Room,
-    board: Vec<u8>,
+    pub(crate) board: Vec<u8>,
     /// The answers of the tick under way; kept so that their memory is used again.
     statuses: Vec<u8>,
     leftovers: Vec<f64>,
     fuel: u32,
+    visits: u32,
     bb: B,
 }
 
 /// Memory for the cells of a tree.
 #[derive(Clone, Debug)]
-struct Room {
-    times: Vec<f64>,
-    places: Vec<u16>,
-    marks: Vec<u8>,
+pub(crate) struct Room {
+    pub times: Vec<f64>,
+    pub places: Vec<u16>,
+    pub marks: Vec<u8>,
 }
 
 impl Room {
     fn new(len: usize) -> Self {
         Room { times: vec![0.0; len], places: vec![0; len], marks: vec![0; len] }
+    }
+
+    fn of(cells: &[Cell]) -> Self {
+        Room {
+            times: cells.iter().map(|cell| cell.time).collect(),
+            places: cells.iter().map(|cell| cell.place).collect(),
+            marks: cells.iter().map(|cell| cell.mark.into()).collect(),
+        }
     }
 
     fn lend(&mut self) -> Cells<'_> {
@@ -63,8 +75,8 @@ impl Room {
 }
 
 impl<A, B> BT<A, B> {
-    /// A fresh tree. Refused is what bonsai panics on, and what is larger than 256 behaviors or
-    /// deeper than 16.
+    /// A fresh tree. Refused is what bonsai panics on, what is larger than 256 behaviors or deeper
+    /// than 16, and what has a limit that is negative or not finite.
     pub fn new(behavior: Behavior<A>, blackboard: B) -> Result<Self, Refusal> {
         let tree = Tree::new(behavior);
         let len = tree.kinds.len();
@@ -76,46 +88,40 @@ impl<A, B> BT<A, B> {
             board: vec![0; len],
             statuses: vec![],
             leftovers: vec![],
-            fuel: DEFAULT_FUEL,
+            // A tree has at most 256 behaviors, or is refused below.
+            fuel: FUEL_LEAST.max(FUEL_EACH.saturating_mul(len as u32)),
+            visits: 0,
             bb: blackboard,
         };
-        // A reset looks at the table and changes nothing in a fresh tree.
-        let said = raw::reset(&mut bt.record, bt.tree.table(), bt.cells.lend());
-        if said.no == 0 {
-            Ok(bt)
-        } else {
-            Err(bt.refusal(said, 0.0))
-        }
+        bt.look()?;
+        Ok(bt)
     }
 
     /// Ticks the tree with an event, and calls `f` for each action that is met, once each and in
     /// order. `f` returns the action's status and the time it leaves over. The answer is the
     /// root's status and the time that the tree leaves over.
     ///
-    /// After a refusal, or a panic in `f`, the tree is as it was before the call; what `f` did
-    /// until then is done.
+    /// After a refusal, or a panic in `f`, the tree is as it was before the call. What `f` did until
+    /// then has happened all the same, also where the tick then ran out of fuel: ticked again, the
+    /// tree asks again.
+    ///
+    /// Each question costs a walk: a tick with `k` of them walks `k + 1` times from the root, each
+    /// time one question further. So a tick makes at most about `fuel * fuel / 2` visits in all, which
+    /// with the fuel that a tree starts with took 5 ms (1,024) to 90 ms (4,096, a tree of 256).
     pub fn tick<E, F>(&mut self, e: &E, f: &mut F) -> Result<(Status, f64), Refusal>
     where
         E: UpdateEvent,
         F: FnMut(ActionArgs<E, A>, &mut B) -> (Status, f64),
     {
         let dt = e.update_args().map(|args| args.dt);
-        self.statuses.clear();
-        self.leftovers.clear();
+        self.forget();
         loop {
-            let said = raw::tick(
-                &mut self.record,
-                self.tree.table(),
-                self.cells.lend(),
-                self.spare.lend(),
-                &mut self.board,
-                dt,
-                self.fuel,
-                &self.statuses,
-                &self.leftovers,
-            );
+            let said = self.walk(dt, self.fuel);
             match (said.no, Status::from_number(said.status), self.tree.actions.get(said.extra)) {
-                (0, Some(status), _) => return Ok((status, said.time)),
+                (0, Some(status), _) => {
+                    self.visits = said.visits;
+                    return Ok((status, said.time));
+                }
                 (1, _, Some(action)) => {
                     // An action sees an update event with the time that is left for it.
                     let left = dt.and_then(|_| E::from_dt(said.time, e));
@@ -145,34 +151,94 @@ impl<A, B> BT<A, B> {
         self.record.ticks
     }
 
-    /// At most how many ticks, each of `step` or longer, a fresh tree takes to finish, whatever
-    /// the actions answer. The step and every limit must be whole and at most 2^40.
+    /// At most how many ticks a fresh tree takes to finish, whatever statuses the actions give.
+    ///
+    /// The number holds for ticks of this kind, counted from a fresh tree on:
+    ///
+    /// - each is an update, by a whole time from `step` to 2^40 (milliseconds, say; [`Timer`](crate::Timer)
+    ///   gives these);
+    /// - each action leaves over a whole time up to 2^40.
+    ///
+    /// Refused ticks do not count and do no harm. Asked for is a whole step from 1 to 2^40, and a tree
+    /// whose limits are whole and at most 2^40 and in which no `After` is empty; else the refusal says
+    /// what stands in the way. A bare `Action` or `WaitForever` has no bound, and gives none to what
+    /// waits for it: put a `Timeout` around it.
     pub fn finish_bound(&self, step: f64) -> Result<FinishBound, Refusal> {
         let bound = raw::bound(self.tree.table(), step);
-        match (bound.no, bound.kind) {
-            (0, 0) => Ok(FinishBound::Ticks(bound.ticks)),
-            (0, 1) => Ok(FinishBound::None),
-            (0, 2) => Ok(FinishBound::Above),
-            (8, _) => Err(Refusal::NoBound),
-            (no, _) => Err(Refusal::Unexpected { no, extra: bound.place }),
+        match (bound.no, bound.kind, self.tree.no_bound(step)) {
+            (0, 0, _) => Ok(FinishBound::Ticks(bound.ticks)),
+            (0, 1, _) => Ok(FinishBound::None),
+            (0, 2, _) => Ok(FinishBound::Above),
+            (8, _, Some(why)) => Err(Refusal::NoBound(why)),
+            (no, ..) => Err(Refusal::Unexpected { no, extra: bound.place }),
         }
     }
 
-    /// The status of a behavior's last visit in the last tick carried out; none if it had none.
-    /// Behaviors count from 0 in preorder.
-    pub fn last_status(&self, place: usize) -> Option<Status> {
-        Status::from_number(*self.board.get(place)?)
+    /// How many behaviors the tree has.
+    #[allow(clippy::len_without_is_empty)] // a tree has one at least
+    pub fn len(&self) -> usize {
+        self.tree.kinds.len()
     }
 
-    /// The most visits that one tick may make.
+    /// The status of a behavior's last visit in the last tick carried out, or none if it was not
+    /// visited then. Behaviors count from 0 in preorder; a place past the last is refused.
+    pub fn last_status(&self, place: usize) -> Result<Option<Status>, Refusal> {
+        match self.board.get(place) {
+            Some(&seen) => Ok(Status::from_number(seen)),
+            None => Err(Refusal::NoSuchPlace { place, len: self.len() }),
+        }
+    }
+
+    /// The visits that the last tick made; 0 if it was refused.
+    pub fn last_visits(&self) -> u32 {
+        self.visits
+    }
+
+    /// The questions that the last tick asked, also if it was then refused.
+    pub fn last_questions(&self) -> usize {
+        self.statuses.len()
+    }
+
+    /// The most visits that one tick may make: unless it was set, 16 for each behavior and at least
+    /// 1,024.
     pub fn fuel(&self) -> u32 {
         self.fuel
     }
 
     /// Sets the most visits that one tick may make. A tree without loops needs no more than it has
-    /// behaviors.
+    /// behaviors; for one with loops [`last_visits`](BT::last_visits) tells what a tick took.
     pub fn set_fuel(&mut self, fuel: u32) {
         self.fuel = fuel;
+    }
+
+    /// The tree's state, to keep.
+    pub fn state(&self) -> State {
+        let Room { times, places, marks } = &self.cells;
+        let cells = times.iter().zip(places).zip(marks);
+        State {
+            finished: self.record.finished,
+            ticks: self.record.ticks,
+            cells: cells.map(|((&time, &place), &mark)| Cell { time, place, mark: mark == 1 }).collect(),
+        }
+    }
+
+    /// Goes on from a state that was kept of a tree like this one. A state that no such tree can have
+    /// is refused, with its first bad place; one of another tree whose cells happen to fit is not told
+    /// apart. No behavior counts as visited until the next tick.
+    pub fn restore(&mut self, state: &State) -> Result<(), Refusal> {
+        if state.cells.len() != self.len() {
+            return Err(Refusal::OtherTree { len: self.len(), cells: state.cells.len() });
+        }
+        let cells = std::mem::replace(&mut self.cells, Room::of(&state.cells));
+        let record = std::mem::take(&mut self.record);
+        if let Err(refusal) = self.look() {
+            self.cells = cells;
+            self.record = record;
+            return Err(refusal);
+        }
+        self.record = Record { finished: state.finished, ticks: state.ticks };
+        self.board.fill(0);
+        Ok(())
     }
 
     /// The blackboard.
@@ -190,15 +256,48 @@ impl<A, B> BT<A, B> {
         self.bb
     }
 
+    /// Forgets what was asked and answered in the last tick.
+    fn forget(&mut self) {
+        self.statuses.clear();
+        self.leftovers.clear();
+        self.visits = 0;
+    }
+
+    /// Whether table and cells can be ticked: a tick without fuel looks at both, and leaves them.
+    fn look(&mut self) -> Result<(), Refusal> {
+        self.forget();
+        let said = self.walk(None, 0);
+        match said.no {
+            7 => Ok(()),
+            _ => Err(self.refusal(said, 0.0)),
+        }
+    }
+
+    /// One walk, with the answers there are.
+    fn walk(&mut self, dt: Option<f64>, fuel: u32) -> Said {
+        raw::tick(
+            &mut self.record,
+            self.tree.table(),
+            self.cells.lend(),
+            self.spare.lend(),
+            &mut self.board,
+            dt,
+            fuel,
+            &self.statuses,
+            &self.leftovers,
+        )
+    }
+
     fn refusal(&self, said: Said, dt: f64) -> Refusal {
         let at = said.extra;
         match said.no {
             2 => Refusal::Finished,
-            3 => Refusal::BadTree { place: at, behavior: self.tree.name(at) },
+            3 => self.tree.bad_tree(at),
             5 => Refusal::BadTime { dt },
             6 => Refusal::BadAnswer { index: at, leftover: self.leftovers.get(at).copied().unwrap_or(0.0) },
-            7 => Refusal::OutOfFuel { fuel: self.fuel },
-            no => Refusal::Unexpected { no, extra: said.extra },
+            7 => Refusal::OutOfFuel { fuel: self.fuel, questions: self.statuses.len() },
+            9 => Refusal::BadCell { place: at, kind: self.tree.kind(at) },
+            no => Refusal::Unexpected { no, extra: at },
         }
     }
 }

@@ -38,6 +38,12 @@ impl From<UpdateArgs> for Event {
 }
 
 /// What a tree has to know of an event: whether it is an update, and by how much.
+///
+/// A tree takes the time from [`update_args`](UpdateEvent::update_args) once a tick, and from then on
+/// goes by its own numbers: an action is handed `from_dt(dt, event)`, where `event` is the one that the
+/// tree was ticked with and `dt` the time that is left for that action, as in
+/// [`ActionArgs::dt`](crate::ActionArgs::dt). Where bonsai unwraps what `from_dt` gives, and panics if that
+/// is `None`, here the action is handed the tree's own event, and `ActionArgs::dt` is right all the same.
 pub trait UpdateEvent: Sized {
     /// Creates an update event.
     fn from_update_args(args: &UpdateArgs, old_event: &Self) -> Option<Self>;

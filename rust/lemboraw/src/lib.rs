@@ -9,6 +9,10 @@
 //!   tree), there is a [`Refusal`], and the tree is as before the call.
 //! - A tree has at most 256 behaviors and is at most 16 deep. The evaluator is for x86-64 Linux.
 //! - [`BT::finish_bound`] says after how many ticks a tree has ended at the latest.
+//! - [`BT::state`] and [`BT::restore`] carry a tree over a restart; `println!("{bt}")`, [`BT::nodes`]
+//!   and [`BT::dot`] show a tick; [`Behavior::from_words`] reads a tree from a file.
+//!
+//! The crate's README has a table for moving from bonsai, line by line.
 //!
 //! # Example
 //!
@@ -58,47 +62,10 @@
 //! bt.reset_bt();
 //! ```
 //!
-//! In bonsai's own words it is the same, but for the name of the crate and the first `unwrap`:
-//!
-//! ```ignore
-//! use bonsai_bt::{Action, Event, Sequence, Success, UpdateArgs, Wait, BT};
-//!
-//! #[derive(Clone, Debug, Copy)]
-//! enum Actions {
-//!     Inc,
-//!     Dec,
-//! }
-//! use Actions::{Dec, Inc};
-//!
-//! fn tick(mut acc: i32, dt: f64, bt: &mut BT<Actions, ()>) -> i32 {
-//!     let e: Event = UpdateArgs { dt }.into();
-//!     let (_status, _dt) = bt
-//!         .tick(&e, &mut |args, _| match *args.action {
-//!             Inc => {
-//!                 acc += 1;
-//!                 (Success, args.dt)
-//!             }
-//!             Dec => {
-//!                 acc -= 1;
-//!                 (Success, args.dt)
-//!             }
-//!         })
-//!         .unwrap();
-//!     acc
-//! }
-//!
-//! let behavior = Sequence(vec![Wait(1.0), Action(Inc), Wait(1.0), Action(Inc), Wait(0.5), Action(Dec)]);
-//! let mut bt = BT::new(behavior, ());
-//!
-//! let a = tick(0, 0.5, &mut bt);
-//! assert_eq!(a, 0);
-//! // and so on, as above
-//! ```
-//!
 //! # A tree that gives up
 //!
 //! ```
-//! use lemboraw::{Action, FinishBound, Invert, Refusal, Sequence, Timeout, Wait, BT};
+//! use lemboraw::{Action, Fault, FinishBound, Invert, Kind, Refusal, Sequence, Timeout, Wait, BT};
 //!
 //! // Scan, but give up after 30: whatever the scanner answers, three ticks of 10 are enough.
 //! let bt = BT::new(Timeout(30.0, Box::new(Action("scan"))), ()).unwrap();
@@ -109,36 +76,67 @@
 //! assert_eq!(bt.finish_bound(10.0), Ok(FinishBound::None));
 //!
 //! // bonsai panics on this one; here the second behavior is named.
-//! let refused = BT::<&str, ()>::new(Invert(Box::new(Sequence(vec![]))), ());
-//! assert_eq!(refused.unwrap_err(), Refusal::BadTree { place: 1, behavior: "Sequence" });
+//! let refused = BT::<&str, ()>::new(Invert(Box::new(Sequence(vec![]))), ()).unwrap_err();
+//! assert_eq!(refused, Refusal::BadTree { place: 1, kind: Kind::Sequence, fault: Fault::Empty });
 //! ```
+//!
+//! What the bound needs of the ticks is said at [`BT::finish_bound`]: updates by whole times from the
+//! step up to 2^40, and whole leftovers.
 //!
 //! # What asking costs
 //!
 //! The evaluator takes the answers of a tick's actions as a list, and stops where the list ends.
 //! For a tick that meets `k` actions [`BT::tick`] therefore walks `k + 1` times, each time one
-//! action further; the closure is called only once for each.
+//! action further; the closure is called only once for each. A loop whose actions succeed at once
+//! and leave all of their time asks until the [fuel](BT::fuel) is used up: the tick is then refused,
+//! the tree stays as it was, and what the actions did has happened. [`BT::last_questions`] and
+//! [`BT::last_visits`] tell what a tick took, so that fuel can be set by what was seen.
+//!
+//! # Floating-point settings
+//!
+//! The evaluator's proofs speak of IEEE 754 arithmetic: round to nearest, no flush-to-zero, no
+//! denormals-are-zero, exceptions masked. That is how a thread starts, unless the program was linked
+//! with `-ffast-math` or something sets them. Each call of this crate looks at the settings, and if
+//! they are others it sets them and puts them back; [`floats_are_usual`] tells.
 
 #![warn(missing_docs)]
 
 mod behavior;
 mod bt;
 mod event;
+mod floats;
+mod kind;
 pub mod raw;
 mod refusal;
+mod show;
+mod state;
 mod status;
+mod timer;
+mod tree;
+mod words;
 
 pub use behavior::Behavior::{
     self, Action, After, AlwaysSucceed, If, Invert, Race, Select, Sequence, Timeout, Wait, WaitForever, WhenAll,
     WhenAny, While, WhileAll,
 };
-pub use bt::{ActionArgs, FinishBound, BT, DEFAULT_FUEL};
+pub use bt::{ActionArgs, FinishBound, BT};
 pub use event::{Event, UpdateArgs, UpdateEvent};
-pub use refusal::Refusal;
+pub use floats::floats_are_usual;
+pub use kind::Kind;
+pub use refusal::{Fault, NoBound, Refusal};
+pub use show::Node;
+pub use state::{Cell, State};
 pub use status::Status::{self, Failure, Running, Success};
+pub use timer::Timer;
+pub use words::WordsError;
 
 /// The type of times, as bonsai names it.
 pub type Float = f64;
 
 /// What an action that is still running answers.
 pub const RUNNING: (Status, Float) = (Running, 0.0);
+
+/// The examples of the README.
+#[cfg(doctest)]
+#[doc = include_str!("../README.md")]
+struct Readme;

@@ -3,6 +3,11 @@
 //! Each is proved to return for every argument and to touch only what is lent to it, so these are
 //! safe to call with anything. What the numbers mean, and what each answer leaves behind, is in
 //! `include/lemboraw.h`. [`BT`](crate::BT) is the comfortable way to the same thing.
+//!
+//! The proofs speak of IEEE 754 arithmetic, so each call sets the thread's floating-point settings
+//! where they are others, and puts them back.
+
+use crate::floats::usual;
 
 /// The standing record of one tree; the default is that of a new one.
 #[repr(C)]
@@ -70,6 +75,7 @@ pub struct Cells<'a> {
 
 /// One tick; `dt` is `None` for an event that is no update.
 #[allow(clippy::too_many_arguments)]
+#[inline]
 pub fn tick(
     record: &mut Record,
     table: Table,
@@ -83,7 +89,7 @@ pub fn tick(
 ) -> Said {
     // SAFETY: every pointer goes with the length of its slice, the borrows keep the slices apart,
     // and the function is proved to stay within them.
-    unsafe {
+    usual(|| unsafe {
         lemboraw_tick(
             record,
             table.kinds.as_ptr(),
@@ -114,13 +120,13 @@ pub fn tick(
             leftovers.as_ptr(),
             leftovers.len(),
         )
-    }
+    })
 }
 
 /// Makes the cells fresh and the record unfinished.
 pub fn reset(record: &mut Record, table: Table, cells: Cells) -> Said {
     // SAFETY: as for `tick`.
-    unsafe {
+    usual(|| unsafe {
         lemboraw_reset(
             record,
             table.kinds.as_ptr(),
@@ -136,13 +142,13 @@ pub fn reset(record: &mut Record, table: Table, cells: Cells) -> Said {
             cells.marks.as_mut_ptr(),
             cells.marks.len(),
         )
-    }
+    })
 }
 
-/// The finish bound for ticks of at least `step`.
+/// The finish bound for a step; [`BT::finish_bound`](crate::BT::finish_bound) says what it needs.
 pub fn bound(table: Table, step: f64) -> Bound {
     // SAFETY: as for `tick`.
-    unsafe {
+    usual(|| unsafe {
         lemboraw_bound(
             table.kinds.as_ptr(),
             table.kinds.len(),
@@ -152,7 +158,7 @@ pub fn bound(table: Table, step: f64) -> Bound {
             table.limits.len(),
             step,
         )
-    }
+    })
 }
 
 /// The kind with its memory on or off.

@@ -1,29 +1,32 @@
 //! What can be wrong with a tree, an event or an answer.
 
+use crate::kind::Kind;
 use std::error::Error;
 use std::fmt;
 
-/// Why a call was not carried out. The tree is then as it was before the call.
+/// Why a call was not carried out. The tree is then as it was before the call. Places count from 0
+/// in preorder.
 #[derive(Clone, Copy, Debug, PartialEq)]
 pub enum Refusal {
     /// The tree has ended: [`reset_bt`](crate::BT::reset_bt) starts it again.
     Finished,
-    /// A tree that can't be ticked: too many behaviors or too deep, a `Select`, `Sequence` or loop
-    /// with nothing in it, or a time that is negative or not finite.
+    /// A tree that can't be ticked.
     BadTree {
-        /// The first faulty behavior, counted from 0 in preorder.
+        /// The first faulty behavior.
         place: usize,
-        /// Its name.
-        behavior: &'static str,
+        /// What it is.
+        kind: Kind,
+        /// What is wrong with it.
+        fault: Fault,
     },
-    /// An update by a time that is negative (minus zero too) or not finite.
+    /// An update by a time that is not finite, or that has its sign bit set as -1.0 and -0.0 do.
     BadTime {
         /// The time.
         dt: f64,
     },
-    /// An action answered with a leftover that is negative (minus zero too) or not finite.
+    /// An action left over a time that is not finite, or that has its sign bit set.
     BadAnswer {
-        /// Which of the tick's actions, counted from 0 in the order of asking.
+        /// Which of the tick's questions, counted from 0.
         index: usize,
         /// What it left over.
         leftover: f64,
@@ -32,9 +35,32 @@ pub enum Refusal {
     OutOfFuel {
         /// The fuel it had.
         fuel: u32,
+        /// The questions that were asked until then. What the actions did has happened.
+        questions: usize,
     },
-    /// No bound can be asked for: the step or a limit is not whole or too large, or an `After` is empty.
-    NoBound,
+    /// No bound can be worked out.
+    NoBound(NoBound),
+    /// A state that was saved of a tree with another number of behaviors.
+    OtherTree {
+        /// The behaviors of this tree.
+        len: usize,
+        /// The cells of the state.
+        cells: usize,
+    },
+    /// A state with a cell that its behavior can't have.
+    BadCell {
+        /// The first such behavior.
+        place: usize,
+        /// What it is.
+        kind: Kind,
+    },
+    /// The tree has no such place.
+    NoSuchPlace {
+        /// The place.
+        place: usize,
+        /// The behaviors of this tree.
+        len: usize,
+    },
     /// An answer that the memory kept by this crate does not bring about.
     Unexpected {
         /// The refusal's number.
@@ -44,20 +70,88 @@ pub enum Refusal {
     },
 }
 
+/// What is wrong with a behavior of a tree that can't be ticked.
+#[derive(Clone, Copy, Debug, PartialEq)]
+pub enum Fault {
+    /// A `Select` or `Sequence` without children, or a `While` or `WhileAll` without a body.
+    Empty,
+    /// It is the first that lies deeper than 16, where the root is 1 deep.
+    TooDeep,
+    /// It is the 257th.
+    TooMany,
+    /// A limit that is not finite, or that has its sign bit set.
+    Limit {
+        /// The limit.
+        limit: f64,
+    },
+}
+
+/// Why no finish bound can be worked out.
+#[derive(Clone, Copy, Debug, PartialEq)]
+pub enum NoBound {
+    /// The step is not a whole number from 1 to 2^40.
+    Step {
+        /// The step.
+        step: f64,
+    },
+    /// A limit is not a whole number up to 2^40.
+    Limit {
+        /// The first such behavior.
+        place: usize,
+        /// Its limit.
+        limit: f64,
+    },
+    /// An `After` has no children.
+    EmptyAfter {
+        /// The first such behavior.
+        place: usize,
+    },
+}
+
 impl fmt::Display for Refusal {
     fn fmt(&self, f: &mut fmt::Formatter<'_>) -> fmt::Result {
         match self {
-            Refusal::Finished => write!(f, "the tree is finished"),
-            Refusal::BadTree { place, behavior } => {
-                write!(f, "behavior {place} in preorder ({behavior}) makes this no tree to tick")
-            }
-            Refusal::BadTime { dt } => write!(f, "an update by {dt:?} is not finite or negative"),
+            Refusal::Finished => write!(f, "the tree is finished; a reset starts it again"),
+            Refusal::BadTree { place, kind, fault } => write!(f, "behavior {place} in preorder ({kind}) {fault}"),
+            Refusal::BadTime { dt } => write!(f, "an update by {dt:?}: {A_TIME}"),
             Refusal::BadAnswer { index, leftover } => {
-                write!(f, "action {index} of this tick left over {leftover:?}, which is not finite or negative")
+                write!(f, "question {index} of this tick left over {leftover:?}: {A_TIME}")
             }
-            Refusal::OutOfFuel { fuel } => write!(f, "the tick would visit more than {fuel} behaviors"),
-            Refusal::NoBound => write!(f, "the step or a limit is not whole or too large, or an After is empty"),
+            Refusal::OutOfFuel { fuel, questions } => {
+                write!(f, "the tick would make more than {fuel} visits (questions asked until then: {questions})")
+            }
+            Refusal::NoBound(why) => write!(f, "no bound: {why}"),
+            Refusal::OtherTree { len, cells } => write!(f, "a state of {cells} cells for a tree of {len} behaviors"),
+            Refusal::BadCell { place, kind } => {
+                write!(f, "behavior {place} in preorder ({kind}) can't have the cell that the state has for it")
+            }
+            Refusal::NoSuchPlace { place, len } => write!(f, "place {place} in a tree of {len} behaviors"),
             Refusal::Unexpected { no, extra } => write!(f, "refusal {no} ({extra})"),
+        }
+    }
+}
+
+const A_TIME: &str = "a time has to be finite, with its sign bit clear";
+
+impl fmt::Display for Fault {
+    fn fmt(&self, f: &mut fmt::Formatter<'_>) -> fmt::Result {
+        match self {
+            Fault::Empty => write!(f, "is empty: Select and Sequence need a child, While and WhileAll a body"),
+            Fault::TooDeep => write!(f, "lies deeper than 16"),
+            Fault::TooMany => write!(f, "is one too many: a tree has at most 256"),
+            Fault::Limit { limit } => write!(f, "has the limit {limit:?}: {A_TIME}"),
+        }
+    }
+}
+
+impl fmt::Display for NoBound {
+    fn fmt(&self, f: &mut fmt::Formatter<'_>) -> fmt::Result {
+        match self {
+            NoBound::Step { step } => write!(f, "the step {step:?} is not a whole number from 1 to 2^40"),
+            NoBound::Limit { place, limit } => {
+                write!(f, "the limit {limit:?} of behavior {place} in preorder is not a whole number up to 2^40")
+            }
+            NoBound::EmptyAfter { place } => write!(f, "behavior {place} in preorder is an After without children"),
         }
     }
 }

@@ -1,9 +1,9 @@
 //! What a host sees: answers, the order of actions, refusals, and what they leave behind.
 
 use lemboraw::{
-    Action, ActionArgs, After, AlwaysSucceed, Behavior, Event, Failure, FinishBound, If, Invert, Race, Refusal,
-    Running, Select, Sequence, Status, Success, Timeout, UpdateArgs, UpdateEvent, Wait, WaitForever, WhenAll, WhenAny,
-    While, WhileAll, BT,
+    Action, ActionArgs, After, AlwaysSucceed, Behavior, Event, Failure, Fault, FinishBound, If, Invert, Kind, NoBound,
+    Race, Refusal, Running, Select, Sequence, Status, Success, Timeout, UpdateArgs, UpdateEvent, Wait, WaitForever,
+    WhenAll, WhenAny, While, WhileAll, BT,
 };
 use std::panic::{catch_unwind, AssertUnwindSafe};
 
@@ -59,8 +59,10 @@ fn every_kind_ticks() {
 fn state_is_kept_and_reset() {
     let mut bt = tree(Sequence(vec![Wait(2.0), Wait(1.0)]));
     assert_eq!(quiet(&mut bt, update(1.0)), Ok((Running, 0.0)));
-    assert_eq!(bt.last_status(1), Some(Running));
-    assert_eq!(bt.last_status(2), None);
+    assert_eq!(bt.last_status(1), Ok(Some(Running)));
+    assert_eq!(bt.last_status(2), Ok(None));
+    assert_eq!(bt.last_status(3), Err(Refusal::NoSuchPlace { place: 3, len: 3 }));
+    assert_eq!((bt.len(), bt.last_visits(), bt.last_questions()), (3, 2, 0));
     assert_eq!(quiet(&mut bt, Event::Other), Ok((Running, 0.0)));
     assert_eq!(quiet(&mut bt, update(3.0)), Ok((Success, 1.0)));
     assert!(bt.is_finished());
@@ -150,28 +152,31 @@ fn refused(behavior: Behavior<&'static str>) -> Refusal {
 
 #[test]
 fn trees_are_refused_where_they_are_faulty() {
-    for (empty, name) in [(Sequence(vec![]), "Sequence"), (Select(vec![]), "Select")] {
-        assert_eq!(refused(empty), Refusal::BadTree { place: 0, behavior: name });
-    }
+    let at = |place, kind, fault| Refusal::BadTree { place, kind, fault };
+    assert_eq!(refused(Sequence(vec![])), at(0, Kind::Sequence, Fault::Empty));
+    assert_eq!(refused(Select(vec![])), at(0, Kind::Select, Fault::Empty));
     let body = |behavior| WhenAny(vec![Wait(1.0), behavior]);
-    assert_eq!(refused(body(While(boxed(WaitForever), vec![]))), Refusal::BadTree { place: 2, behavior: "While" });
-    assert_eq!(
-        refused(body(WhileAll(boxed(WaitForever), vec![]))),
-        Refusal::BadTree { place: 2, behavior: "WhileAll" }
-    );
-    for time in [f64::NAN, f64::INFINITY, -1.0, -0.0] {
-        assert_eq!(refused(body(Wait(time))), Refusal::BadTree { place: 2, behavior: "Wait" });
-        assert_eq!(refused(Timeout(time, boxed(WaitForever))), Refusal::BadTree { place: 0, behavior: "Timeout" });
+    assert_eq!(refused(body(While(boxed(WaitForever), vec![]))), at(2, Kind::While, Fault::Empty));
+    assert_eq!(refused(body(WhileAll(boxed(WaitForever), vec![]))), at(2, Kind::WhileAll, Fault::Empty));
+    for limit in [f64::INFINITY, f64::NEG_INFINITY, -1.0, -0.0] {
+        assert_eq!(refused(body(Wait(limit))), at(2, Kind::Wait, Fault::Limit { limit }));
+        assert_eq!(refused(Timeout(limit, boxed(WaitForever))), at(0, Kind::Timeout, Fault::Limit { limit }));
     }
+    assert!(
+        matches!(refused(Wait(f64::NAN)), Refusal::BadTree { fault: Fault::Limit { limit }, .. } if limit.is_nan())
+    );
     let deep = |levels| (1..levels).fold(Wait(1.0), |below, _| Invert(Box::new(below)));
     assert!(BT::new(deep(16), ()).is_ok());
-    assert_eq!(refused(deep(17)), Refusal::BadTree { place: 16, behavior: "Wait" });
+    assert_eq!(refused(deep(17)), at(16, Kind::Wait, Fault::TooDeep));
     // So deep that taking it apart by recursion would end in a stack overflow.
-    assert_eq!(refused(deep(1_000_000)), Refusal::BadTree { place: 16, behavior: "Invert" });
+    assert_eq!(refused(deep(1_000_000)), at(16, Kind::Invert, Fault::TooDeep));
+    // Actions have numbers and no children, so the wait lies behind a path that is too deep.
+    let beside = |levels| (1..levels).fold(Action("a"), |below, _| Sequence(vec![Action("b"), below]));
+    assert_eq!(refused(beside(17)), at(31, Kind::Action, Fault::TooDeep));
     let wide = |n| WhenAll((0..n).map(|_| Wait(1.0)).collect());
     assert!(BT::new(wide(255), ()).is_ok());
-    assert_eq!(refused(wide(256)), Refusal::BadTree { place: 256, behavior: "Wait" });
-    assert_eq!(refused(wide(70_000)), Refusal::BadTree { place: 256, behavior: "Wait" });
+    assert_eq!(refused(wide(256)), at(256, Kind::Wait, Fault::TooMany));
+    assert_eq!(refused(wide(70_000)), at(256, Kind::Wait, Fault::TooMany));
 }
 
 #[test]
@@ -195,13 +200,41 @@ fn a_refused_tick_leaves_the_tree() {
 
 #[test]
 fn fuel_ends_a_loop_that_never_does() {
+    let out = |fuel, questions| Err(Refusal::OutOfFuel { fuel, questions });
     let mut bt = tree(While(boxed(WaitForever), vec![Wait(0.0)]));
-    assert_eq!(quiet(&mut bt, update(1.0)), Err(Refusal::OutOfFuel { fuel: bt.fuel() }));
+    assert_eq!(quiet(&mut bt, update(1.0)), out(1024, 0));
     let mut bt = tree(While(boxed(WaitForever), vec![Wait(1.0)]));
     bt.set_fuel(5);
-    assert_eq!(quiet(&mut bt, update(3.0)), Err(Refusal::OutOfFuel { fuel: 5 }));
+    assert_eq!(quiet(&mut bt, update(3.0)), out(5, 0));
+    assert_eq!(bt.last_visits(), 0);
     bt.set_fuel(6);
     assert_eq!(quiet(&mut bt, update(3.0)), Ok((Running, 0.0)));
+    assert_eq!(bt.last_visits(), 6);
+}
+
+/// A loop whose action succeeds at once: it asks until the fuel is used up, and that is soon.
+#[test]
+fn fuel_ends_a_loop_that_asks() {
+    let mut bt = tree(While(boxed(WaitForever), vec![Action("a")]));
+    let mut calls = 0;
+    let mut eager = |args: ActionArgs<Event, &str>, _: &mut ()| {
+        calls += 1;
+        (Success, args.dt)
+    };
+    // Two visits before the first question, and one for each after it.
+    assert_eq!(bt.tick(&update(1.0), &mut eager), Err(Refusal::OutOfFuel { fuel: 1024, questions: 1022 }));
+    assert_eq!(bt.last_questions(), 1022);
+    assert_eq!(calls, 1022);
+    assert_eq!(bt.tick_count(), 0);
+}
+
+#[test]
+fn fuel_grows_with_the_tree() {
+    let wide = |n| tree(WhenAll((0..n).map(|_| Wait(1.0)).collect()));
+    assert_eq!(wide(3).fuel(), 1024);
+    assert_eq!(wide(63).fuel(), 1024);
+    assert_eq!(wide(64).fuel(), 16 * 65);
+    assert_eq!(wide(255).fuel(), 4096);
 }
 
 #[test]
@@ -213,9 +246,24 @@ fn bounds_are_told() {
     let long = 1024f64.powi(4);
     let longest = WhileAll(boxed(Wait(long)), vec![Wait(long)]);
     assert_eq!(bound(longest, 1.0), Ok(FinishBound::Above));
-    assert_eq!(bound(Wait(0.5), 1.0), Err(Refusal::NoBound));
-    assert_eq!(bound(Wait(1.0), 0.5), Err(Refusal::NoBound));
-    assert_eq!(bound(After(vec![]), 1.0), Err(Refusal::NoBound));
+}
+
+#[test]
+fn no_bound_has_a_reason() {
+    let none = |behavior, step| tree(behavior).finish_bound(step).err();
+    let step = |step| Some(Refusal::NoBound(NoBound::Step { step }));
+    for bad in [0.0, -0.0, 0.5, 1.5, -1.0, 1024f64.powi(4) + 1.0, f64::INFINITY] {
+        assert_eq!(none(After(vec![]), bad), step(bad));
+    }
+    assert!(matches!(none(Wait(1.0), f64::NAN), Some(Refusal::NoBound(NoBound::Step { step })) if step.is_nan()));
+    let limit = |place, limit| Some(Refusal::NoBound(NoBound::Limit { place, limit }));
+    assert_eq!(none(Wait(0.5), 1.0), limit(0, 0.5));
+    let later = |time| WhenAll(vec![Wait(1.0), Timeout(time, boxed(Wait(2.5))), After(vec![])]);
+    assert_eq!(none(later(1024f64.powi(4) + 1.0), 1.0), limit(2, 1024f64.powi(4) + 1.0));
+    assert_eq!(none(later(1024f64.powi(4)), 1.0), limit(3, 2.5));
+    let empty = |place| Some(Refusal::NoBound(NoBound::EmptyAfter { place }));
+    assert_eq!(none(After(vec![]), 1.0), empty(0));
+    assert_eq!(none(WhenAll(vec![After(vec![Wait(1.0)]), After(vec![]), Wait(0.5)]), 1.0), empty(3));
 }
 
 #[test]
@@ -246,9 +294,70 @@ fn a_host_may_have_events_of_its_own() {
     assert_eq!(bt.into_inner(), [Mine::Passed(2.0), Mine::Scanned("rack")]);
 }
 
+/// A host's event that can't be made anew: bonsai panics where time is passed on, and here the action gets
+/// the tree's own event, beside the time that is left.
+#[test]
+fn an_event_that_cannot_be_made_is_handed_on() {
+    struct Clock(f64);
+    impl UpdateEvent for Clock {
+        fn from_update_args(_args: &UpdateArgs, _old: &Self) -> Option<Self> {
+            None
+        }
+        fn update<U, F: FnMut(&UpdateArgs) -> U>(&self, mut f: F) -> Option<U> {
+            Some(f(&UpdateArgs { dt: self.0 }))
+        }
+    }
+    let mut bt = tree(Sequence(vec![Wait(1.0), Action("a")]));
+    let mut seen = vec![];
+    let ticked = bt.tick(&Clock(3.0), &mut |args: ActionArgs<Clock, &str>, _: &mut ()| {
+        seen.push((args.event.0, args.dt));
+        (Success, 0.5)
+    });
+    assert_eq!(ticked, Ok((Success, 0.5)));
+    assert_eq!(seen, [(3.0, 2.0)]);
+}
+
 #[test]
 fn refusals_say_what_and_where() {
-    assert_eq!(refused(Sequence(vec![])).to_string(), "behavior 0 in preorder (Sequence) makes this no tree to tick");
+    let deep = (0..16).fold(Wait(1.0), |below, _| Invert(Box::new(below)));
+    let wide = WhenAll((0..256).map(|_| Wait(1.0)).collect());
+    let unbounded = |behavior, step| tree(behavior).finish_bound(step).unwrap_err();
+    let time = quiet(&mut tree(Wait(1.0)), update(-1.0)).unwrap_err();
+    for (refusal, text) in [
+        (
+            refused(Sequence(vec![])),
+            "behavior 0 in preorder (Sequence) is empty: Select and Sequence need a child, While and WhileAll a body",
+        ),
+        (refused(deep), "behavior 16 in preorder (Wait) lies deeper than 16"),
+        (refused(wide), "behavior 256 in preorder (Wait) is one too many: a tree has at most 256"),
+        (
+            refused(Wait(f64::NAN)),
+            "behavior 0 in preorder (Wait) has the limit NaN: a time has to be finite, with its sign bit clear",
+        ),
+        (time, "an update by -1.0: a time has to be finite, with its sign bit clear"),
+        (
+            Refusal::BadAnswer { index: 2, leftover: -0.0 },
+            "question 2 of this tick left over -0.0: a time has to be finite, with its sign bit clear",
+        ),
+        (
+            Refusal::OutOfFuel { fuel: 9, questions: 4 },
+            "the tick would make more than 9 visits (questions asked until then: 4)",
+        ),
+        (unbounded(Wait(1.0), 0.5), "no bound: the step 0.5 is not a whole number from 1 to 2^40"),
+        (
+            unbounded(Wait(0.5), 1.0),
+            "no bound: the limit 0.5 of behavior 0 in preorder is not a whole number up to 2^40",
+        ),
+        (unbounded(After(vec![]), 1.0), "no bound: behavior 0 in preorder is an After without children"),
+        (Refusal::NoSuchPlace { place: 3, len: 3 }, "place 3 in a tree of 3 behaviors"),
+        (Refusal::OtherTree { len: 3, cells: 2 }, "a state of 2 cells for a tree of 3 behaviors"),
+        (
+            Refusal::BadCell { place: 1, kind: Kind::Wait },
+            "behavior 1 in preorder (Wait) can't have the cell that the state has for it",
+        ),
+    ] {
+        assert_eq!(refusal.to_string(), text);
+    }
     let error: Box<dyn std::error::Error> = Box::new(Refusal::Finished);
-    assert_eq!(error.to_string(), "the tree is finished");
+    assert_eq!(error.to_string(), "the tree is finished; a reset starts it again");
 }

@@ -1,4 +1,4 @@
-/* The header and the archive in a C program: two waits, an action that is asked for, the refusals. */
+/* The four functions as they are, each run with its length: a wait, an action that is asked for, the refusals. */
 #include "lemboraw.h"
 #include <stdio.h>
 
@@ -59,6 +59,6 @@ int main(void) {
     CHECK(lemboraw_memory(LEMBORAW_SEQUENCE, false) == LEMBORAW_MEMORYLESS_SEQUENCE);
     CHECK(lemboraw_memory(LEMBORAW_MEMORYLESS_SELECTOR, true) == LEMBORAW_SELECT);
     CHECK(lemboraw_memory(LEMBORAW_RACE, false) == LEMBORAW_RACE);
-    puts(wrong ? "C: wrong" : "C: ok");
+    puts(wrong ? "C, the four functions: wrong" : "C, the four functions: ok");
     return wrong;
 }

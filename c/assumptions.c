@@ -1,0 +1,171 @@
+/* What the header says of memory and settings, tried: each run ends at a page that can't be touched and
+ * starts where its type may, the table and the answers can't be written to, empty runs are null. */
+#define _DEFAULT_SOURCE
+#include "lemboraw.h"
+#include <stdio.h>
+#include <string.h>
+#include <sys/mman.h>
+#include <unistd.h>
+
+static int wrong;
+
+#define CHECK(what) do { if (!(what)) { printf("line %d: %s\n", __LINE__, #what); wrong = 1; } } while (0)
+
+/* Room for `bytes` that ends where a page begins that can't be touched. */
+static void *lend(size_t bytes) {
+    size_t page = (size_t)sysconf(_SC_PAGESIZE), room = (bytes + page - 1) / page * page;
+    char *from = (char *)mmap(NULL, room + page, PROT_READ | PROT_WRITE, MAP_PRIVATE | MAP_ANONYMOUS, -1, 0);
+    if (from == MAP_FAILED || mprotect(from + room, page, PROT_NONE)) _exit(1);
+    return from + room - bytes;
+}
+
+/* The same with contents, and only to be read. */
+static const void *lend_const(const void *what, size_t bytes) {
+    size_t page = (size_t)sysconf(_SC_PAGESIZE), room = (bytes + page - 1) / page * page;
+    char *at = (char *)lend(bytes);
+    memcpy(at, what, bytes);
+    if (mprotect(at + bytes - room, room, PROT_READ)) _exit(1);
+    return at;
+}
+
+/* WhenAll of an action, a wait and a Sequence of one wait. */
+enum { NODES = 5 };
+static const uint8_t kinds[] = {LEMBORAW_WHEN_ALL, LEMBORAW_ACTION, LEMBORAW_WAIT, LEMBORAW_SEQUENCE, LEMBORAW_WAIT};
+static const uint16_t ns[] = {3, 40000, 0, 1, 0};
+static const double limits[] = {0, 0, 2, 0, 9};
+static const uint8_t statuses[] = {LEMBORAW_SUCCESS};
+static const double leftovers[] = {0.25};
+static const struct lemboraw_answers none = {NULL, NULL, 0};
+
+static struct lemboraw_tree lent_tree(void) {
+    struct lemboraw_tree tree;
+    tree.record.finished = false;
+    tree.record.ticks = 0;
+    tree.len = NODES;
+    tree.kinds = (const uint8_t *)lend_const(kinds, sizeof kinds);
+    tree.ns = (const uint16_t *)lend_const(ns, sizeof ns);
+    tree.limits = (const double *)lend_const(limits, sizeof limits);
+    tree.times = (double *)lend(NODES * sizeof(double));
+    tree.places = (uint16_t *)lend(NODES * sizeof(uint16_t));
+    tree.marks = (uint8_t *)lend(NODES);
+    tree.spare_times = (double *)lend(NODES * sizeof(double));
+    tree.spare_places = (uint16_t *)lend(NODES * sizeof(uint16_t));
+    tree.spare_marks = (uint8_t *)lend(NODES);
+    tree.board = (uint8_t *)lend(NODES);
+    return tree;
+}
+
+static void memory(void) {
+    struct lemboraw_tree tree = lent_tree();
+    struct lemboraw_answers one = {
+        (const uint8_t *)lend_const(statuses, sizeof statuses), (const double *)lend_const(leftovers, sizeof leftovers), 1};
+    /* An odd number of bytes and of pairs puts bytes and places where nothing wider could stand. */
+    CHECK((uintptr_t)tree.marks % 2 == 1 && (uintptr_t)tree.places % 4 == 2);
+
+    struct lemboraw_said said = lemboraw_tree_tick(&tree, true, 3, NODES, none);
+    CHECK(said.no == LEMBORAW_ASKS && said.extra == 40000 && said.time == 3 && tree.record.ticks == 0 && tree.times[2] == 0);
+    said = lemboraw_tree_tick(&tree, true, 3, NODES - 1, one);
+    CHECK(said.no == LEMBORAW_OUT_OF_FUEL && tree.times[2] == 0 && tree.marks[1] == 0 && tree.board[0] == 0);
+    said = lemboraw_tree_tick(&tree, true, 3, NODES, one);
+    CHECK(said.no == LEMBORAW_DONE && said.status == LEMBORAW_RUNNING && said.visits == NODES && said.used == 1);
+    CHECK(tree.record.ticks == 1 && tree.marks[1] == 1 && tree.marks[2] == 1 && tree.times[4] == 3);
+    CHECK(tree.board[2] == LEMBORAW_SUCCESS && tree.spare_times[4] == 0);
+    said = lemboraw_tree_tick(&tree, true, -1, NODES, none);
+    CHECK(said.no == LEMBORAW_BAD_TIME && tree.times[4] == 3 && tree.board[2] == LEMBORAW_SUCCESS);
+    CHECK(lemboraw_tree_bound(&tree, 1).kind == LEMBORAW_UNBOUNDED);
+    said = lemboraw_tree_reset(&tree);
+    CHECK(said.no == LEMBORAW_DONE && tree.marks[1] == 0 && tree.times[4] == 0 && tree.record.ticks == 1);
+}
+
+/* Each of the runs, null and empty, in place of one that is long enough. */
+static void empty_runs(void) {
+    for (int run = 0; run <= 12; run++) {
+        struct lemboraw_tree t = lent_tree();
+        t.times[4] = 7;
+        size_t len[13];
+        for (int i = 0; i < 13; i++) len[i] = i == run ? 0 : i < 10 ? NODES : 1;
+#define RUN(i, pointer) (run == i ? NULL : pointer), len[i]
+        struct lemboraw_said said = lemboraw_tick(
+            &t.record, RUN(0, t.kinds), RUN(1, t.ns), RUN(2, t.limits), RUN(3, t.times), RUN(4, t.places), RUN(5, t.marks),
+            RUN(6, t.spare_times), RUN(7, t.spare_places), RUN(8, t.spare_marks), RUN(9, t.board), true, 1.0, NODES,
+            RUN(10, statuses), RUN(11, leftovers));
+        uint8_t must = run < 3 ? LEMBORAW_BAD_TABLE : run < 10 ? LEMBORAW_TOO_SHORT : run < 12 ? LEMBORAW_ASKS : LEMBORAW_DONE;
+        CHECK(said.no == must);
+        CHECK(t.times[4] == (must == LEMBORAW_DONE ? 8 : 7) && t.record.ticks == (must == LEMBORAW_DONE));
+        if (run < 6) {
+            said = lemboraw_reset(
+                &t.record, RUN(0, t.kinds), RUN(1, t.ns), RUN(2, t.limits), RUN(3, t.times), RUN(4, t.places), RUN(5, t.marks));
+            CHECK(said.no == must && t.times[4] == 7);
+        }
+        if (run < 3) CHECK(lemboraw_bound(RUN(0, t.kinds), RUN(1, t.ns), RUN(2, t.limits), 1.0).no == LEMBORAW_BAD_TABLE);
+#undef RUN
+    }
+    struct lemboraw_record record = {true, 9};
+    struct lemboraw_said said = lemboraw_tick(
+        &record, NULL, 0, NULL, 0, NULL, 0, NULL, 0, NULL, 0, NULL, 0, NULL, 0, NULL, 0, NULL, 0, NULL, 0, true, 1.0, 1,
+        NULL, 0, NULL, 0);
+    CHECK(said.no == LEMBORAW_BAD_TABLE && said.extra == 0 && record.finished && record.ticks == 9);
+}
+
+/* The place that a table is refused with. */
+static void places_of_bad_tables(void) {
+    static uint8_t many[300];
+    static uint16_t counts[300];
+    static double zeros[300];
+    static struct lemboraw_room room;
+    memset(many, LEMBORAW_WAIT_FOREVER, sizeof many);
+    struct lemboraw_tree tree = lemboraw_tree_new(many, counts, zeros, 300, &room);
+    /* It goes on behind its tree. */
+    many[0] = LEMBORAW_WHEN_ALL, counts[0] = 2;
+    struct lemboraw_said said = lemboraw_tree_tick(&tree, true, 1, 9, none);
+    CHECK(said.no == LEMBORAW_BAD_TABLE && said.extra == 3);
+    /* The tree itself is too large, and its 257th node is there. */
+    counts[0] = 299;
+    said = lemboraw_tree_reset(&tree);
+    CHECK(said.no == LEMBORAW_BAD_TABLE && said.extra == 256);
+    /* It ends too early. */
+    tree.len = 200;
+    struct lemboraw_bound_said bound = lemboraw_tree_bound(&tree, 1);
+    CHECK(bound.no == LEMBORAW_BAD_TABLE && bound.place == 200);
+    /* The largest tree there is. */
+    counts[0] = 255, tree.len = 256;
+    said = lemboraw_tree_tick(&tree, true, 1, 256, none);
+    CHECK(said.no == LEMBORAW_DONE && said.visits == 256 && room.board[255] == LEMBORAW_RUNNING);
+}
+
+/* Only under the usual settings is Wait 5e-324 still running after an update by 0. */
+static void settings(void) {
+    static const uint8_t wait[] = {LEMBORAW_WAIT};
+    static const uint16_t zero[] = {0};
+    static const double smallest[] = {5e-324};
+    static struct lemboraw_room room;
+    struct lemboraw_tree tree = lemboraw_tree_new(wait, zero, smallest, 1, &room);
+    CHECK(lemboraw_floats_are_usual());
+    CHECK(lemboraw_tree_tick(&tree, true, 0, 1, none).status == LEMBORAW_RUNNING);
+    unsigned found = __builtin_ia32_stmxcsr();
+    __builtin_ia32_ldmxcsr(found | 0x8040u);
+    bool told = lemboraw_floats_are_usual();
+    uint8_t status = lemboraw_tree_tick(&tree, true, 0, 1, none).status;
+    __builtin_ia32_ldmxcsr(found);
+    CHECK(!told && status == LEMBORAW_SUCCESS);
+    for (unsigned bit = 0x40u; bit <= 0x8000u; bit <<= 1) {
+        __builtin_ia32_ldmxcsr(found ^ bit);
+        told = lemboraw_floats_are_usual();
+        __builtin_ia32_ldmxcsr(found);
+        CHECK(!told);
+    }
+    /* What has happened is no setting. */
+    __builtin_ia32_ldmxcsr(found | 0x3fu);
+    told = lemboraw_floats_are_usual();
+    __builtin_ia32_ldmxcsr(found);
+    CHECK(told);
+}
+
+int main(void) {
+    memory();
+    empty_runs();
+    places_of_bad_tables();
+    settings();
+    puts(wrong ? "C, what the header says: wrong" : "C, what the header says: ok");
+    return wrong;
+}

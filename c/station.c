@@ -1,0 +1,70 @@
+/* A sequencing station: take the broadcast, wait for the lane, scan, send the set. After 8 s it gives
+ * that up and calls for hand rework, and after 3 s more it gives that up too. Times are milliseconds.
+ * Here no action ever ends, which is the worst that can happen: the station finishes all the same, at
+ * or before its bound.
+ *
+ *   cc c/station.c -I include -L target/staticlib -llemboraw -o station && ./station
+ */
+#include "lemboraw.h"
+#include <stdio.h>
+
+enum action { BROADCAST, SCAN, SEND, HAND_REWORK };
+static const char *const names[] = {"take the broadcast", "scan", "send the set", "call for hand rework"};
+
+/* Select
+ *   Timeout 8000
+ *     Sequence
+ *       Action BROADCAST
+ *       Wait 2000           the lane settles
+ *       Action SCAN
+ *       Action SEND
+ *   Timeout 3000
+ *     Action HAND_REWORK
+ */
+enum { NODES = 9 };
+static const uint8_t kinds[NODES] = {LEMBORAW_SELECT, LEMBORAW_TIMEOUT, LEMBORAW_SEQUENCE, LEMBORAW_ACTION, LEMBORAW_WAIT,
+                                     LEMBORAW_ACTION, LEMBORAW_ACTION, LEMBORAW_TIMEOUT, LEMBORAW_ACTION};
+static const uint16_t ns[NODES] = {2, 1, 4, BROADCAST, 0, SCAN, SEND, 1, HAND_REWORK};
+static const double limits[NODES] = {0, 8000, 0, 0, 2000, 0, 0, 3000, 0};
+
+static struct lemboraw_room room;
+
+/* What the station does when the tree asks. Here nothing is ever done, so every action goes on. */
+static uint8_t act(size_t action, double dt, double *leftover) {
+    printf("  asked with %g ms: %s\n", dt, names[action]);
+    *leftover = 0;
+    return LEMBORAW_RUNNING;
+}
+
+/* One tick: asks until the tree has all its answers. Without loops no tick asks more than once a node. */
+static struct lemboraw_said tick(struct lemboraw_tree *tree, double dt) {
+    uint8_t statuses[NODES];
+    double leftovers[NODES];
+    struct lemboraw_answers answers = {statuses, leftovers, 0};
+    struct lemboraw_said said = lemboraw_tree_tick(tree, true, dt, NODES, answers);
+    while (said.no == LEMBORAW_ASKS && answers.len < NODES) {
+        statuses[answers.len] = act(said.extra, said.time, &leftovers[answers.len]);
+        answers.len++;
+        said = lemboraw_tree_tick(tree, true, dt, NODES, answers);
+    }
+    return said;
+}
+
+int main(void) {
+    const double step = 1000;
+    struct lemboraw_tree station = lemboraw_tree_new(kinds, ns, limits, NODES, &room);
+    struct lemboraw_bound_said bound = lemboraw_tree_bound(&station, step);
+    if (bound.no != LEMBORAW_DONE || bound.kind != LEMBORAW_TICKS) return 1;
+    printf("ticks of %g ms or more: finished at or before tick %llu\n", step, (unsigned long long)bound.ticks);
+
+    while (!station.record.finished) {
+        printf("tick %llu\n", (unsigned long long)station.record.ticks + 1);
+        struct lemboraw_said said = tick(&station, step);
+        if (said.no != LEMBORAW_DONE) {
+            printf("refused: %d\n", said.no);
+            return 1;
+        }
+    }
+    printf("gave up at tick %llu of %llu\n", (unsigned long long)station.record.ticks, (unsigned long long)bound.ticks);
+    return station.record.ticks > bound.ticks;
+}
