@@ -1,21 +1,27 @@
 #!/usr/bin/env python3
-"""Turns the bench program's frames into words and words into frames.
+"""Turns the bench program's frames into words and words into frames; docs/FRAMES.md says what both mean.
 
   frames.py words  < FRAMES    a line of words for each frame; nodes are indented by their depth
-  frames.py frames < WORDS     a frame for each line of words; blank lines and lines that begin with # are passed over
+  frames.py frames < WORDS     a frame for each line of words; # and what follows it is passed over, and so is an empty line
 
-Words (TIME is a decimal number that an f64 holds exactly, else the 16 digits of its bits after 0x):
+Words:
 
-  node KIND N limit TIME                 kinds by name, as Wait or Sequence, else kind:1f
+  node KIND N limit TIME                 kinds by name, as Wait or Sequence, else kind:1f; N is the action's number or the
+                                         number of children, which is counted by the indentation where it is left out
   tick update TIME fuel N                a tick; its answers follow: answers Success TIME Running TIME ..
   tick other fuel N                      statuses by name, else status:09
   reset
   ticked STATUS leftover TIME visits N used N, asked ACTION dt TIME, finished, bad-table at PLACE, too-short, bad-time,
   bad-answer at INDEX, out-of-fuel, bad-cell at PLACE      what a tick answers
-  answer N status STATUS time TIME visits N used N extra N      the same of any other fields
-  was-reset, was-reset refused N         what a reset answers
+  answer NO status STATUS time TIME visits N used N extra N      the same of any other fields
+  was-reset, was-reset refused NO        what a reset answers
   malformed line N
+
+TIME is a decimal number that an f64 holds exactly, as 0.5; or ~ and a number, as ~0.1, for the nearest f64; or the 16 digits
+of its bits after 0x.
 """
+import math
+import os
 import re
 import struct
 import sys
@@ -25,9 +31,10 @@ KINDS = (
     "Wait WaitForever Action Invert AlwaysSucceed Timeout Select If Sequence MemorylessSequence MemorylessSelector "
     "While WhileAll WhenAll WhenAny After Race"
 ).split()
+ACTION = KINDS.index("Action")
 STATUSES = {1: "Running", 2: "Success", 3: "Failure"}
 ANSWERS = {2: "finished", 3: "bad-table", 4: "too-short", 5: "bad-time", 6: "bad-answer", 7: "out-of-fuel", 9: "bad-cell"}
-PLACED = (3, 6, 9)  # answers whose extra field is a place or an index
+PLACED = {3: "place", 6: "index", 9: "place"}  # answers whose extra field says where
 NODES, MOST = 257, 1024
 
 
@@ -35,42 +42,71 @@ class Wrong(Exception):
     """A line that is no frame, or no words for one."""
 
 
+def short(word):
+    """A word for a message, which a long one would bury."""
+    return repr(word) if len(word) <= 40 else "%r.. of %d characters" % (word[:20], len(word))
+
+
 # ---- frames as numbers
 
-SHAPES = {0x01: (2, 4, 16), 0x02: (2, 16, 8, 4), 0x03: (), 0x82: (2, 2, 16, 8, 4, 4), 0x83: (2,), 0x8F: (4,)}
+SHAPES = {
+    0x01: (("kind", 2), ("n", 4), ("limit", 16)),
+    0x02: (("event", 2), ("dt", 16), ("fuel", 8), ("count", 4)),
+    0x03: (),
+    0x82: (("no", 2), ("status", 2), ("time", 16), ("visits", 8), ("used", 4), ("extra", 4)),
+    0x83: (("no", 2),),
+    0x8F: (("line", 4),),
+}
+
+
+def shape(kind, count):
+    """The fields of a frame, each with its name and width; a tick has count answers."""
+    answers = (((("status of answer %d" % i), 2), (("leftover of answer %d" % i), 16)) for i in range(1, count + 1))
+    return SHAPES[kind] + tuple(field for pair in answers for field in pair)
 
 
 def read(line):
     """The kind and the numbers of a line that ends in LF."""
-    if not re.fullmatch(r"[0-9a-f]+(?: [0-9a-f]+)*\n", line):
-        raise Wrong("fields of lower-case digits, one space between them and LF at the end are wanted")
-    fields = line[:-1].split(" ")
-    kind = int(fields[0], 16) if len(fields[0]) == 2 else None
+    if not line.endswith("\n"):
+        raise Wrong("LF is missing at the end")
+    first, *rest = line[:-1].split(" ")
+    kind = int(first, 16) if re.fullmatch("[0-9a-f]{2}", first) else None
     if kind not in SHAPES:
-        raise Wrong("no such kind of frame")
-    numbers = [int(field, 16) for field in fields[1:]]
-    widths = SHAPES[kind]
-    if kind == 0x02 and len(numbers) > 4:
-        widths += (2, 16) * min(numbers[3], MOST)
-    if tuple(len(field) for field in fields[1:]) != widths:
-        raise Wrong("wrong fields for its kind")
+        raise Wrong("%s begins no frame; 01 (node), 02 (tick), 03 (reset), 82, 83 and 8f do" % short(first))
+    count = min((len(rest) - 4) // 2, MOST) if kind == 0x02 and len(rest) > 4 else 0
+    fields = shape(kind, count)
+    numbers = []
+    for (name, width), field in zip(fields, rest):
+        if not re.fullmatch("[0-9a-f]+", field):
+            raise Wrong("%s: %s is not made of the digits 0 to 9 and a to f, with one space before it" % (name, short(field)))
+        if len(field) != width:
+            raise Wrong("%s: %d digits, and %d are wanted" % (name, len(field), width))
+        numbers.append(int(field, 16))
+    if len(rest) < len(fields):
+        raise Wrong("%s is missing" % fields[len(rest)][0])
     if kind == 0x02:
-        event, dt, _, count = numbers[:4]
-        if count > MOST or len(numbers) != 4 + 2 * count:
-            raise Wrong("the count is not that of the answers, or above 1024")
-        if event > 1 or (event == 0 and dt):
-            raise Wrong("an event is 00 with no dt, or 01")
+        event, dt, _, told = numbers[:4]
+        if told > MOST:
+            raise Wrong("count: %d, and %d is the most" % (told, MOST))
+        if len(rest) != 4 + 2 * told:
+            raise Wrong("count: %d, and %d fields of answers follow; an answer has two" % (told, len(rest) - 4))
+        if event > 1:
+            raise Wrong("event: 00 (other) and 01 (update) are all, and not %02x" % event)
+        if event == 0 and dt:
+            raise Wrong("dt: all 0 for an other event")
+    elif len(rest) > len(fields):
+        raise Wrong("%s is one field too many" % short(rest[len(fields)]))
     return kind, numbers
 
 
 def write(kind, numbers):
     """The line of a frame."""
-    widths = SHAPES[kind]
-    if kind == 0x02:
-        widths += (2, 16) * min(numbers[3], MOST)
-    if len(widths) != len(numbers) or any(n < 0 or n >= 16**w for n, w in zip(numbers, widths)):
-        raise Wrong("a number is too large for its field")
-    line = " ".join(["%02x" % kind] + ["%0*x" % (w, n) for n, w in zip(numbers, widths)]) + "\n"
+    line = "%02x" % kind
+    for (name, width), number in zip(shape(kind, len(numbers[4:]) // 2 if kind == 0x02 else 0), numbers):
+        if not 0 <= number < 16**width:
+            raise Wrong("%s: %d is above %d, the largest" % (name, number, 16**width - 1))
+        line += " %0*x" % (width, number)
+    line += "\n"
     read(line)
     return line
 
@@ -78,32 +114,36 @@ def write(kind, numbers):
 # ---- times
 
 
+def bits_of(value):
+    return struct.unpack(">Q", struct.pack(">d", value))[0]
+
+
 def time_words(bits):
     value = struct.unpack(">d", struct.pack(">Q", bits))[0]
-    finite = (bits >> 52) & 0x7FF != 0x7FF
-    if finite and bits != 1 << 63 and Decimal(value) == Decimal(repr(value)):
-        return format(Decimal(repr(value)).normalize(), "f") if abs(value) < 1e17 else str(int(value)) if abs(value) < 1e21 else hexed(bits)
-    return hexed(bits)
-
-
-def hexed(bits):
-    return "0x%016x" % bits
+    if not math.isfinite(value) or bits == 1 << 63:
+        return "0x%016x" % bits
+    if Decimal(value) != Decimal(repr(value)):
+        return "~" + repr(value)
+    return format(Decimal(repr(value)).normalize(), "f") if abs(value) < 1e17 else repr(value)
 
 
 def time_bits(word):
-    if re.fullmatch(r"0x[0-9a-f]{16}", word):
+    if re.fullmatch("0x[0-9a-f]{16}", word):
         return int(word, 16)
-    if not re.fullmatch(r"-?[0-9]+(\.[0-9]+)?(e-?[0-9]+)?", word):
-        raise Wrong("%r is no time" % word)
+    match = re.fullmatch(r"(~?)(-?[0-9]+(?:\.[0-9]+)?(?:e[+-]?[0-9]+)?)", word)
+    if not match:
+        raise Wrong("%s is no time, as 2, 0.5, ~0.1 or 0x and 16 digits" % short(word))
+    near, number = match.groups()
+    value = float(number)
+    if math.isinf(value):
+        raise Wrong("%s is larger than every f64" % short(number))
     try:
-        value = float(word)
-        bits = struct.unpack(">Q", struct.pack(">d", value))[0]
-        exact = Decimal(value) == Decimal(word)
-    except (InvalidOperation, OverflowError):
+        exact = Decimal(value) == Decimal(number)
+    except InvalidOperation:  # an exponent that no Decimal has
         exact = False
-    if not exact:
-        raise Wrong("no f64 is %s; the nearest is written %s" % (word, hexed(bits)))
-    return bits
+    if not (exact or near):
+        raise Wrong("%s is no f64; the nearest is %.20g: write ~ before the number to take it, or 0x%016x" % (short(number), value, bits_of(value)))
+    return bits_of(value)
 
 
 # ---- words
@@ -118,10 +158,10 @@ def status_words(status):
 
 
 def words(kind, numbers):
-    """The words of a frame."""
+    """The words of a frame; a node's n of None is left out."""
     if kind == 0x01:
         node, n, limit = numbers
-        return "node %s %d" % (kind_words(node), n) + (" limit %s" % time_words(limit) if limit else "")
+        return "node " + kind_words(node) + ("" if n is None else " %d" % n) + (" limit %s" % time_words(limit) if limit else "")
     if kind == 0x02:
         event, dt, fuel, count = numbers[:4]
         text = ("tick update %s" % time_words(dt) if event else "tick other") + " fuel %d" % fuel
@@ -144,20 +184,24 @@ def words(kind, numbers):
 
 
 class Words:
-    """The words of a line, taken one by one."""
+    """The words of a line, taken one by one; each is asked for by its field's name."""
 
     def __init__(self, line):
         self.left = line.split()
+        for i, word in enumerate(self.left):
+            if word.startswith("#"):
+                del self.left[i:]
+                break
 
-    def next(self):
+    def next(self, field):
         if not self.left:
-            raise Wrong("a word is missing at the end")
+            raise Wrong("%s is missing at the end" % field)
         return self.left.pop(0)
 
     def expect(self, word):
-        got = self.next()
+        got = self.next("the word %r" % word)
         if got != word:
-            raise Wrong("%r is wanted, and not %r" % (word, got))
+            raise Wrong("the word %r is wanted, and not %s" % (word, short(got)))
 
     def maybe(self, word):
         if self.left and self.left[0] == word:
@@ -165,90 +209,101 @@ class Words:
             return True
         return False
 
-    def number(self):
-        word = self.next()
-        if not re.fullmatch(r"[0-9]+", word):
-            raise Wrong("%r is no number" % word)
-        return int(word)
+    def number(self, field, word=None):
+        """The number after a word of its own, where it has one."""
+        if word:
+            self.expect(word)
+        got = self.next(field)
+        if not re.fullmatch("[0-9]+", got):
+            raise Wrong("%s: %s is no number" % (field, short(got)))
+        if len(got) > 20:  # more digits than the widest field holds
+            raise Wrong("%s: %s is too large" % (field, short(got)))
+        return int(got)
 
-    def time(self):
-        return time_bits(self.next())
+    def time(self, field, word=None):
+        if word:
+            self.expect(word)
+        got = self.next(field)
+        try:
+            return time_bits(got)
+        except Wrong as wrong:
+            raise Wrong("%s: %s" % (field, wrong)) from None
 
-    def named(self, names, prefix):
-        word = self.next()
+    def named(self, field, names, prefix):
+        word = self.next(field)
         if word in names:
             return names[word]
-        match = re.fullmatch(prefix + r":([0-9a-f]{2})", word)
+        match = re.fullmatch(prefix + ":([0-9a-f]{2})", word)
         if not match:
-            raise Wrong("%r is unknown" % word)
+            raise Wrong("%s: %s is unknown; there are %s, and %s:1f for a number" % (field, short(word), ", ".join(names), prefix))
         return int(match.group(1), 16)
 
     def kind(self):
-        return self.named({name: i for i, name in enumerate(KINDS)}, "kind")
+        return self.named("kind", {name: i for i, name in enumerate(KINDS)}, "kind")
 
-    def status(self):
-        return self.named({name: i for i, name in STATUSES.items()}, "status")
+    def status(self, field="status"):
+        return self.named(field, {name: i for i, name in STATUSES.items()}, "status")
+
+    def n(self, kind):
+        """A node's number; None where it is left to the indentation."""
+        if kind == ACTION:
+            return self.number("n (the action's number)")
+        return self.number("n (the number of children)") if self.left and self.left[0] != "limit" else None
+
+    def event(self):
+        if self.maybe("update"):
+            return [1, self.time("dt")]
+        if self.maybe("other"):
+            return [0, 0]
+        raise Wrong("event: update and a time is wanted, or other, and not %s" % short(self.next("event")))
+
+    def answers(self):
+        """How many answers follow, and each."""
+        numbers = []
+        while self.left:
+            i = len(numbers) // 2 + 1
+            numbers += [self.status("status of answer %d" % i), self.time("leftover of answer %d" % i)]
+        return [len(numbers) // 2] + numbers
+
+
+VERBS = "node, tick, reset, ticked, asked, %s, answer, was-reset and malformed" % ", ".join(ANSWERS.values())
 
 
 def frame(line):
-    """The kind and the numbers that words say."""
+    """The kind and the numbers that words say; a node's n that is left out is None."""
     w = Words(line)
-    verb = w.next()
+    verb = w.next("a first word")
     named = {name: number for number, name in ANSWERS.items()}
     if verb == "node":
-        result = 0x01, [w.kind(), w.number(), w.time() if w.maybe("limit") else 0]
+        kind = w.kind()
+        result = 0x01, [kind, w.n(kind), w.time("limit") if w.maybe("limit") else 0]
     elif verb == "tick":
-        numbers = [1, w.time()] if w.maybe("update") else [0, 0] if w.maybe("other") else None
-        if numbers is None:
-            raise Wrong("a tick is an update or other")
-        w.expect("fuel")
-        numbers.append(w.number())
-        answers = []
-        if w.maybe("answers"):
-            while w.left:
-                answers += [w.status(), w.time()]
-        result = 0x02, numbers + [len(answers) // 2] + answers
+        numbers = w.event() + [w.number("fuel", "fuel")]
+        result = 0x02, numbers + (w.answers() if w.maybe("answers") else [0])
     elif verb == "reset":
         result = 0x03, []
     elif verb == "was-reset":
-        result = 0x83, [w.number() if w.maybe("refused") else 0]
+        result = 0x83, [w.number("refused") if w.maybe("refused") else 0]
     elif verb == "malformed":
-        w.expect("line")
-        result = 0x8F, [w.number()]
+        result = 0x8F, [w.number("line", "line")]
     elif verb == "ticked":
         status = w.status()
-        w.expect("leftover")
-        time = w.time()
-        w.expect("visits")
-        visits = w.number()
-        w.expect("used")
-        result = 0x82, [0, status, time, visits, w.number(), 0]
+        result = 0x82, [0, status, w.time("leftover", "leftover"), w.number("visits", "visits"), w.number("used", "used"), 0]
     elif verb == "asked":
-        action = w.number()
-        w.expect("dt")
-        result = 0x82, [1, 0, w.time(), 0, 0, action]
+        action = w.number("the action's number")
+        result = 0x82, [1, 0, w.time("dt", "dt"), 0, 0, action]
     elif verb in named:
-        extra = 0
-        if named[verb] in PLACED:
-            w.expect("at")
-            extra = w.number()
-        result = 0x82, [named[verb], 0, 0, 0, 0, extra]
+        number = named[verb]
+        result = 0x82, [number, 0, 0, 0, 0, w.number(PLACED[number], "at") if number in PLACED else 0]
     elif verb == "answer":
-        number = w.number()
+        number = w.number("no")
         w.expect("status")
         status = w.status()
-        w.expect("time")
-        time = w.time()
-        w.expect("visits")
-        visits = w.number()
-        w.expect("used")
-        used = w.number()
-        w.expect("extra")
-        result = 0x82, [number, status, time, visits, used, w.number()]
+        result = 0x82, [number, status, w.time("time", "time"), w.number("visits", "visits"), w.number("used", "used"), w.number("extra", "extra")]
     else:
-        raise Wrong("%r begins no frame" % verb)
+        raise Wrong("%s begins no line of words; %s do" % (short(verb), VERBS))
     if w.left:
-        raise Wrong("%r is one word too many" % w.left[0])
+        raise Wrong("%s is one word too many" % short(w.left[0]))
     return result
 
 
@@ -267,28 +322,79 @@ class Depth:
         depth = len(self.open)
         if self.open:
             self.open[-1] -= 1
-        self.open.append(0 if kind == 2 else n)
+        self.open.append(0 if kind == ACTION else n)
         return depth
 
 
-def to_words(lines):
+def children(indents):
+    """How many nodes stand directly under each, by the indentation, and where it is uneven: the first node that fits no other."""
+    counts, steps, uneven, above = [0] * len(indents), {}, {}, []
+    for i, indent in enumerate(indents):
+        while above and indents[above[-1]] >= indent:
+            above.pop()
+        if above:
+            parent = above[-1]
+            counts[parent] += 1
+            if steps.setdefault(parent, indent) != indent:
+                uneven.setdefault(parent, i)
+        above.append(i)
+    return counts, uneven
+
+
+def in_words(nodes):
+    """The words of a run of nodes, without the numbers that the indentation tells."""
     depth = Depth()
+    indents = [2 * min(depth.next(kind, n), 16) for kind, n, _ in nodes]
+    for (kind, n, limit), indent, count in zip(nodes, indents, children(indents)[0]):
+        yield " " * indent + words(0x01, [kind, n if kind == ACTION or n != count else None, limit]) + "\n"
+
+
+def in_frames(nodes):
+    """The frames of a run of nodes, each with its line's number and its indentation."""
+    counts, uneven = children([len(indent) for _, indent, _ in nodes])
+    counted = any(n is None for _, _, (_, n, _) in nodes)
+    for at, (i, indent, (kind, n, limit)) in enumerate(nodes):
+        if counted and indent.strip(" "):
+            raise Wrong("line %d: indentation: only spaces, where a number of children is left out" % i)
+        if n is None and at in uneven:
+            raise Wrong("line %d: indentation: as deep as no other node below line %d, whose children are counted" % (nodes[uneven[at]][0], i))
+        yield numbered(i, write, 0x01, [kind, counts[at] if n is None else n, limit])
+
+
+def numbered(i, turn, *arguments):
+    """What is wrong with a line is told with its number."""
+    try:
+        return turn(*arguments)
+    except Wrong as wrong:
+        raise Wrong("line %d: %s" % (i, wrong)) from None
+
+
+def to_words(lines):
+    nodes = []
     for i, line in enumerate(lines, 1):
-        try:
-            kind, numbers = read(line)
-        except Wrong as wrong:
-            raise Wrong("line %d: %s" % (i, wrong))
-        yield ("  " * min(depth.next(*numbers[:2]), 16) if kind == 0x01 else "") + words(kind, numbers) + "\n"
+        kind, numbers = numbered(i, read, line)
+        if kind == 0x01:
+            nodes.append(numbers)
+            continue
+        yield from in_words(nodes)
+        nodes = []
+        yield words(kind, numbers) + "\n"
+    yield from in_words(nodes)
 
 
 def to_frames(lines):
+    nodes = []
     for i, line in enumerate(lines, 1):
         if not line.strip() or line.lstrip().startswith("#"):
             continue
-        try:
-            yield write(*frame(line))
-        except Wrong as wrong:
-            raise Wrong("line %d: %s" % (i, wrong))
+        kind, numbers = numbered(i, frame, line)
+        if kind == 0x01:
+            nodes.append((i, line[: len(line) - len(line.lstrip())], numbers))
+            continue
+        yield from in_frames(nodes)
+        nodes = []
+        yield numbered(i, write, kind, numbers)
+    yield from in_frames(nodes)
 
 
 def main(arguments):
@@ -300,10 +406,13 @@ def main(arguments):
     try:
         for line in turn(stdin):
             sys.stdout.write(line)
+        sys.stdout.flush()
     except Wrong as wrong:
         sys.stdout.flush()
         sys.stderr.write("frames.py: %s\n" % wrong)
         return 1
+    except BrokenPipeError:  # whoever read has read enough
+        os.dup2(os.open(os.devnull, os.O_WRONLY), 1)
     return 0
 
 

@@ -4,6 +4,7 @@ import glob
 import os
 import random
 import struct
+import subprocess
 import sys
 import unittest
 
@@ -42,7 +43,7 @@ def some_frame(r):
         if r.randrange(2):
             return kind, [byte(), byte(), some_time(r), r.getrandbits(32), r.randrange(65536), r.randrange(65536)]
         return kind, [r.randrange(10), r.choice([0, 0, 1, 2, 3]), r.choice([0, some_time(r)]), r.choice([0, 5]), r.choice([0, 3]), r.choice([0, 7])]
-    return kind, [r.randrange(16 ** w) for w in f.SHAPES[kind]]
+    return kind, [r.randrange(16 ** w) for _, w in f.SHAPES[kind]]
 
 
 class RoundTrips(unittest.TestCase):
@@ -98,17 +99,100 @@ class RoundTrips(unittest.TestCase):
             self.assertEqual(f.write(*f.frame(said)), line)
             self.assertEqual(f.words(*f.read(line)), said.strip())
 
+    def test_times(self):
+        for said, bits in [("~0.1", 0x3FB999999999999A), ("0.5", 0x3FE0000000000000), ("~0.5", 0x3FE0000000000000), ("~1e-400", 0),
+                           ("~5e-324", 1), ("1e+22", 0x4480F0CF064DD592), ("0x8000000000000000", 1 << 63), ("~0." + "9" * 5000, 0x3FF0000000000000)]:
+            self.assertEqual(f.time_bits(said), bits, said)
+        for bits, said in [(0x3FB999999999999A, "~0.1"), (0x7FEFFFFFFFFFFFFF, "~1.7976931348623157e+308"), (1, "~5e-324"), (1 << 63, "0x8000000000000000"),
+                           (0x7FF0000000000000, "0x7ff0000000000000"), (0x4480F0CF064DD592, "1e+22"), (0x4008000000000000, "3")]:
+            self.assertEqual(f.time_words(bits), said)
+
+    def test_children_are_counted(self):
+        lines = ["# the station", "node Select        # once", "  node Timeout limit 8", "", "      node Sequence", "        node Action 7", "  # between",
+                 "        node Wait limit 2", "  node Wait", "tick update 1 fuel 9 # the first", "reset"]
+        self.assertEqual(list(f.to_frames(lines)), [
+            "01 06 0002 0000000000000000\n", "01 05 0001 4020000000000000\n", "01 08 0002 0000000000000000\n", "01 02 0007 0000000000000000\n",
+            "01 00 0000 4000000000000000\n", "01 00 0000 0000000000000000\n", "02 01 3ff0000000000000 00000009 0000\n", "03\n"])
+        # a number that is given stands, whatever the indentation is
+        self.assertEqual(list(f.to_frames(["node Sequence 3", "\tnode Wait 0"])), ["01 08 0003 0000000000000000\n", "01 00 0000 0000000000000000\n"])
+        # a table that is none keeps its numbers in words
+        for table in ["01 08 0003 0000000000000000\n01 00 0000 0000000000000000\n", "01 03 0001 0000000000000000\n" * 40, "01 00 0002 0000000000000000\n" * 3]:
+            table = table.splitlines(True)
+            self.assertEqual(list(f.to_frames(f.to_words(table))), table)
+
     def test_refused_words(self):
-        for said in ["node Waiting 0", "tick update 0.1 fuel 3", "tick update 1", "node Wait 65536", "reset now", "tick other 1 fuel 2", "asked 1", "", "tick update 1e400 fuel 1"]:
-            with self.assertRaises(f.Wrong, msg=said):
-                f.write(*f.frame(said or "nothing"))
+        digits = "9" * 5000
+        for said, told in [
+            ("node Waiting 0", "kind: 'Waiting' is unknown; there are " + ", ".join(f.KINDS)),
+            ("tick update 1 fuel 1 answers Done 0", "status of answer 1: 'Done' is unknown; there are Running, Success, Failure"),
+            ("tick update 0.1 fuel 3", "dt: '0.1' is no f64; the nearest is 0.10000000000000000555: write ~ before the number to take it, or 0x3fb999999999999a"),
+            ("node Timeout 1 limit 0.1", "limit: '0.1' is no f64"),
+            ("tick update 1 fuel 1 answers Success 1 Running 0.1", "leftover of answer 2: '0.1' is no f64"),
+            ("tick update 1 fuel 1 answers Success", "leftover of answer 1 is missing"),
+            ("tick update 1", "the word 'fuel' is missing"),
+            ("tick update 1 fuel", "fuel is missing"),
+            ("tick update 1 fuel -3", "fuel: '-3' is no number"),
+            ("tick update 1 fuel 4294967296", "fuel: 4294967296 is above 4294967295"),
+            ("tick update soon fuel 1", "dt: 'soon' is no time"),
+            ("tick update 1e400 fuel 1", "dt: '1e400' is larger than every f64"),
+            ("tick update ~1e400 fuel 1", "dt: '1e400' is larger than every f64"),
+            ("tick update 1e-99999999999999999999 fuel 1", "dt: '1e-99999999999999999999' is no f64; the nearest is 0"),
+            ("tick other 1 fuel 2", "the word 'fuel' is wanted, and not '1'"),
+            ("tick often fuel 2", "event: update and a time is wanted, or other, and not 'often'"),
+            ("node Wait 65536", "n: 65536 is above 65535"),
+            ("node Action", "n (the action's number) is missing"),
+            ("reset now", "'now' is one word too many"),
+            ("asked 1", "the word 'dt' is missing"),
+            ("bad-table at", "place is missing"),
+            ("bad-answer at x", "index: 'x' is no number"),
+            ("ticked Running leftover 0 visits x used 0", "visits: 'x' is no number"),
+            ("answer 300 status Running time 0 visits 0 used 0 extra 0", "no: 300 is above 255"),
+            ("nothing", "'nothing' begins no line of words; node, tick, reset"),
+            ("node Wait limit " + digits, "limit: '99999999999999999999'.. of 5000 characters is larger than every f64"),
+            ("tick update 0." + digits + " fuel 1", "dt: '0.999999999999999999'.. of 5002 characters is no f64; the nearest is 1"),
+            ("tick update 1 fuel " + digits, "fuel: '99999999999999999999'.. of 5000 characters is too large"),
+            ("node Action " + digits, "n (the action's number): '99999999999999999999'.. of 5000 characters is too large"),
+            (digits, "'99999999999999999999'.. of 5000 characters begins no line of words"),
+        ]:
+            with self.assertRaises(f.Wrong, msg=said) as refused:
+                list(f.to_frames(["# first", said]))
+            self.assertTrue(str(refused.exception).startswith("line 2: " + told), "%s: %s" % (said, refused.exception))
+        for lines, told in [
+            (["node Sequence", "    node Wait", "  node Wait"], "line 3: indentation: as deep as no other node below line 1"),
+            (["node Sequence", "\tnode Wait"], "line 2: indentation: only spaces"),
+        ]:
+            with self.assertRaises(f.Wrong) as refused:
+                list(f.to_frames(lines))
+            self.assertTrue(str(refused.exception).startswith(told), refused.exception)
+
+    def test_the_command(self):
+        def run(stdin, *arguments):
+            got = subprocess.run([sys.executable, os.path.join(HERE, "frames.py"), *arguments], input=stdin, capture_output=True, text=True)
+            return got.returncode, got.stdout, got.stderr
+
+        self.assertEqual(run("reset\n", "frames"), (0, "03\n", ""))
+        self.assertEqual(run("reset\nreste\n", "frames")[:2], (1, "03\n"))
+        self.assertTrue(run("", "word")[2].startswith("Turns the bench program's frames"))
+        for stdin, argument in [("tick update 1 fuel " + "9" * 5000 + "\n", "frames"), ("01 " + "9" * 5000 + "\n", "words")]:
+            code, _, said = run(stdin, argument)
+            self.assertEqual((code, said.count("\n")), (1, 1), said)
+            self.assertTrue(said.startswith("frames.py: line 1: "), said)
 
     def test_refused_frames(self):
-        for line in ["", "\n", "03", "03 \n", " 03\n", "03\r\n", "01 0A 0000 0000000000000000\n", "01  08 0002 0000000000000000\n", "01 08 002 0000000000000000\n",
-                     "02 02 0000000000000000 00000001 0000\n", "02 00 8000000000000000 00000001 0000\n", "02 01 0000000000000000 00000001 0001\n",
-                     "02 01 0000000000000000 00000001 0000 01 0000000000000000\n", "04\n", "8f 003\n", "0x3\n"]:
-            with self.assertRaises(f.Wrong, msg=repr(line)):
+        for line, told in [
+            ("", "LF is missing"), ("03", "LF is missing"), ("\n", "'' begins no frame"), (" 03\n", "'' begins no frame"), ("03\r\n", "'03\\r' begins no frame"),
+            ("04\n", "'04' begins no frame; 01 (node), 02 (tick), 03 (reset)"), ("0x3\n", "'0x3' begins no frame"), ("03 \n", "'' is one field too many"),
+            ("01 0A 0000 0000000000000000\n", "kind: '0A' is not made of the digits"), ("01  08 0002 0000000000000000\n", "kind: '' is not made of the digits"),
+            ("01 08 002 0000000000000000\n", "n: 3 digits, and 4 are wanted"), ("01 08 0002\n", "limit is missing"), ("8f 003\n", "line: 3 digits"),
+            ("02 02 0000000000000000 00000001 0000\n", "event: 00 (other) and 01 (update)"), ("02 00 8000000000000000 00000001 0000\n", "dt: all 0"),
+            ("02 01 0000000000000000 00000001 0001\n", "count: 1, and 0 fields"), ("02 01 0000000000000000 00000001 0401\n", "count: 1025, and 1024 is the most"),
+            ("02 01 0000000000000000 00000001 0000 01 0000000000000000\n", "count: 0, and 2 fields"),
+            ("02 01 0000000000000000 00000001 0002 01 0000000000000000 1 0000000000000000\n", "status of answer 2: 1 digits"),
+            ("82 00 01 0 00000002 0000 0000\n", "time: 1 digits"), ("01 " + "9" * 5000 + "\n", "kind: 5000 digits"),
+        ]:
+            with self.assertRaises(f.Wrong, msg=repr(line)) as refused:
                 f.read(line)
+            self.assertTrue(str(refused.exception).startswith(told), "%r: %s" % (line, refused.exception))
 
 
 if __name__ == "__main__":

@@ -1,25 +1,51 @@
-// A station's give-up tree: its finish bound for a step of 1, and how many ticks it takes when the
-// first action never ends.
+// The tree on standard input, as frames: its finish bound for the step of the first tick frame, and
+// how many such ticks it takes to finish when each is given the answers that stand there.
+mod input;
+
+use input::ANSWERS;
+use input::Asked;
+use input::NODES;
+use input::part;
 use libc::STDOUT_FILENO;
 use rules::BoundAnswer;
 use rules::Event;
 use rules::Record;
 
-// Timeout 30 over a Sequence: take the broadcast, wait 2 for the lane, scan, send.
-const KINDS: [u8; 6] = [5, 8, 2, 0, 2, 2];
-
-const NS: [u16; 6] = [1, 4, 1, 0, 2, 3];
-
-const LIMITS: [f64; 6] = [30.0, 0.0, 0.0, 2.0, 0.0, 0.0];
-
-fn bound() -> u64 {
-    match bound::finish_bound(&KINDS, &NS, &LIMITS, 1.0) {
-        BoundAnswer::Within(n) => n,
-        _ => 0,
+fn print_bound(bound: BoundAnswer) {
+    match bound {
+        BoundAnswer::Within(n) => {
+            io::write_all(STDOUT_FILENO, b"finish bound ");
+            io::print_decimal(STDOUT_FILENO, n);
+        }
+        BoundAnswer::Never => {
+            io::write_all(STDOUT_FILENO, b"finish bound none");
+        }
+        BoundAnswer::Above => {
+            io::write_all(STDOUT_FILENO, b"finish bound above 2^53");
+        }
+        BoundAnswer::BadTable(place) => {
+            io::write_all(STDOUT_FILENO, b"bad table at ");
+            io::print_decimal(STDOUT_FILENO, place as u64);
+        }
+        BoundAnswer::NoBound => {
+            io::write_all(STDOUT_FILENO, b"finish bound refused");
+        }
     }
+    io::write_all(STDOUT_FILENO, b"\n");
 }
 
-// Ticks of 1, the first action Running in each, until the tree has finished; a thousand are enough.
+fn print_ticks(n: u64) {
+    if n == 0 {
+        io::write_all(STDOUT_FILENO, b"not finished\n");
+        return;
+    }
+    io::write_all(STDOUT_FILENO, b"finished after ");
+    io::print_decimal(STDOUT_FILENO, n);
+    io::write_all(STDOUT_FILENO, b"\n");
+}
+
+// Ticks of one kind until the tree has finished; answers how many were carried out, and 0 where a
+// thousand were not enough.
 fn until_finished(
     kinds: &[u8],
     ns: &[u16],
@@ -31,6 +57,8 @@ fn until_finished(
     spare_places: &mut [u16],
     spare_marks: &mut [u8],
     board: &mut [u8],
+    step: f64,
+    fuel: u32,
     statuses: &[u8],
     leftovers: &[f64],
 ) -> u64 {
@@ -52,8 +80,8 @@ fn until_finished(
             spare_places,
             spare_marks,
             board,
-            Event::Update(1.0),
-            64,
+            Event::Update(step),
+            fuel,
             statuses,
             leftovers,
         );
@@ -64,21 +92,29 @@ fn until_finished(
         }
         turn += 1;
     }
-    record.ticks
+    0
 }
 
-fn ticks() -> u64 {
-    let mut times = [0.0f64; 6];
-    let mut places = [0u16; 6];
-    let mut marks = [0u8; 6];
-    let mut spare_times = [0.0f64; 6];
-    let mut spare_places = [0u16; 6];
-    let mut spare_marks = [0u8; 6];
-    let mut board = [0u8; 6];
+fn ticks(
+    step: f64,
+    fuel: u32,
+    kinds: &[u8],
+    ns: &[u16],
+    limits: &[f64],
+    statuses: &[u8],
+    leftovers: &[f64],
+) -> u64 {
+    let mut times = [0.0f64; NODES];
+    let mut places = [0u16; NODES];
+    let mut marks = [0u8; NODES];
+    let mut spare_times = [0.0f64; NODES];
+    let mut spare_places = [0u16; NODES];
+    let mut spare_marks = [0u8; NODES];
+    let mut board = [0u8; NODES];
     until_finished(
-        &KINDS,
-        &NS,
-        &LIMITS,
+        kinds,
+        ns,
+        limits,
         &mut times,
         &mut places,
         &mut marks,
@@ -86,15 +122,40 @@ fn ticks() -> u64 {
         &mut spare_places,
         &mut spare_marks,
         &mut board,
-        &[1],
-        &[0.0],
+        step,
+        fuel,
+        statuses,
+        leftovers,
     )
 }
 
+// A table is as long as its shortest run, and so are answers: one run of each is cut.
+fn tell(
+    asked: Asked,
+    kinds: &[u8; NODES],
+    ns: &[u16; NODES],
+    limits: &[f64; NODES],
+    statuses: &[u8; ANSWERS],
+    leftovers: &[f64; ANSWERS],
+) {
+    let tree = part(kinds, 0, asked.nodes);
+    let answers = part(statuses, 0, asked.count);
+    print_bound(bound::finish_bound(tree, ns, limits, asked.step));
+    print_ticks(ticks(asked.step, asked.fuel, tree, ns, limits, answers, leftovers));
+}
+
 fn main() {
-    io::write_all(STDOUT_FILENO, b"finish bound ");
-    io::print_decimal(STDOUT_FILENO, bound());
-    io::write_all(STDOUT_FILENO, b"\nfinished after ");
-    io::print_decimal(STDOUT_FILENO, ticks());
-    io::write_all(STDOUT_FILENO, b"\n");
+    let mut kinds = [0u8; NODES];
+    let mut ns = [0u16; NODES];
+    let mut limits = [0.0f64; NODES];
+    let mut statuses = [0u8; ANSWERS];
+    let mut leftovers = [0.0f64; ANSWERS];
+    let asked = input::read(
+        &mut kinds,
+        &mut ns,
+        &mut limits,
+        &mut statuses,
+        &mut leftovers,
+    );
+    tell(asked, &kinds, &ns, &limits, &statuses, &leftovers);
 }
