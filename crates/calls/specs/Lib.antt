@@ -1,4 +1,5 @@
 pub mod Shape
+pub mod Post
 pub mod Memory
 pub mod Tables
 pub mod View

@@ -2,10 +2,12 @@
 use mathlib.Core.Path.{_≡_, refl, ap, _∙_}
 use mathlib.Core.List.{List}
 use mathlib.Core.List
-use Prim.Native.Nat.{ℕ}
-use lib.ListN.{drop}
+use Prim.Native.Nat.{ℕ, _+_}
+use native.Mathlib.Nat.{zero-add, suc-add, add-zero, add-assoc}
+use lib.ListN.{take, drop}
+use lib.Seq.{take-nil}
 use lib.Ieee.{Float}
-use Rattle.rules.specs.Tree.{Cell, cell, Tree, node, Forest, [], _∷_, size, marked}
+use Rattle.rules.specs.Tree.{Cell, cell, Tree, node, Forest, [], _∷_, size, sizes, marked}
 use Rattle.rules.specs.Cells.{cells, withCells, withCellsAll, column, columns, timeOf, placeOf, markOf}
 use Rattle.rules.specs.Call.{Run, ontoRun}
 use Rattle.calls.specs.Shape.{Shape, shp, Shapes, shape, shapes}
@@ -106,3 +108,24 @@ mutual
 
 pub held-shape : (t : Tree) (r : Run) → shape (held t r) ≡ shape t
 held-shape t r = with-shape t (cells (r .times) (r .places) (r .marks))
+
+-- ---- a tree is held by the first cells of a run: what stands behind them does not matter
+abbrev pub firstCells : ℕ → Run → List Cell
+firstCells n r = take n (cells (r .times) (r .places) (r .marks))
+
+mutual
+  unfolding withCells size
+
+  first-with : (t : Tree) (m : ℕ) (cs : List Cell) → withCells t (take (size t + m) cs) ≡ (withCells t cs .0, take m (withCells t cs .1))
+  first-with (node k n l c b ts) m List.[] = rw (suc-add (sizes ts) m, take-nil m)
+  first-with (node k n l c b ts) m (List._∷_ c' cs) = rw (suc-add (sizes ts) m, firsts-with ts m cs)
+
+  firsts-with : (ts : Forest) (m : ℕ) (cs : List Cell) → withCellsAll ts (take (sizes ts + m) cs) ≡ (withCellsAll ts cs .0, take m (withCellsAll ts cs .1))
+  firsts-with [] m cs = rw (zero-add m)
+  firsts-with (t ∷ ts) m cs = rw (add-assoc (size t) (sizes ts) m, first-with t (sizes ts + m) cs, firsts-with ts m (withCells t cs .1))
+
+pub first-held : (t : Tree) (r : Run) → withCells t (firstCells (size t) r) .0 ≡ held t r
+first-held t r = rw (add-zero (size t)) at (ap (λ (z : Tree × List Cell). z .0) (first-with t 0 (cells (r .times) (r .places) (r .marks))))
+
+pub held-first : (t : Tree) (r r' : Run) → firstCells (size t) r ≡ firstCells (size t) r' → held t r ≡ held t r'
+held-first t r r' e = rw (← first-held t r, e) (first-held t r')

@@ -11,11 +11,11 @@ use Rattle.rules.specs.declared.answer.ResetAnswer.the-variants.{Reset, BadTabl
 use Rattle.rules.specs.declared.answer.Record.{Record}
 use Rattle.rules.specs.Tree.{Cell, freshCell, Tree, node, Forest, [], _∷_, size}
 use Rattle.rules.specs.Table.{Table, good, bad, table}
-use Rattle.rules.specs.Cells.{cells, withCells, withCellsAll}
-use Rattle.rules.specs.Call.{Run, ontoRun, runLength, ResetLeft, resetLeft, resetCall}
-use Rattle.calls.specs.Memory.{held-onto}
+use Rattle.rules.specs.Cells.{withCells, withCellsAll}
+use Rattle.rules.specs.Call.{Run, Given, ontoRun, runLength, ResetLeft, resetLeft, resetCall}
+use Rattle.calls.specs.Memory.{held, held-onto, firstCells, first-held}
 use Rattle.calls.specs.Tables.{Tabled, Tableds, tabled, tabled-clear, one-tree}
-use Rattle.calls.specs.History.{FreshCells}
+use Rattle.calls.specs.History.{resets, resetOf, isReset, Standing, afterReset, after}
 
 abbrev pub NotReset : ResetAnswer → Type 0
 NotReset Reset = ⊥
@@ -43,12 +43,21 @@ mutual
       let rs = with-fresh-all ts (withCells t cs .1) (h .1) (r .1) in
       ((λ i. r .0 i ∷ rs .0 i), rs .1)
 
-module _ (kinds ns : List ℕ) (limits : List Float) where
-  pub zero-cells : (c : Run) → AllFresh (cells (c .times) (c .places) (c .marks)) → FreshCells kinds ns limits c
-  zero-cells c f t e = with-fresh t (cells (c .times) (c .places) (c .marks)) (tabled kinds ns limits t e .0) f .0
+-- the cells of the table's nodes are fresh: then they hold the table's tree
+abbrev pub FreshCells : Tree → Run → Type 0
+FreshCells t c = AllFresh (firstCells (size t) c)
 
-  written-fresh : (t : Tree) (c : Run) → table kinds ns limits ≡ good t → FreshCells kinds ns limits (ontoRun t c)
-  written-fresh t c e u f = rw (one-tree (table kinds ns limits) t u e f) (held-onto t t c refl ∙ tabled-clear t (tabled kinds ns limits t e .0))
+pub not-reset : (a : ResetAnswer) → NotReset a → isReset a ≡ false
+not-reset Reset h = absurd h
+not-reset (BadTable p) h = refl
+not-reset TooShort h = refl
+
+module _ (kinds ns : List ℕ) (limits : List Float) where
+  pub fresh-held : (t : Tree) (c : Run) → table kinds ns limits ≡ good t → FreshCells t c → held t c ≡ t
+  fresh-held t c e f = sym (first-held t c) ∙ with-fresh t (firstCells (size t) c) (tabled kinds ns limits t e .0) f .0
+
+  pub written-fresh : (t : Tree) (c : Run) → table kinds ns limits ≡ good t → held t (ontoRun t c) ≡ t
+  written-fresh t c e = held-onto t t c refl ∙ tabled-clear t (tabled kinds ns limits t e .0)
 
   -- a reset answered 0 leaves fresh cells, and clears finished; any other leaves all
   pub data ResetView (r : Record) (c : Run) : ResetLeft → Type 0 where
@@ -71,6 +80,14 @@ module _ (kinds ns : List ℕ) (limits : List Float) where
   unfolding resetCall
   reset-view r c = reset-table r c (table kinds ns limits) refl
 
-  pub reset-fresh : (r : Record) (c : Run) (l : ResetLeft) → ResetView r c l → l .answer ≡ Reset → FreshCells kinds ns limits (l .cells') × (l .record' .finished ≡ false)
-  reset-fresh r c l (resetting t e h) q = (written-fresh t c e, refl)
-  reset-fresh r c l (leaving a n) q = absurd (subst NotReset q n)
+-- after a reset answered 0 the table's tree stands, not finished, and no tick was carried out
+abbrev pub StartsAnew : Tree → Standing → Type 0
+StartsAnew t st = (held t (st .cells') ≡ t) × (st .record' .finished ≡ false) × (st .carried ≡ 0)
+
+pub reset-starts : (t : Tree) (st : Standing) (g : Given) → table (g .kinds) (g .ns) (g .limits) ≡ good t → resetOf g .answer ≡ Reset → StartsAnew t (after st (resets g))
+unfolding after
+reset-starts t st g e = on (resetOf g) (reset-view (g .kinds) (g .ns) (g .limits) (g .record') (g .cells'))
+  where
+    on : (l : ResetLeft) → ResetView (g .kinds) (g .ns) (g .limits) (g .record') (g .cells') l → l .answer ≡ Reset → StartsAnew t (afterReset st l)
+    on l (resetting u f h) q = rw (one-tree (table (g .kinds) (g .ns) (g .limits)) t u e f) (written-fresh (g .kinds) (g .ns) (g .limits) t (g .cells') e, refl, refl)
+    on l (leaving a n) q = absurd (subst NotReset q n)

@@ -51,7 +51,7 @@ Why g (Asked n x) = ⊥
 Why g OutOfFuel = ⊥
 Why g (BadTable p) = table (g .kinds) (g .ns) (g .limits) ≡ bad p
 Why g TooShort = (t : Tree) × (table (g .kinds) (g .ns) (g .limits) ≡ good t) × (tooShort g (size t) ≡ true)
-Why g (BadCell p) = (t : Tree) × (table (g .kinds) (g .ns) (g .limits) ≡ good t) × (badCell false false 0 (heldBy t g) ≡ faulty p)
+Why g (BadCell p) = (t : Tree) × (table (g .kinds) (g .ns) (g .limits) ≡ good t) × (tooShort g (size t) ≡ false) × (badCell false false 0 (heldBy t g) ≡ faulty p)
 Why g BadTime = timeAllowed (g .event) ≡ false
 Why g (BadAnswer i) = badAnswer 0 (g .statuses) (g .leftovers) ≡ faulty i
 Why g Finished = g .record' .finished ≡ true
@@ -102,7 +102,7 @@ module _ (g : Given) where
 
   by-cells : (t : Tree) → table (g .kinds) (g .ns) (g .limits) ≡ good t → tooShort g (size t) ≡ false → (f : Found) → badCell false false 0 (heldBy t g) ≡ f
       → View g (elim f [ faulty p ↦ refused g (BadCell p) | none _ ↦ tickTree g (heldBy t g) ])
-  by-cells t e s (faulty p) c = refusing (BadCell p) (t, e, c)
+  by-cells t e s (faulty p) c = refusing (BadCell p) (t, e, s, c)
   by-cells t e s (none at) c =
       by-tree t λ i time ans unfinished. record { table-good = e; long-enough = s; cells-good = (at, c); time-good = time; answers-good = (i, ans); not-finished = unfinished }
 

@@ -25,7 +25,8 @@ clash g t (Asked n x) w y = y
 clash g t OutOfFuel w y = y
 clash g t (BadTable p) w y = subst IsGood (sym (w .table-good) ∙ y) tt
 clash g t TooShort w y = subst T (sym (y .2) ∙ ap (λ (u : Tree). tooShort g (size u)) (one-tree (table (g .kinds) (g .ns) (g .limits)) t (y .0) (w .table-good) (y .1)) ∙ w .long-enough) tt
-clash g t (BadCell p) w y = subst IsNone (sym (w .cells-good .1) ∙ ap (λ (u : Tree). badCell false false 0 (heldBy u g)) (sym (one-tree (table (g .kinds) (g .ns) (g .limits)) t (y .0) (w .table-good) (y .1))) ∙ y .2) tt
+clash g t (BadCell p) w y =
+    subst IsNone (sym (w .cells-good .1) ∙ ap (λ (u : Tree). badCell false false 0 (heldBy u g)) (sym (one-tree (table (g .kinds) (g .ns) (g .limits)) t (y .0) (w .table-good) (y .1))) ∙ y .3) tt
 clash g t BadTime w y = subst T (sym (w .time-good) ∙ y) tt
 clash g t (BadAnswer i) w y = subst IsNone (sym (w .answers-good .1) ∙ y) tt
 clash g t Finished w y = subst T (sym y ∙ w .not-finished) tt

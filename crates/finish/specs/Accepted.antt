@@ -7,7 +7,8 @@ use lib.Dec.{T, eqb}
 use lib.Ieee.{Float, Format}
 use lib.Ieee.Fits.{and-l, and-r}
 use Rattle.rules.specs.declared.behavior.Kind.{Kind}
-use Rattle.rules.specs.declared.behavior.Kind.the-variants.{Wait, WaitForever, Action, Invert, AlwaysSucceed, Timeout, Select, If, Sequence, MemorylessSequence, MemorylessSelector, While, WhileAll, WhenAll, WhenAny, After, Race}
+use Rattle.rules.specs.declared.behavior.Kind.the-variants.{Wait, WaitForever, Action, Invert, AlwaysSucceed, Timeout, Select, If, Sequence}
+use Rattle.rules.specs.declared.behavior.Kind.the-variants.{MemorylessSequence, MemorylessSelector, While, WhileAll, WhenAll, WhenAny, After, Race}
 use Rattle.rules.specs.Kinds.{is, timed}
 use Rattle.rules.specs.Tree.{Cell, Tree, node, Forest, [], _∷_, count}
 use Rattle.rules.specs.Bound.{wholeTime, boundable, boundables}
@@ -37,11 +38,13 @@ module _ (F : Format) where
   module _ (k : Kind) (n : ℕ) (l : Float) (c : Cell) (b : ℕ) (ts : Forest) (h : T (boundable F (node k n l c b ts))) where
     limits : T (cond (timed k) (wholeTime F l) true)
     unfolding boundable
-    limits = and-l (cond (timed k) (wholeTime F l) true) (not (is k After && eqb (count ts) 0)) (and-l (cond (timed k) (wholeTime F l) true && not (is k After && eqb (count ts) 0)) (boundables F ts) h)
+    limits =
+        and-l (cond (timed k) (wholeTime F l) true) (not (is k After && eqb (count ts) 0)) (and-l (cond (timed k) (wholeTime F l) true && not (is k After && eqb (count ts) 0)) (boundables F ts) h)
 
     afters : T (not (is k After && eqb (count ts) 0))
     unfolding boundable
-    afters = and-r (cond (timed k) (wholeTime F l) true) (not (is k After && eqb (count ts) 0)) (and-l (cond (timed k) (wholeTime F l) true && not (is k After && eqb (count ts) 0)) (boundables F ts) h)
+    afters =
+        and-r (cond (timed k) (wholeTime F l) true) (not (is k After && eqb (count ts) 0)) (and-l (cond (timed k) (wholeTime F l) true && not (is k After && eqb (count ts) 0)) (boundables F ts) h)
 
     below : T (boundables F ts)
     unfolding boundable

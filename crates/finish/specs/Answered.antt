@@ -1,51 +1,75 @@
--- What it means that the finish bound answers N: the table's tree is one that it does not refuse, and N is its number.
-use mathlib.Core.Path.{_≡_, refl}
+-- The finish bound of a table for a step: the number that the bound's call says, or the one that it says is above 2 ^ 53.
+use mathlib.Core.Path.{_≡_, refl, sym, subst}
 use mathlib.Core.Bool.{Bool, true, false, cond, _&&_}
 use mathlib.Core.List.{List}
-use Prim.Native.Nat.{ℕ}
+use Prim.Native.Nat.{ℕ, _<_, _^_}
+use native.Mathlib.Omega.{arith}
 use lib.Dec.{T, leb}
 use lib.Ieee.{Float, binary64}
 use lib.Ieee.Fits.{and-l, and-r}
+use borrow.Author.Tests.{leb-false}
 use Rattle.rules.specs.declared.answer.BoundAnswer.{BoundAnswer}
 use Rattle.rules.specs.declared.answer.BoundAnswer.the-variants as says
 use Rattle.rules.specs.Tree.{Tree}
 use Rattle.rules.specs.Table.{Table, good, bad, table}
 use Rattle.rules.specs.Bound.{num, Lim, never, within, bound, boundable, stepAllowed, mostTicks, told, boundCall}
 
-abbrev IfWithin : (ℕ → Type 0) → BoundAnswer → Type 0
-IfWithin P (says.Within n) = P n
-IfWithin P says.Never = Unit {0}
-IfWithin P says.Above = Unit {0}
-IfWithin P (says.BadTable p) = Unit {0}
-IfWithin P says.NoBound = Unit {0}
+module _ (kinds ns : List ℕ) (limits : List Float) (t : Tree) (step : Float) where
+  -- N is told; or "above" is told, and N is the number that the rule of the bound gives
+  pub data FinishBound (N : ℕ) : Type 0 where
+    is-told : boundCall kinds ns limits step ≡ says.Within N → FinishBound N
+    is-above : boundCall kinds ns limits step ≡ says.Above → bound (num step) t ≡ within N → FinishBound N
 
-if-told : (P : ℕ → Type 0) (o : Lim) → ((n : ℕ) → o ≡ within n → P n) → IfWithin P (told o)
-if-told P never f = tt
-if-told P (within n) f = on (leb n mostTicks)
+-- ---- what an answer says of the bound
+told-within : (l : Lim) (N : ℕ) → told l ≡ says.Within N → l ≡ within N
+told-within never N q = cc
+told-within (within n) N q = on (leb n mostTicks) q
   where
-    on : (b : Bool) → IfWithin P (cond b (says.Within n) says.Above)
-    on true = f n refl
-    on false = tt
+    on : (b : Bool) → cond b (says.Within n) says.Above ≡ says.Within N → within n ≡ within N
+    on true p = cc
+    on false p = cc
 
-module _ (kinds ns : List ℕ) (limits : List Float) (step : Float) where
-  abbrev pub Bounded : ℕ → Type 0
-  Bounded N = (t : Tree) × (table kinds ns limits ≡ good t) × T (stepAllowed binary64 step) × T (boundable binary64 t) × (bound (num step) t ≡ within N)
+told-above : (l : Lim) → told l ≡ says.Above → (N : ℕ) × (mostTicks < N) × (l ≡ within N)
+told-above never q = let z : _≡_ {A = ℕ} 0 1 = cc in absurd (omega arith)
+told-above (within n) q = on (leb n mostTicks) (leb-false n mostTicks) q
+  where
+    on : (b : Bool) → (b ≡ false → mostTicks < n) → cond b (says.Within n) says.Above ≡ says.Above → (N : ℕ) × (mostTicks < N) × (within n ≡ within N)
+    on true f p = let z : _≡_ {A = ℕ} 0 1 = cc in absurd (omega arith)
+    on false f p = (n, f refl, refl)
 
-  bounded-if : (t : Tree) → table kinds ns limits ≡ good t → (b : Bool) → (T b → T (stepAllowed binary64 step && boundable binary64 t)) → IfWithin Bounded (cond b (told (bound (num step) t)) says.NoBound)
-  bounded-if t e true f = if-told Bounded (bound (num step) t) λ n q.
-      (t, e, and-l (stepAllowed binary64 step) (boundable binary64 t) (f tt), and-r (stepAllowed binary64 step) (boundable binary64 t) (f tt), q)
-  bounded-if t e false f = tt
+module _ (kinds ns : List ℕ) (limits : List Float) (t : Tree) (e : table kinds ns limits ≡ good t) (step : Float) where
+  -- the call refuses the step or a limit; or it tells the bound
+  data BoundView : BoundAnswer → Type 0 where
+    refusing : BoundView says.NoBound
+    telling : T (stepAllowed binary64 step) → T (boundable binary64 t) → BoundView (told (bound (num step) t))
 
-  bounded-by : (o : Table) → table kinds ns limits ≡ o → IfWithin Bounded (elim o [
-    | bad p ↦ says.BadTable p
-    | good t ↦ cond (stepAllowed binary64 step && boundable binary64 t) (told (bound (num step) t)) says.NoBound
-  ])
-  bounded-by (good t) e = bounded-if t e (stepAllowed binary64 step && boundable binary64 t) (λ h. h)
-  bounded-by (bad p) e = tt
+  by-test : (b : Bool) → (T b → T (stepAllowed binary64 step && boundable binary64 t)) → BoundView (cond b (told (bound (num step) t)) says.NoBound)
+  by-test true f = telling (and-l (stepAllowed binary64 step) (boundable binary64 t) (f tt)) (and-r (stepAllowed binary64 step) (boundable binary64 t) (f tt))
+  by-test false f = refusing
 
-  bounded-all : IfWithin Bounded (boundCall kinds ns limits step)
+  bound-view : BoundView (boundCall kinds ns limits step)
   unfolding boundCall
-  bounded-all = bounded-by (table kinds ns limits) refl
+  bound-view = subst (λ (o : Table). BoundView (elim o [
+    | bad p ↦ says.BadTable p
+    | good u ↦ cond (stepAllowed binary64 step && boundable binary64 u) (told (bound (num step) u)) says.NoBound
+  ])) (sym e) (by-test (stepAllowed binary64 step && boundable binary64 t) (λ h. h))
 
-  pub bounded : (N : ℕ) → boundCall kinds ns limits step ≡ says.Within N → Bounded N
-  bounded N e = rw e at bounded-all
+  pub bounded : (N : ℕ) → FinishBound kinds ns limits t step N → T (stepAllowed binary64 step) × T (boundable binary64 t) × (bound (num step) t ≡ within N)
+  bounded N (is-told q) = on (boundCall kinds ns limits step) bound-view q
+    where
+      on : (a : BoundAnswer) → BoundView a → a ≡ says.Within N → T (stepAllowed binary64 step) × T (boundable binary64 t) × (bound (num step) t ≡ within N)
+      on a refusing p = let z : _≡_ {A = ℕ} 0 1 = cc in absurd (omega arith)
+      on a (telling s b) p = (s, b, told-within (bound (num step) t) N p)
+  bounded N (is-above q p) = on (boundCall kinds ns limits step) bound-view q
+    where
+      on : (a : BoundAnswer) → BoundView a → a ≡ says.Above → T (stepAllowed binary64 step) × T (boundable binary64 t) × (bound (num step) t ≡ within N)
+      on a refusing r = let z : _≡_ {A = ℕ} 0 1 = cc in absurd (omega arith)
+      on a (telling s b) r = (s, b, p)
+
+  -- where "above" is told there is such a number, and it is above 2 ^ 53
+  pub above-number : boundCall kinds ns limits step ≡ says.Above → (N : ℕ) × (2 ^ 53 < N) × FinishBound kinds ns limits t step N
+  above-number q = on (boundCall kinds ns limits step) bound-view q
+    where
+      on : (a : BoundAnswer) → BoundView a → a ≡ says.Above → (N : ℕ) × (2 ^ 53 < N) × FinishBound kinds ns limits t step N
+      on a refusing r = let z : _≡_ {A = ℕ} 0 1 = cc in absurd (omega arith)
+      on a (telling s b) r = let x = told-above (bound (num step) t) r in (x .0, x .1, is-above q (x .2))

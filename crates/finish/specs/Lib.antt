@@ -17,6 +17,7 @@ pub mod Finishes
 pub mod Boards
 pub mod Accepted
 pub mod Public
+pub mod Instance
 pub mod Answered
 pub mod WholeTicks
 pub mod States

@@ -1,24 +1,28 @@
 -- One child of a forest by its index, and what becomes of the body of a loop when its child has succeeded.
 use mathlib.Core.Path.{_≡_, _∙_}
 use mathlib.Core.Bool.{Bool, true, false, cond}
-use Prim.Native.Nat.{ℕ, zero, suc, _<_}
+use Prim.Native.Nat.{ℕ, zero, suc, _≤_, _<_}
 use native.Mathlib.Nat.{not-suc-le-zero}
 use native.Mathlib.Omega.{arith}
 use lib.Dec.{ltb}
 use borrow.Author.Tests.{ltb-true}
-use lib.Ieee.{Format}
+use lib.Ieee.{Float, Format}
+use Rattle.rules.specs.declared.status.Status.{Status}
 use Rattle.rules.specs.declared.status.Status.the-variants.{Running, Success, Failure}
 use Rattle.rules.specs.declared.event.Event.{Event}
+use Rattle.rules.specs.Bound.{num}
 use Rattle.rules.specs.Tree.{Tree, Forest, [], _∷_, count}
-use Rattle.rules.specs.Outcome.{World, Ticker}
+use Rattle.rules.specs.Outcome.{dt, World, Ticker}
 use Rattle.rules.specs.Loops.{put, freshAt, childAt}
 use Rattle.calls.specs.Shape.{Shape, shape, shapes, fresh-at-shapes}
 use Rattle.finish.specs.Shaped.{Shapeds}
 use Rattle.calls.specs.Shape
+use Rattle.calls.specs.Post.{weaken}
 use Rattle.finish.specs.Valid.{ValidAt}
 use Rattle.finish.specs.Fresh.{fresh-valid}
-use Rattle.finish.specs.Post.{WWorld, WEvent, Post, map-post, TickQ, Good}
-use Rattle.finish.specs.Sequences.{SeqQ, seq-down}
+use Rattle.finish.specs.Enough.{StillSum}
+use Rattle.finish.specs.Post.{WWorld, WEvent, Post, Claim, Q, TickQ, Good}
+use Rattle.finish.specs.Sequences.{seq-down}
 
 module _ (F : Format) (d : ℕ) where
   abbrev pub Within : Forest → ℕ → Type 0
@@ -67,16 +71,26 @@ module _ (F : Format) (d : ℕ) where
   next-in ts p true e h = within-count ts (suc p) (ltb-true (suc p) (count ts) e)
   next-in ts p false e h = within-zero ts p h
 
+  -- the child at p was ticked
+  abbrev pub PutC : Event → ℕ → Forest → Claim Tree
+  PutC e p ts = record {
+    valid = λ t'. ValidAt F (put p t' ts) p;
+    down = λ t'. d ≤ num (dt e) → (j : ℕ) → StillSum d ts p (suc j) → StillSum d (put p t' ts) p j;
+  }
+
+  abbrev pub PutQ : Event → ℕ → Forest → Status → Float → Tree → Type 0
+  PutQ e p ts s r t' = (shapes (put p t' ts) ≡ shapes ts) × Q F (PutC e p ts) s r t'
+
   module _ (child : Ticker) (g : Good F d child) where
-    pub child-at : (e : Event) (ts : Forest) (p : ℕ) (w : World) → Shapeds F (shapes ts) → ValidAt F ts p → WEvent F e → WWorld F w → Post F (λ s r t'. SeqQ F d e (p, ts) s r (p, put p t' ts)) (childAt child p e ts w)
+    pub child-at : (e : Event) (ts : Forest) (p : ℕ) (w : World) → Shapeds F (shapes ts) → ValidAt F ts p → WEvent F e → WWorld F w → Post F (PutQ e p ts) (childAt child p e ts w)
     child-at e [] p w s v ev wv = absurd v
-    child-at e (t ∷ ts) zero w s v ev wv = map-post F (TickQ F d e t) (λ s' r t'. SeqQ F d e (0, t ∷ ts) s' r (0, t' ∷ ts)) (child t e w) (λ s'. elim s' [
-      | Running ↦ λ r t' q. ((λ i. Shape._∷_ (q .0 i) (shapes ts)), q .1 .0, λ full j x. seq-down F d t t' ts j (q .2 full) x)
-      | Success ↦ λ r t' q. ((λ i. Shape._∷_ (q .0 i) (shapes ts)), q .1)
-      | Failure ↦ λ r t' q. ((λ i. Shape._∷_ (q .0 i) (shapes ts)), q .1)
-    ]) (g t e w (s .0) v ev wv)
-    child-at e (t ∷ ts) (suc p) w s v ev wv = map-post F (λ s' r t'. SeqQ F d e (p, ts) s' r (p, put p t' ts)) (λ s' r t'. SeqQ F d e (suc p, t ∷ ts) s' r (suc p, t ∷ put p t' ts)) (childAt child p e ts w) (λ s'. elim s' [
-      | Running ↦ λ r t' q. ((λ i. Shape._∷_ (shape t) (q .0 i)), q .1, q .2)
+    child-at e (t ∷ ts) zero w s v ev wv = weaken (WWorld F) (Unit {0}) (TickQ F d e t) (PutQ e 0 (t ∷ ts)) (child t e w) (g t e w (s .0) v ev wv) λ s'. elim s' [
+      | Running ↦ λ r t' q. ((λ i. Shape._∷_ (q .0 .0 i) (shapes ts)), (q .1 .0, λ full j x. seq-down F d t t' ts j (q .1 .1 full) x))
+      | Success ↦ λ r t' q. ((λ i. Shape._∷_ (q .0 .0 i) (shapes ts)), q .1)
+      | Failure ↦ λ r t' q. ((λ i. Shape._∷_ (q .0 .0 i) (shapes ts)), q .1)
+    ]
+    child-at e (t ∷ ts) (suc p) w s v ev wv = weaken (WWorld F) (Unit {0}) (PutQ e p ts) (PutQ e (suc p) (t ∷ ts)) (childAt child p e ts w) (child-at e ts p w (s .1) v ev wv) λ s'. elim s' [
+      | Running ↦ λ r t' q. ((λ i. Shape._∷_ (shape t) (q .0 i)), q .1)
       | Success ↦ λ r t' q. ((λ i. Shape._∷_ (shape t) (q .0 i)), q .1)
       | Failure ↦ λ r t' q. ((λ i. Shape._∷_ (shape t) (q .0 i)), q .1)
-    ]) (child-at e ts p w (s .1) v ev wv)
+    ]

@@ -1,39 +1,29 @@
--- Demand 3 of the public tick: if the finish bound of a table is N for a step of d, then from fresh cells, whatever calls are made, the tree has
--- finished at or before the N-th call answered 0. Only those calls need a whole time of d at least and whole leftovers.
-use mathlib.Core.Path.{_≡_, _∙_}
+-- Demand 3 of the public calls: if the finish bound of a table is N for a step of d, then from fresh cells, whatever calls are made, the tree has
+-- finished at or before the N-th tick that was carried out since the start or the last reset.
+use mathlib.Core.Path.{_≡_}
 use mathlib.Core.Bool.{Bool, true, false}
 use mathlib.Core.List.{List}
 use Prim.Native.Nat.{ℕ, _≤_, _<_}
-use lib.Dec.{leb, leb→le}
+use lib.Dec.{T, leb, leb→le}
 use lib.Ieee.{Float, binary64}
 use lib.Ieee.Fits.{and-r}
-use Rattle.rules.specs.declared.status.Status.{Status}
-use Rattle.rules.specs.declared.status.Status.the-variants.{Running, Success, Failure}
-use Rattle.rules.specs.declared.event.Event.{Event}
-use Rattle.rules.specs.declared.event.Event.the-variants.{Update, Other}
-use Rattle.rules.specs.declared.answer.BoundAnswer.the-variants.{Within}
 use Rattle.rules.specs.declared.answer.ResetAnswer.the-variants.{Reset}
-use Rattle.rules.specs.declared.answer.Record.{Record}
 use Rattle.rules.specs.Tree.{Tree}
-use Rattle.rules.specs.Outcome.{world, Out, done, asks, short}
-use Rattle.rules.specs.State.{tick}
-use Rattle.rules.specs.Table.{mostDeep, good, table}
-use Rattle.rules.specs.Call.{Run, answers, resetCall}
-use Rattle.rules.specs.Bound.{num, wholeTime, boundCall}
+use Rattle.rules.specs.Outcome.{world}
+use Rattle.rules.specs.Table.{good, table}
+use Rattle.rules.specs.declared.answer.Record.{Record}
+use Rattle.rules.specs.Call.{Run, Given}
+use Rattle.rules.specs.Bound.{num, wholeTime, within, bound, boundable, stepAllowed}
 use Rattle.calls.specs.Shape.{shape}
-use Rattle.calls.specs.Memory.{held, clear-shape}
-use Rattle.calls.specs.Tables.{tabled, one-tree}
-use Rattle.calls.specs.History.{Brought, Standing, standing, afterTicks, FreshCells}
-use Rattle.calls.specs.Resets.{reset-view, reset-fresh}
-use Rattle.calls.specs.Invariant.{After, Keeps, calls-keep}
-use Rattle.whole.specs.Times.{whole-W}
+use Rattle.calls.specs.Memory.{held}
+use Rattle.calls.specs.History.{Call, resets, resetOf, Standing, stands, after, afterAll}
+use Rattle.calls.specs.Resets.{FreshCells, fresh-held, reset-starts}
+use Rattle.calls.specs.Invariant.{Keeps, Steps, calls-keep}
 use Rattle.finish.specs.Shaped.{Shaped}
-use Rattle.finish.specs.Boards.{valid-clear, still-clear}
-use Rattle.finish.specs.Accepted.{accepted}
-use Rattle.finish.specs.WholeTicks.{WholeEvent, WholeAnswers, WholeTick, WholeTicks, whole-all}
-use Rattle.finish.specs.Answered.{bounded}
-use Rattle.finish.specs.States.{StateIn, Boundable, fresh-in}
-use Rattle.finish.specs.Finishes.{unfinished, finished, took, Inv, start, after-tick, in-time}
+use Rattle.finish.specs.WholeTicks.{WholeTick, WholeHistory}
+use Rattle.finish.specs.Answered.{FinishBound, bounded}
+use Rattle.finish.specs.States.{whole-step, StateIn, shaped, first-state}
+use Rattle.finish.specs.Finishes.{State, Going, Over, start, after-tick, in-time}
 
 -- k ticks were carried out: at most N, and fewer than N if it has not finished
 abbrev AtMost : Bool → ℕ → ℕ → Type 0
@@ -41,63 +31,82 @@ AtMost true k N = k ≤ N
 AtMost false k N = k < N
 
 abbrev pub FinishesBy : ℕ → Standing → Type 0
-FinishesBy N (standing r c k) = AtMost (r .finished) k N
+FinishesBy N st = AtMost (st .record' .finished) (st .carried) N
 
-module _ (kinds ns : List ℕ) (limits : List Float) (d : ℕ) (pos : 0 < d) (t : Tree) (e : table kinds ns limits ≡ good t) (s : Shaped binary64 (shape t)) (N : ℕ) where
-  abbrev Ticking : Tree → ℕ → Type 0
-  Ticking t' k = Inv binary64 d pos t s N (unfinished t' k)
+module _
+    (kinds ns : List ℕ)
+    (limits : List Float)
+    (t : Tree)
+    (the-table : table kinds ns limits ≡ good t)
+    (step : Float)
+    (N : ℕ)
+    (the-bound : FinishBound kinds ns limits t step N)
+  where
+    fits : T (stepAllowed binary64 step) × T (boundable binary64 t) × (bound (num step) t ≡ within N)
+    fits = bounded kinds ns limits t the-table step N the-bound
 
-  abbrev Over : ℕ → Type 0
-  Over k = k ≤ N
+    sh : Shaped binary64 (shape t)
+    sh = shaped kinds ns limits t the-table (fits .1)
 
-  out : (t' : Tree) (k : ℕ) (o : Out Tree) → Inv binary64 d pos t s N (took t' k o) → After t Ticking Over k o
-  out t' k (done Running r t'' w) v = (v .0 .0, ((clear-shape t'' ∙ v .0 .0, valid-clear binary64 t'' (v .0 .1)), (v .1 .0, v .1 .1, still-clear d t'' (v .1 .0) (v .1 .2))))
-  out t' k (done Success r t'' w) v = v
-  out t' k (done Failure r t'' w) v = v
-  out t' k (asks n x) v = tt
-  out t' k short v = tt
+    pos : 0 < num step
+    pos = leb→le 1 (num step) (and-r (wholeTime binary64 step) (leb 1 (num step)) (fits .0))
 
-  step : (t' : Tree) (k : ℕ) (ev : Event) (fuel : ℕ) (ans : List (Status × Float)) → Ticking t' k → WholeEvent d ev × WholeAnswers ans → After t Ticking Over k (tick binary64 mostDeep t' ev (world fuel ans))
-  step t' k (Update x) fuel ans v h =
-      out t' k (tick binary64 mostDeep t' (Update x) (world fuel ans)) (after-tick binary64 d pos t s N mostDeep t' k x fuel ans v (whole-W binary64 x (h .0 .0)) (h .0 .1) (whole-all ans (h .1)))
-  step t' k Other fuel ans v h = absurd (h .0)
+    abbrev Goes : Tree → ℕ → Type 0
+    Goes = Going binary64 t sh (num step) pos N
 
-  keep : (st : Standing) (bs : List Brought) → WholeTicks kinds ns limits d st bs → Keeps t Ticking Over st → Keeps t Ticking Over (afterTicks kinds ns limits st bs)
-  keep = calls-keep kinds ns limits (WholeTick d) t e Ticking Over (λ t' k b. step t' k (b .event) (b .fuel) (answers (b .statuses) (b .leftovers)))
+    abbrev Gone : ℕ → Type 0
+    Gone = Over binary64 t sh (num step) pos N
 
-  kept-by : (st : Standing) → Keeps t Ticking Over st → FinishesBy N st
-  kept-by (standing r c k) v = on (r .finished) v
-    where
-      on : (b : Bool) → Keeps t Ticking Over (standing (record { finished = b; ticks = r .ticks }) c k) → AtMost b k N
-      on true h = h
-      on false h = in-time binary64 d pos t s N (unfinished (held t c) k) h
+    steps : Steps t (WholeTick t (num step)) Goes Gone
+    steps = whole-step t sh (num step) Goes Gone (λ t' k v. v .0) (λ t' k x s r t'' f left v full q. after-tick binary64 t sh (num step) pos N t' k x s r t'' (world f left) v full q)
 
-module _ (kinds ns : List ℕ) (limits : List Float) (step' : Float) (N : ℕ) (bnd : boundCall kinds ns limits step' ≡ Within N) where
-  -- from every state
-  pub finishes-from : (r : Record) (c : Run) → r .finished ≡ false → StateIn kinds ns limits c → (bs : List Brought) → WholeTicks kinds ns limits (num step') (standing r c 0) bs
-      → FinishesBy N (afterTicks kinds ns limits (standing r c 0) bs)
-  finishes-from r c o v bs h =
-      let q = bounded kinds ns limits step' N bnd in
-      let t : Tree = q .0 in
-      let s : Shaped binary64 (shape t) = accepted binary64 t (tabled kinds ns limits t (q .1) .0) (q .3) in
-      let pos : 0 < num step' = leb→le 1 (num step') (and-r (wholeTime binary64 step') (leb 1 (num step')) (q .2)) in
-      kept-by kinds ns limits (num step') pos t (q .1) s N (afterTicks kinds ns limits (standing r c 0) bs)
-      (keep kinds ns limits (num step') pos t (q .1) s N (standing r c 0) bs h (rw o (start binary64 (num step') pos t s N (held t c) (v t (q .1)) (q .4))))
+    at-first : (t' : Tree) → State binary64 t t' → Goes t' 0
+    at-first t' v = start binary64 t sh (num step) pos N t' v (fits .2)
 
-  -- a bound that is told is not refused
-  boundable-here : Boundable kinds ns limits
-  boundable-here u f = let q = bounded kinds ns limits step' N bnd in rw (one-tree (table kinds ns limits) (q .0) u (q .1) f) (q .3)
+    fresh-state : State binary64 t t
+    fresh-state = first-state kinds ns limits t the-table (fits .1)
 
-  -- from fresh cells
-  pub finishes : (r : Record) (c : Run) → r .finished ≡ false → FreshCells kinds ns limits c → (bs : List Brought) → WholeTicks kinds ns limits (num step') (standing r c 0) bs
-      → FinishesBy N (afterTicks kinds ns limits (standing r c 0) bs)
-  finishes r c o f bs h = finishes-from r c o (fresh-in kinds ns limits c boundable-here f) bs h
+    kept-by : (st : Standing) → Keeps t Goes Gone st → FinishesBy N st
+    kept-by st v = on (st .record' .finished) v
+      where
+        on : (b : Bool) → Keeps t Goes Gone (stands (record { finished = b; ticks = st .record' .ticks }) (st .cells') (st .carried)) → AtMost b (st .carried) N
+        on true h = h
+        on false h = in-time binary64 t sh (num step) pos N (held t (st .cells')) (st .carried) h
 
-  -- from a reset that was answered 0
-  pub finishes-after-reset : (r : Record) (c : Run) → resetCall kinds ns limits r c .answer ≡ Reset → (bs : List Brought)
-      → let l = resetCall kinds ns limits r c in
-      WholeTicks kinds ns limits (num step') (standing (l .record') (l .cells') 0) bs → FinishesBy N (afterTicks kinds ns limits (standing (l .record') (l .cells') 0) bs)
-  finishes-after-reset r c q bs =
-      let l = resetCall kinds ns limits r c in
-      let f = reset-fresh kinds ns limits r c l (reset-view kinds ns limits r c) q in
-      λ h. finishes (l .record') (l .cells') (f .1) (f .0) bs h
+    by-history : (st : Standing) → Keeps t Goes Gone st → (cs : List Call) → WholeHistory t (num step) st cs → FinishesBy N (afterAll st cs)
+    by-history st v cs whole = kept-by (afterAll st cs) (calls-keep t (WholeTick t (num step)) Goes Gone (λ st' g u ok. ok .takes-up) steps (at-first t fresh-state) st cs whole v)
+
+    -- from every state that whole ticks reach
+    pub finishes-from :
+        (r : Record)
+        (unfinished : r .finished ≡ false)
+        (c : Run)
+        (a-state : StateIn t c)
+        (cs : List Call)
+        (whole : WholeHistory t (num step) (stands r c 0) cs)
+        → FinishesBy N (afterAll (stands r c 0) cs)
+    finishes-from r unfinished c a-state cs whole = by-history (stands r c 0) (rw unfinished (at-first (held t c) a-state)) cs whole
+
+    -- from fresh cells
+    pub finishes :
+        (r : Record)
+        (unfinished : r .finished ≡ false)
+        (c : Run)
+        (fresh : FreshCells t c)
+        (cs : List Call)
+        (whole : WholeHistory t (num step) (stands r c 0) cs)
+        → FinishesBy N (afterAll (stands r c 0) cs)
+    finishes r unfinished c fresh cs whole = finishes-from r unfinished c (rw (fresh-held kinds ns limits t c the-table fresh) fresh-state) cs whole
+
+    -- from any record and cells, after a reset that was answered 0
+    pub finishes-after-reset :
+        (st : Standing)
+        (g : Given)
+        (its-table : table (g .kinds) (g .ns) (g .limits) ≡ good t)
+        (answered-0 : resetOf g .answer ≡ Reset)
+        (cs : List Call)
+        (whole : WholeHistory t (num step) (after st (resets g)) cs)
+        → FinishesBy N (afterAll (after st (resets g)) cs)
+    finishes-after-reset st g its-table answered-0 cs whole =
+        let h = reset-starts t st g its-table answered-0 in
+        by-history (after st (resets g)) (rw (h .1, h .0, h .2) (at-first t fresh-state)) cs whole

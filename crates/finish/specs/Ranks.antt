@@ -6,10 +6,12 @@ use Prim.Native.Nat.{ℕ, zero, suc, _+_, _*_, _≤_}
 use native.Mathlib.Nat.{le-trans, not-suc-le-zero}
 use native.Mathlib.Omega.{arith}
 use lib.Ieee.{Format}
-use Rattle.rules.specs.declared.behavior.Kind.the-variants.{Wait, WaitForever, Action, Invert, AlwaysSucceed, Timeout, Select, If, Sequence, MemorylessSequence, MemorylessSelector, While, WhileAll, WhenAll, WhenAny, After, Race}
+use Rattle.rules.specs.declared.behavior.Kind.the-variants.{Wait, WaitForever, Action, Invert, AlwaysSucceed, Timeout, Select, If, Sequence}
+use Rattle.rules.specs.declared.behavior.Kind.the-variants.{MemorylessSequence, MemorylessSelector, While, WhileAll, WhenAll, WhenAny, After, Race}
 use Rattle.rules.specs.Tree.{cell, Tree, node, Forest, [], _∷_, marked}
 use Rattle.calls.specs.Shape.{shape, shapes}
-use Rattle.finish.specs.Enough.{unless, Enough, EnoughFirst, EnoughSum, EnoughMax, EnoughMin, EnoughIf, EnoughLoop, Still, StillFirst, StillSum, StillAt, StillIf, StillUnmarked, StillAll, StillFrom, StillMin, StillLoop}
+use Rattle.finish.specs.Enough.{unless, Enough, EnoughFirst, EnoughSum, EnoughMax, EnoughMin, EnoughIf, EnoughLoop, Still}
+use Rattle.finish.specs.Enough.{StillFirst, StillSum, StillAt, StillIf, StillUnmarked, StillAll, StillFrom, StillMin, StillLoop}
 use Rattle.finish.specs.Valid.{Valid, ValidAt, ValidLoop, ValidAll, ValidFrom, ValidMarks}
 
 module _ (F : Format) (d : ℕ) where

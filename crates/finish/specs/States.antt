@@ -1,78 +1,65 @@
 -- The cells that whole ticks reach from fresh hold a state of the tree, with a finish bound or without: as long as it has not finished.
-use mathlib.Core.Path.{_≡_, _∙_}
+use mathlib.Core.Path.{_≡_}
 use mathlib.Core.Bool.{false}
 use mathlib.Core.List.{List}
-use Prim.Native.Nat.{ℕ}
+use Prim.Native.Nat.{ℕ, _-_, _≤_}
 use lib.Dec.{T}
+use lib.ListN.{length, take}
 use lib.Ieee.{Float, binary64}
 use Rattle.rules.specs.declared.status.Status.{Status}
-use Rattle.rules.specs.declared.status.Status.the-variants.{Running, Success, Failure}
 use Rattle.rules.specs.declared.event.Event.{Event}
 use Rattle.rules.specs.declared.event.Event.the-variants.{Update, Other}
-use Rattle.rules.specs.declared.answer.Record.{Record}
 use Rattle.rules.specs.Tree.{Tree}
-use Rattle.rules.specs.Outcome.{world, Out, done, asks, short}
+use Rattle.rules.specs.Outcome.{world, done, asks, short}
 use Rattle.rules.specs.State.{tick}
 use Rattle.rules.specs.Table.{mostDeep, good, table}
 use Rattle.rules.specs.Call.{Run, answers}
-use Rattle.rules.specs.Bound.{boundable}
+use Rattle.rules.specs.Bound.{boundable, num}
 use Rattle.calls.specs.Shape.{shape}
-use Rattle.calls.specs.Memory.{held, clear-shape}
+use Rattle.calls.specs.Memory.{held}
 use Rattle.calls.specs.Tables.{tabled, tabled-fresh}
-use Rattle.calls.specs.History.{Brought, Standing, standing, afterTicks, FreshCells}
-use Rattle.calls.specs.Invariant.{After, Keeps, calls-keep}
+use Rattle.calls.specs.History.{Call, Standing, afterAll}
+use Rattle.calls.specs.Invariant.{After, Steps, calls-keep}
 use Rattle.whole.specs.Times.{whole-W}
 use Rattle.finish.specs.Shaped.{Shaped}
-use Rattle.finish.specs.Boards.{valid-clear}
 use Rattle.finish.specs.Accepted.{accepted}
-use Rattle.finish.specs.WholeTicks.{WholeEvent, WholeAnswers, WholeTick, WholeTicks, whole-all}
-use Rattle.finish.specs.Finishes.{State, fresh-state, StateAfter, state-tick}
+use Rattle.finish.specs.Post.{TickQ}
+use Rattle.finish.specs.WholeTicks.{WholeEvent, WholeAnswers, WholeTick, WholeHistory, whole-all}
+use Rattle.finish.specs.Finishes.{State, fresh-state, whole-tick, Is, Ended, after-state}
 
--- the cells hold a state of the table's tree
-abbrev pub StateIn : List ℕ → List ℕ → List Float → Run → Type 0
-StateIn kinds ns limits c = (t : Tree) → table kinds ns limits ≡ good t → State binary64 t (held t c)
+-- ---- the walk of a whole tick
+module _ (t : Tree) (s : Shaped binary64 (shape t)) (d : ℕ) (P : Tree → ℕ → Type 0) (E : ℕ → Type 0)
+    (state : (t' : Tree) (k : ℕ) → P t' k → State binary64 t t')
+    (keeps : (t' : Tree) (k : ℕ) (x : Float) (s' : Status) (r : Float) (t'' : Tree) (f : ℕ) (left : List (Status × Float))
+    → P t' k → d ≤ num x → TickQ binary64 d (Update x) t' s' r t'' → After t P E k (done s' r t'' (world f left))) where
+  on-event : (t' : Tree) (k : ℕ) (e : Event) (fuel : ℕ) (ans left : List (Status × Float)) (s' : Status) (r : Float) (t'' : Tree) (f : ℕ) → P t' k → WholeEvent d e
+      → WholeAnswers (take (length ans - length left) ans)
+      → tick binary64 mostDeep t' e (world fuel ans) ≡ done s' r t'' (world f left) → After t P E k (done s' r t'' (world f left))
+  on-event t' k Other fuel ans left s' r t'' f v h a q = absurd h
+  on-event t' k (Update x) fuel ans left s' r t'' f v h a q =
+      keeps t' k x s' r t'' f left v (h .1) (whole-tick binary64 t s d mostDeep t' x fuel ans left s' r t'' f (state t' k v) (whole-W binary64 x (h .0))
+      (whole-all (take (length ans - length left) ans) a) q)
 
--- no limit is refused with 8
-abbrev pub Boundable : List ℕ → List ℕ → List Float → Type 0
-Boundable kinds ns limits = (t : Tree) → table kinds ns limits ≡ good t → T (boundable binary64 t)
+  pub whole-step : Steps t (WholeTick t d) P E
+  whole-step st g t' k (asks n x) q v h = tt
+  whole-step st g t' k short q v h = tt
+  whole-step st g t' k (done s' r t'' (world f left)) q v h = on-event t' k (g .event) (g .fuel) (answers (g .statuses) (g .leftovers)) left s' r t'' f v (h .whole-time) (h .whole-leftovers) q
 
-abbrev Is : Tree → Tree → ℕ → Type 0
-Is t t' k = State binary64 t t'
+-- ---- the cells hold a state of the table's tree
+abbrev pub StateIn : Tree → Run → Type 0
+StateIn t c = State binary64 t (held t c)
 
-abbrev Over : ℕ → Type 0
-Over k = Unit {0}
+module _ (kinds ns : List ℕ) (limits : List Float) (t : Tree) (e : table kinds ns limits ≡ good t) (b : T (boundable binary64 t)) where
+  pub shaped : Shaped binary64 (shape t)
+  shaped = accepted binary64 t (tabled kinds ns limits t e .0) b
 
-module _ (kinds ns : List ℕ) (limits : List Float) where
-  shaped : (t : Tree) → table kinds ns limits ≡ good t → T (boundable binary64 t) → Shaped binary64 (shape t)
-  shaped t e b = accepted binary64 t (tabled kinds ns limits t e .0) b
+  pub first-state : State binary64 t t
+  first-state = rw (tabled-fresh t (tabled kinds ns limits t e .0)) at (fresh-state binary64 t shaped)
 
-  pub fresh-in : (c : Run) → Boundable kinds ns limits → FreshCells kinds ns limits c → StateIn kinds ns limits c
-  fresh-in c b f t e = rw (f t e) (rw (tabled-fresh t (tabled kinds ns limits t e .0)) at (fresh-state binary64 t (shaped t e (b t e))))
-
-  module _ (t : Tree) (e : table kinds ns limits ≡ good t) (s : Shaped binary64 (shape t)) where
-    out : (k : ℕ) (o : Out Tree) → StateAfter binary64 t o → After t (Is t) Over k o
-    out k (done Running r t' w) h = (h .0, (clear-shape t' ∙ h .0, valid-clear binary64 t' (h .1)))
-    out k (done Success r t' w) h = tt
-    out k (done Failure r t' w) h = tt
-    out k (asks n x) h = tt
-    out k short h = tt
-
-    step : (t' : Tree) (k : ℕ) (ev : Event) (fuel : ℕ) (ans : List (Status × Float)) → State binary64 t t' → WholeEvent 0 ev × WholeAnswers ans → After t (Is t) Over k (tick binary64 mostDeep t' ev (world fuel ans))
-    step t' k (Update x) fuel ans st h = out k (tick binary64 mostDeep t' (Update x) (world fuel ans)) (state-tick binary64 t s mostDeep t' x fuel ans st (whole-W binary64 x (h .0 .0)) (whole-all ans (h .1)))
-    step t' k Other fuel ans st h = absurd (h .0)
-
-    keep : (st : Standing) (bs : List Brought) → WholeTicks kinds ns limits 0 st bs → Keeps t (Is t) Over st → Keeps t (Is t) Over (afterTicks kinds ns limits st bs)
-    keep = calls-keep kinds ns limits (WholeTick 0) t e (Is t) Over (λ t' k b. step t' k (b .event) (b .fuel) (answers (b .statuses) (b .leftovers)))
-
-  abbrev pub Unfinished : Standing → Type 0
-  Unfinished (standing r c k) = r .finished ≡ false
-
-  abbrev pub In : Standing → Type 0
-  In (standing r c k) = StateIn kinds ns limits c
-
-  pub states : (r : Record) (c : Run) → r .finished ≡ false → Boundable kinds ns limits → StateIn kinds ns limits c → (bs : List Brought) → WholeTicks kinds ns limits 0 (standing r c 0) bs
-      → Unfinished (afterTicks kinds ns limits (standing r c 0) bs) → In (afterTicks kinds ns limits (standing r c 0) bs)
-  states r c o b v bs h = held-in (afterTicks kinds ns limits (standing r c 0) bs) (λ t e. keep t e (shaped t e (b t e)) (standing r c 0) bs h (rw o (v t e)))
-    where
-      held-in : (st : Standing) → ((t : Tree) → table kinds ns limits ≡ good t → Keeps t (Is t) Over st) → Unfinished st → In st
-      held-in (standing r' c' k) f u = λ t e. rw u at (f t e)
+  pub states : (st : Standing) → st .record' .finished ≡ false → StateIn t (st .cells') → (cs : List Call) → WholeHistory t 0 st cs
+      → afterAll st cs .record' .finished ≡ false → StateIn t (afterAll st cs .cells')
+  states st o v cs h u =
+      let step : Steps t (WholeTick t 0) (Is binary64 t shaped 0) (Ended binary64 t shaped 0) =
+      whole-step t shaped 0 (Is binary64 t shaped 0) (Ended binary64 t shaped 0) (λ t' k p. p)
+      (λ t' k x s' r t'' f left p full q. after-state binary64 t shaped 0 t' k x s' r t'' (world f left) p q) in
+      rw u at (calls-keep t (WholeTick t 0) (Is binary64 t shaped 0) (Ended binary64 t shaped 0) (λ st' g n ok. ok .takes-up) step first-state st cs h (rw o v))

@@ -1,5 +1,5 @@
 -- One tick, of every kind: it keeps a tree valid, and a tick of d or more lowers the number of ticks that are still enough.
-use mathlib.Core.Path.{refl}
+use mathlib.Core.Path.{_≡_}
 use mathlib.Core.Logic.{inr}
 use mathlib.Core.List.{List}
 use mathlib.Core.List
@@ -8,7 +8,8 @@ use native.Mathlib.Omega.{arith}
 use lib.Dec.{T}
 use lib.Ieee.{Float, Format}
 use Rattle.rules.specs.declared.behavior.Kind.{Kind}
-use Rattle.rules.specs.declared.behavior.Kind.the-variants.{Wait, WaitForever, Action, Invert, AlwaysSucceed, Timeout, Select, If, Sequence, MemorylessSequence, MemorylessSelector, While, WhileAll, WhenAll, WhenAny, After, Race}
+use Rattle.rules.specs.declared.behavior.Kind.the-variants.{Wait, WaitForever, Action, Invert, AlwaysSucceed, Timeout, Select, If, Sequence}
+use Rattle.rules.specs.declared.behavior.Kind.the-variants.{MemorylessSequence, MemorylessSelector, While, WhileAll, WhenAll, WhenAny, After, Race}
 use Rattle.rules.specs.declared.status.Status.{Status}
 use Rattle.rules.specs.declared.status.Status.the-variants.{Running, Success, Failure}
 use Rattle.rules.specs.declared.event.Event.{Event}
@@ -21,17 +22,19 @@ use Rattle.rules.specs.Loops.{budget, whileBody, whileAll}
 use Rattle.rules.specs.State.{atPlace, inCell, ifAt, rule, tick}
 use Rattle.rules.specs.Bound.{num}
 use Rattle.whole.specs.Times.{W}
+use Rattle.laws.specs.PairDrivers.{Same}
+use Rattle.laws.specs.Alone.{AfterTick, tick-keeps}
 use Rattle.calls.specs.Shape.{Shape, shp, Shapes, shapes}
 use Rattle.finish.specs.Shaped.{Shaped, Shapeds, Shaped₁}
 use Rattle.calls.specs.Shape
 use Rattle.finish.specs.Enough.{EnoughEmpty, EnoughSum, Still, StillSum, StillIf, StillUnmarked, StillFrom, StillMin, StillLoop}
 use Rattle.finish.specs.Valid.{openOrNone, Valid, ValidAt, ValidAll, ValidFrom, ValidMarks}
 use Rattle.finish.specs.Ranks.{still-pos, stillsum-pos}
-use Rattle.finish.specs.Post.{WWorld, Post, bind, Q, TickQ, Good, exchange-post, exchanging-good, NodeQ}
-use Rattle.finish.specs.Sequences.{seq-good, mem-good}
-use Rattle.finish.specs.Whens.{when-good, race-good}
+use Rattle.finish.specs.Post.{WWorld, Post, bind, Q, Holds, claim-map, ticking, TickC, TickQ, Good, exchange-post, exchanging-good, running, NodeC, NodeQ}
+use Rattle.finish.specs.Sequences.{SeqC, seq-good, MemC, mem-good}
+use Rattle.finish.specs.Whens.{WhenC, when-good, race-good}
 use Rattle.finish.specs.Afters.{after-good}
-use Rattle.finish.specs.Whiles.{BodyQ, body-good, LoopK, Turn, LoopQ, loop-good}
+use Rattle.finish.specs.Whiles.{BodyC, body-good, LoopK, Turn, LoopC, loop-good}
 use Rattle.finish.specs.Waits.{wait-good, timeout-good}
 use Rattle.finish.specs.Ifs.{if-good}
 
@@ -39,26 +42,20 @@ module _ (F : Format) (d : ℕ) where
   -- ---- from a driver to its node
   module _ (k : Kind) (n : ℕ) (l : Float) (x : Float) (p : ℕ) (m : ℕ) (b : ℕ) (ts : Forest) (e : Event) where
     place-node : (K : ℕ × Forest → Type 0) (L : ℕ × Forest → ℕ → Type 0)
-        → ((y : ℕ × Forest) (i : ℕ) → K y → Valid F (node k n l (cell x (y .0) m) i (y .1)))
+        → ((y : ℕ × Forest) → K y → Valid F (running F d k n l (cell x (y .0) m, y .1)))
         → ((j : ℕ) → Still d (node k n l (cell x p m) b ts) j → L (p, ts) j)
-        → ((y : ℕ × Forest) (i j : ℕ) → L y j → Still d (node k n l (cell x (y .0) m) i (y .1)) j)
-        → (o : Out (ℕ × Forest)) → Post F (Q F d (λ (y : ℕ × Forest). shapes (y .1)) K L e (p, ts)) o → Post F (NodeQ F d k n l (cell x p m) b ts e) (atPlace (cell x p m) o)
-    place-node K L kt lf lt' (done Running r y w) h = (h .0, ((λ i. shp k n l (h .1 .0 i)), (kt y 1 (h .1 .1), refl), λ full j z. lt' y 1 j (h .1 .2 full j (lf (suc j) z))))
-    place-node K L kt lf lt' (done Success r y w) h = (h .0, ((λ i. shp k n l (h .1 .0 i)), h .1 .1))
-    place-node K L kt lf lt' (done Failure r y w) h = (h .0, ((λ i. shp k n l (h .1 .0 i)), h .1 .1))
-    place-node K L kt lf lt' (asks i z) h = tt
-    place-node K L kt lf lt' short h = tt
+        → ((y : ℕ × Forest) (j : ℕ) → L y j → Still d (running F d k n l (cell x (y .0) m, y .1)) j)
+        → (o : Out (ℕ × Forest)) → Holds F (ticking F d K L e (p, ts)) o → Holds F (NodeC F d k n l (cell x p m) b ts e) (atPlace (cell x p m) o)
+    place-node K L valid from to = claim-map F (ticking F d K L e (p, ts)) (NodeC F d k n l (cell x p m) b ts e) (λ y. (cell x (y .0) m, y .1))
+        (λ y v dn. (valid y v, λ full j z. to y j (dn full j (from (suc j) z))))
 
     cell-node : (K : Forest → Type 0) (L : Forest → ℕ → Type 0)
-        → ((us : Forest) (i : ℕ) → K us → Valid F (node k n l (cell x p m) i us))
+        → ((us : Forest) → K us → Valid F (running F d k n l (cell x p m, us)))
         → ((j : ℕ) → Still d (node k n l (cell x p m) b ts) j → L ts j)
-        → ((us : Forest) (i j : ℕ) → L us j → Still d (node k n l (cell x p m) i us) j)
-        → (o : Out Forest) → Post F (Q F d shapes K L e ts) o → Post F (NodeQ F d k n l (cell x p m) b ts e) (inCell (cell x p m) o)
-    cell-node K L kt lf lt' (done Running r y w) h = (h .0, ((λ i. shp k n l (h .1 .0 i)), (kt y 1 (h .1 .1), refl), λ full j z. lt' y 1 j (h .1 .2 full j (lf (suc j) z))))
-    cell-node K L kt lf lt' (done Success r y w) h = (h .0, ((λ i. shp k n l (h .1 .0 i)), h .1 .1))
-    cell-node K L kt lf lt' (done Failure r y w) h = (h .0, ((λ i. shp k n l (h .1 .0 i)), h .1 .1))
-    cell-node K L kt lf lt' (asks i z) h = tt
-    cell-node K L kt lf lt' short h = tt
+        → ((us : Forest) (j : ℕ) → L us j → Still d (running F d k n l (cell x p m, us)) j)
+        → (o : Out Forest) → Holds F (ticking F d K L e ts) o → Holds F (NodeC F d k n l (cell x p m) b ts e) (inCell (cell x p m) o)
+    cell-node K L valid from to =
+        claim-map F (ticking F d K L e ts) (NodeC F d k n l (cell x p m) b ts e) (λ us. (cell x p m, us)) (λ us v dn. (valid us v, λ full j z. to us j (dn full j (from (suc j) z))))
 
   shaped-all : (ss : Shapes) → Shaped₁ F ss → Shapeds F ss
   shaped-all Shape.[] h = absurd h
@@ -77,99 +74,118 @@ module _ (F : Format) (d : ℕ) where
       pick a b (suc m) h k y z u = (a, b, m, omega arith, k, y, z, inr (full, u))
 
   loop-node : (n : ℕ) (l x : Float) (p : ℕ) (m : ℕ) (b : ℕ) (c : Tree) (ts : Forest) (e : Event) (o : Out (ℕ × Forest))
-      → Post F (LoopQ F d e e c ts p) o → Post F (NodeQ F d WhileAll n l (cell x p m) b (c ∷ ts) e) (atPlace (cell x p m) o)
-  loop-node n l x p m b c ts e (done Running r y w) h = (h .0, ((λ i. shp WhileAll n l (h .1 .0 i)), (to (y .0) (h .1 .1), refl), λ full j z. h .1 .2 full j (loop-turn e c ts p j full z)))
+      → Holds F (LoopC F d e e c ts p) o → Holds F (NodeC F d WhileAll n l (cell x p m) b (c ∷ ts) e) (atPlace (cell x p m) o)
+  loop-node n l x p m b c ts e = claim-map F (LoopC F d e e c ts p) (NodeC F d WhileAll n l (cell x p m) b (c ∷ ts) e) (λ y. (cell x (y .0) m, y .1))
+      (λ y v dn. (to (y .0) (y .1) v, λ full j z. dn full j (loop-turn e c ts p j full z)))
     where
-      to : (q : ℕ) → LoopK F d (y .1) q → Valid F (node WhileAll n l (cell x q m) 1 (y .1))
-      to zero v = v
-      to (suc q) v = v
-  loop-node n l x p m b c ts e (done Success r y w) h = (h .0, ((λ i. shp WhileAll n l (h .1 .0 i)), h .1 .1))
-  loop-node n l x p m b c ts e (done Failure r y w) h = (h .0, ((λ i. shp WhileAll n l (h .1 .0 i)), h .1 .1))
-  loop-node n l x p m b c ts e (asks i z) h = tt
-  loop-node n l x p m b c ts e short h = tt
+      to : (q : ℕ) (us : Forest) → LoopK F d us q → Valid F (node WhileAll n l (cell x q m) 1 us)
+      to zero us v = v
+      to (suc q) us v = v
 
   loop-live : (n : ℕ) (l x : Float) (p : ℕ) (m : ℕ) (b : ℕ) (ts : Forest) → Valid F (node WhileAll n l (cell x p m) b ts) → LoopK F d ts p
   loop-live n l x zero m b ts v = v
   loop-live n l x (suc p) m b ts v = v
 
-  while-node : (n : ℕ) (l x : Float) (p : ℕ) (m : ℕ) (b : ℕ) (c c' : Tree) (ts : Forest) (e : Event) (r : Float) → TickQ F d e c Running r c' → (o : Out (ℕ × Forest)) → Post F (BodyQ F d e (p, ts)) o
-      → Post F (NodeQ F d While n l (cell x p m) b (c ∷ ts) e) (o ▸ λ s'' r'' y w''. done s'' r'' (cell x (y .0) m, c' ∷ y .1) w'')
-  while-node n l x p m b c c' ts e r q (done Running r' y w) h = (h .0, ((λ i. shp While n l (Shape._∷_ (q .0 i) (h .1 .0 i))), ((q .1 .0, h .1 .1), refl), λ full j z. q .2 full j z))
-  while-node n l x p m b c c' ts e r q (done Success r' y w) h = (h .0, ((λ i. shp While n l (Shape._∷_ (q .0 i) (h .1 .0 i))), h .1 .1))
-  while-node n l x p m b c c' ts e r q (done Failure r' y w) h = (h .0, ((λ i. shp While n l (Shape._∷_ (q .0 i) (h .1 .0 i))), h .1 .1))
-  while-node n l x p m b c c' ts e r q (asks i z) h = tt
-  while-node n l x p m b c c' ts e r q short h = tt
+  while-node : (n : ℕ) (l x : Float) (p : ℕ) (m : ℕ) (b : ℕ) (c c' : Tree) (ts : Forest) (e : Event) (r : Float) → TickQ F d e c Running r c' → (o : Out (ℕ × Forest)) → Holds F (BodyC F d e (p, ts)) o
+      → Holds F (NodeC F d While n l (cell x p m) b (c ∷ ts) e) (o ▸ λ s'' r'' y w''. done s'' r'' (cell x (y .0) m, c' ∷ y .1) w'')
+  while-node n l x p m b c c' ts e r q =
+      claim-map F (BodyC F d e (p, ts)) (NodeC F d While n l (cell x p m) b (c ∷ ts) e) (λ y. (cell x (y .0) m, c' ∷ y .1)) (λ y v dn. ((q .1 .0, v), λ full j z. q .1 .1 full j z))
 
   -- ---- a rule, by its kind
-  rule-good : (child : Ticker) → Good F d child → (k : Kind) (n : ℕ) (l : Float) (x : Float) (p : ℕ) (m : ℕ) (b : ℕ) (ts : Forest) (y : Float) (w : World) → Shaped F (shp k n l (shapes ts)) → Valid F (node k n l (cell x p m) b ts) → W F y → WWorld F w
+  rule-good : (child : Ticker) → Good F d child → (k : Kind) (n : ℕ) (l : Float) (x : Float) (p : ℕ) (m : ℕ) (b : ℕ) (ts : Forest) (y : Float) (w : World) → Shaped F (shp k n l (shapes ts))
+      → Valid F (node k n l (cell x p m) b ts) → W F y → WWorld F w
       → Post F (NodeQ F d k n l (cell x p m) b ts (Update y)) (rule F child k n l (cell x p m) (Update y) ts w)
   unfolding rule
   rule-good child g Action n l x p m b ts y (world f List.[]) s v ev wv = tt
   rule-good child g Action n l x p m b ts y (world f (List._∷_ a ans)) s v ev wv = act (a .0)
     where
       act : (st : Status) → Post F (NodeQ F d Action n l (cell x p m) b ts (Update y)) (done st (a .1) (cell x p m, ts) (world f ans))
-      act Running = (wv .1, (refl, (tt, refl), λ full j z. absurd z))
-      act Success = (wv .1, (refl, wv .0))
-      act Failure = (wv .1, (refl, wv .0))
+      act Running = (wv .1, (tt, λ full j z. absurd z))
+      act Success = (wv .1, wv .0)
+      act Failure = (wv .1, wv .0)
   rule-good child g Invert n l x p m b [] y w s v ev wv = absurd s
-  rule-good child g Invert n l x p m b (t ∷ ts) y w s v ev wv = bind F (TickQ F d (Update y) t) (NodeQ F d Invert n l (cell x p m) b (t ∷ ts) (Update y)) (child t (Update y) w) _ (g t (Update y) w (s .0) v ev wv) λ s'. elim s' [
-    | Running ↦ λ r t' w' wv' q. (wv', ((λ i. shp Invert n l (Shape._∷_ (q .0 i) (shapes ts))), (q .1 .0, refl), λ full j z. q .2 full j z))
-    | Success ↦ λ r t' w' wv' q. (wv', ((λ i. shp Invert n l (Shape._∷_ (q .0 i) (shapes ts))), q .1))
-    | Failure ↦ λ r t' w' wv' q. (wv', ((λ i. shp Invert n l (Shape._∷_ (q .0 i) (shapes ts))), q .1))
-  ]
+  rule-good child g Invert n l x p m b (t ∷ ts) y w s v ev wv =
+      bind F (TickQ F d (Update y) t) (NodeQ F d Invert n l (cell x p m) b (t ∷ ts) (Update y)) (child t (Update y) w) _ (g t (Update y) w (s .0) v ev wv) λ s'. elim s' [
+        | Running ↦ λ r t' w' wv' q. (wv', q .1)
+        | Success ↦ λ r t' w' wv' q. (wv', q .1)
+        | Failure ↦ λ r t' w' wv' q. (wv', q .1)
+      ]
   rule-good child g AlwaysSucceed n l x p m b [] y w s v ev wv = absurd s
-  rule-good child g AlwaysSucceed n l x p m b (t ∷ ts) y w s v ev wv = bind F (TickQ F d (Update y) t) (NodeQ F d AlwaysSucceed n l (cell x p m) b (t ∷ ts) (Update y)) (child t (Update y) w) _ (g t (Update y) w (s .0) v ev wv) λ s'. elim s' [
-    | Running ↦ λ r t' w' wv' q. (wv', ((λ i. shp AlwaysSucceed n l (Shape._∷_ (q .0 i) (shapes ts))), (q .1 .0, refl), λ full j z. q .2 full j z))
-    | Success ↦ λ r t' w' wv' q. (wv', ((λ i. shp AlwaysSucceed n l (Shape._∷_ (q .0 i) (shapes ts))), q .1))
-    | Failure ↦ λ r t' w' wv' q. (wv', ((λ i. shp AlwaysSucceed n l (Shape._∷_ (q .0 i) (shapes ts))), q .1))
-  ]
+  rule-good child g AlwaysSucceed n l x p m b (t ∷ ts) y w s v ev wv =
+      bind F (TickQ F d (Update y) t) (NodeQ F d AlwaysSucceed n l (cell x p m) b (t ∷ ts) (Update y)) (child t (Update y) w) _ (g t (Update y) w (s .0) v ev wv) λ s'. elim s' [
+        | Running ↦ λ r t' w' wv' q. (wv', q .1)
+        | Success ↦ λ r t' w' wv' q. (wv', q .1)
+        | Failure ↦ λ r t' w' wv' q. (wv', q .1)
+      ]
   rule-good child g Wait n l x p m b ts y w s v ev wv = wait-good F d child g n l x p m b ts (Update y) w s (v .0) (v .1) ev wv
-  rule-good child g WaitForever n l x p m b ts y w s v ev wv = (wv, (refl, (tt, refl), λ full j z. absurd z))
+  rule-good child g WaitForever n l x p m b ts y w s v ev wv = (wv, (tt, λ full j z. absurd z))
   rule-good child g Timeout n l x p m b [] y w s v ev wv = absurd (s .1)
   rule-good child g Timeout n l x p m b (t ∷ ts) y w s v ev wv = timeout-good F d child g n l x p m b t ts (Update y) w (s .0) (v .0) (v .1) (s .1 .0) (v .2) ev wv
   rule-good child g If n l x p m b ts y w s v ev wv =
-      place-node If n l x p m b ts (Update y) (λ (z : ℕ × Forest). (ValidAt F) (z .1) (z .0)) (λ (z : ℕ × Forest). StillIf d (z .1) (z .0)) (λ z i h. h) (λ j h. h) (λ z i j h. h)
+      place-node If n l x p m b ts (Update y) (λ (z : ℕ × Forest). (ValidAt F) (z .1) (z .0)) (λ (z : ℕ × Forest). StillIf d (z .1) (z .0)) (λ z h. h) (λ j h. h) (λ z j h. h)
       (ifAt child p (Update y) ts w) (if-good F d child g p ts y w s v ev wv)
   rule-good child g Sequence n l x p m b ts y w s v ev wv =
-      place-node Sequence n l x p m b ts (Update y) (λ (z : ℕ × Forest). (ValidAt F) (z .1) (z .0)) (λ (z : ℕ × Forest). StillSum d (z .1) (z .0)) (λ z i h. h) (λ j h. h) (λ z i j h. h)
+      place-node Sequence n l x p m b ts (Update y) (λ (z : ℕ × Forest). (shapes (z .1) ≡ shapes ts) × (ValidAt F) (z .1) (z .0)) (λ (z : ℕ × Forest). StillSum d (z .1) (z .0)) (λ z h. h .1)
+      (λ j h. h) (λ z j h. h)
       (sequenceAt child p (Update y) ts w) (seq-good F d child g (Update y) ts p w (shaped-all (shapes ts) s) v ev wv)
   rule-good child g Select n l x p m b ts y w s v ev wv =
       let o : Out (ℕ × Forest) = sequenceAt (exchanging child) p (Update y) ts w in
-      place-node Select n l x p m b ts (Update y) (λ (z : ℕ × Forest). (ValidAt F) (z .1) (z .0)) (λ (z : ℕ × Forest). StillSum d (z .1) (z .0)) (λ z i h. h) (λ j h. h) (λ z i j h. h)
-      (exchange o) (exchange-post F d (λ (z : ℕ × Forest). shapes (z .1)) (λ (z : ℕ × Forest). (ValidAt F) (z .1) (z .0)) (λ (z : ℕ × Forest). StillSum d (z .1) (z .0)) (Update y) (p, ts) o
+      place-node Select n l x p m b ts (Update y) (λ (z : ℕ × Forest). (shapes (z .1) ≡ shapes ts) × (ValidAt F) (z .1) (z .0)) (λ (z : ℕ × Forest). StillSum d (z .1) (z .0)) (λ z h. h .1)
+      (λ j h. h) (λ z j h. h)
+      (exchange o) (exchange-post F (SeqC F d (Update y) (p, ts)) o
       (seq-good F d (exchanging child) (exchanging-good F d child g) (Update y) ts p w (shaped-all (shapes ts) s) v ev wv))
   rule-good child g MemorylessSequence n l x p m b ts y w s v ev wv =
-      cell-node MemorylessSequence n l x p m b ts (Update y) (λ us. Unit {0}) (λ us k. EnoughEmpty d (shapes us) k) (λ us i h. tt) (λ j h. h) (λ us i j h. h) (memoryless child (Update y) ts w) (mem-good F d child g y ts w s ev wv)
+      cell-node MemorylessSequence n l x p m b ts (Update y) (λ us. Unit {0}) (λ us k. EnoughEmpty d (shapes us) k) (λ us h. tt) (λ j h. h) (λ us j h. h) (memoryless child (Update y) ts w)
+      (mem-good F d child g y ts w s ev wv)
   rule-good child g MemorylessSelector n l x p m b ts y w s v ev wv =
-      cell-node MemorylessSelector n l x p m b ts (Update y) (λ us. Unit {0}) (λ us k. EnoughEmpty d (shapes us) k) (λ us i h. tt) (λ j h. h) (λ us i j h. h) (exchange (memoryless (exchanging child) (Update y) ts w))
-      (exchange-post F d shapes (λ us. Unit {0}) (λ us k. EnoughEmpty d (shapes us) k) (Update y) ts (memoryless (exchanging child) (Update y) ts w) (mem-good F d (exchanging child) (exchanging-good F d child g) y ts w s ev wv))
+      cell-node MemorylessSelector n l x p m b ts (Update y) (λ us. Unit {0}) (λ us k. EnoughEmpty d (shapes us) k) (λ us h. tt) (λ j h. h) (λ us j h. h)
+      (exchange (memoryless (exchanging child) (Update y) ts w))
+      (exchange-post F (MemC F d (Update y) ts) (memoryless (exchanging child) (Update y) ts w) (mem-good F d (exchanging child) (exchanging-good F d child g) y ts w s ev wv))
   rule-good child g While n l x p m b [] y w s v ev wv = absurd s
-  rule-good child g While n l x p m b (c ∷ ts) y w s v ev wv = bind F (TickQ F d (Update y) c) (NodeQ F d While n l (cell x p m) b (c ∷ ts) (Update y)) (child c (Update y) w) _ (g c (Update y) w (s .0) (v .0) ev wv) λ s'. elim s' [
-    | Running ↦ λ r c' w' wv' q. while-node n l x p m b c c' ts (Update y) r q (whileBody child (budget w) p (Update y) ts w') (body-good F d child g (budget w) y ts p w' (shaped-all (shapes ts) (s .1)) (v .1) ev wv')
-    | Success ↦ λ r c' w' wv' q. (wv', ((λ i. shp While n l (Shape._∷_ (q .0 i) (shapes ts))), q .1))
-    | Failure ↦ λ r c' w' wv' q. (wv', ((λ i. shp While n l (Shape._∷_ (q .0 i) (shapes ts))), q .1))
-  ]
+  rule-good child g While n l x p m b (c ∷ ts) y w s v ev wv =
+      bind F (TickQ F d (Update y) c) (NodeQ F d While n l (cell x p m) b (c ∷ ts) (Update y)) (child c (Update y) w) _ (g c (Update y) w (s .0) (v .0) ev wv) λ s'. elim s' [
+        | Running ↦ λ r c' w' wv' q. while-node n l x p m b c c' ts (Update y) r q (whileBody child (budget w) p (Update y) ts w')
+            (body-good F d child g (budget w) y ts p w' (shaped-all (shapes ts) (s .1)) (v .1) ev wv')
+        | Success ↦ λ r c' w' wv' q. (wv', q .1)
+        | Failure ↦ λ r c' w' wv' q. (wv', q .1)
+      ]
   rule-good child g WhileAll n l x p m b [] y w s v ev wv = absurd s
   rule-good child g WhileAll n l x p m b (c ∷ ts) y w s v ev wv =
       loop-node n l x p m b c ts (Update y) (whileAll child (budget w) (Update y) p (Update y) c ts w)
       (loop-good F d child g (budget w) y y c ts p w (s .0) (shaped-all (shapes ts) (s .1)) (loop-live n l x p m b (c ∷ ts) v) ev ev wv)
   rule-good child g WhenAll n l x p m b ts y w s v ev wv =
-      cell-node WhenAll n l x p m b ts (Update y) (λ us. (ValidMarks F) us × T (openOrNone us)) (StillUnmarked d) (λ us i h. h) (λ j h. h) (λ us i j h. h) (whenAll child (largest F) (Update y) ts w) (when-good F d child g (Update y) ts w s (v .0) (v .1) ev wv)
+      cell-node WhenAll n l x p m b ts (Update y) (λ us. (ValidMarks F) us × T (openOrNone us)) (StillUnmarked d) (λ us h. h) (λ j h. h) (λ us j h. h) (whenAll child (largest F) (Update y) ts w)
+      (when-good F d child g (Update y) ts w s (v .0) (v .1) ev wv)
   rule-good child g WhenAny n l x p m b ts y w s v ev wv =
-      cell-node WhenAny n l x p m b ts (Update y) (λ us. (ValidMarks F) us × T (openOrNone us)) (StillUnmarked d) (λ us i h. h) (λ j h. h) (λ us i j h. h) (exchange (whenAll (exchanging child) (largest F) (Update y) ts w))
-      (exchange-post F d shapes (λ us. (ValidMarks F) us × T (openOrNone us)) (StillUnmarked d) (Update y) ts (whenAll (exchanging child) (largest F) (Update y) ts w) (when-good F d (exchanging child) (exchanging-good F d child g) (Update y) ts w s (v .0) (v .1) ev wv))
+      cell-node WhenAny n l x p m b ts (Update y) (λ us. (ValidMarks F) us × T (openOrNone us)) (StillUnmarked d) (λ us h. h) (λ j h. h) (λ us j h. h)
+      (exchange (whenAll (exchanging child) (largest F) (Update y) ts w))
+      (exchange-post F (WhenC F d (Update y) ts) (whenAll (exchanging child) (largest F) (Update y) ts w)
+      (when-good F d (exchanging child) (exchanging-good F d child g) (Update y) ts w s (v .0) (v .1) ev wv))
   rule-good child g After n l x p m b ts y w s v ev wv =
-      place-node After n l x p m b ts (Update y) (λ (z : ℕ × Forest). (ValidFrom F) (z .1) (z .0)) (λ (z : ℕ × Forest). StillFrom d (z .1) (z .0)) (λ z i h. h) (λ j h. h) (λ z i j h. h)
+      place-node After n l x p m b ts (Update y) (λ (z : ℕ × Forest). (ValidFrom F) (z .1) (z .0)) (λ (z : ℕ × Forest). StillFrom d (z .1) (z .0)) (λ z h. h) (λ j h. h) (λ z j h. h)
       (afterAt child (largest F) p (Update y) ts w) (after-good F d child g (Update y) ts p w (shaped-all (shapes ts) s) v ev wv)
   rule-good child g Race n l x p m b ts y w s v ev wv =
-      cell-node Race n l x p m b ts (Update y) (ValidAll F) (StillMin d) (λ us i h. h) (λ j h. h) (λ us i j h. h) (raceFrom child (Update y) ts w) (race-good F d child g (Update y) ts w s v ev wv)
+      cell-node Race n l x p m b ts (Update y) (ValidAll F) (StillMin d) (λ us h. h) (λ j h. h) (λ us j h. h) (raceFrom child (Update y) ts w) (race-good F d child g (Update y) ts w s v ev wv)
 
   -- ---- every depth
+  -- shape and mark stay, as they do in every tick
+  same-too : (e : Event) (t : Tree) (w : World) (o : Out Tree) → Holds F (TickC F d e t) o → AfterTick w (Same t) o → Post F (TickQ F d e t) o
+  same-too e t w (done s r t' w') h k = (h .0, (k .1, h .1))
+  same-too e t w (asks n x) h k = tt
+  same-too e t w short h k = tt
+
   pub tick-good : (depth : ℕ) → Good F d (tick F depth)
   unfolding tick
   tick-good zero t e w s v ev wv = tt
   tick-good (suc depth) t e (world zero ans) s v ev wv = tt
   tick-good (suc depth) (node k n l (cell x p m) b ts) Other (world (suc f) ans) s v ev wv = absurd ev
   tick-good (suc depth) (node k n l (cell x p m) b ts) (Update y) (world (suc f) ans) s v ev wv =
-      bind F (NodeQ F d k n l (cell x p m) b ts (Update y)) (TickQ F d (Update y) (node k n l (cell x p m) b ts)) (rule F (tick F depth) k n l (cell x p m) (Update y) ts (world f ans)) _
-      (rule-good (tick F depth) (tick-good depth) k n l x p m b ts y (world f ans) s v ev wv) (λ s' r z w' wv' q. (wv', q))
+      let t : Tree = node k n l (cell x p m) b ts in
+      same-too (Update y) t (world (suc f) ans) (tick F (suc depth) t (Update y) (world (suc f) ans))
+      (bind F (NodeQ F d k n l (cell x p m) b ts (Update y)) (Q F (TickC F d (Update y) t)) (rule F (tick F depth) k n l (cell x p m) (Update y) ts (world f ans)) _
+      (rule-good (tick F depth) (tick-good depth) k n l x p m b ts y (world f ans) s v ev wv) λ s'. elim s' [
+        | Running ↦ λ r z w' wv' q. (wv', q)
+        | Success ↦ λ r z w' wv' q. (wv', q)
+        | Failure ↦ λ r z w' wv' q. (wv', q)
+      ])
+      (tick-keeps F (suc depth) t (Update y) (world (suc f) ans))

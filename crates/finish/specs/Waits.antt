@@ -1,5 +1,5 @@
 -- A tick of Wait and of Timeout: the time that has passed is exact.
-use mathlib.Core.Path.{_≡_, refl}
+use mathlib.Core.Path.{_≡_}
 use mathlib.Core.Bool.{Bool, true, false}
 use mathlib.Core.Logic.{inl, inr}
 use Prim.Native.Nat.{ℕ, zero, suc, _+_, _*_, _≤_, _<_}
@@ -15,9 +15,8 @@ use Rattle.rules.specs.Outcome.{World, Out, done, Ticker, waiting}
 use Rattle.rules.specs.State.{rule}
 use Rattle.rules.specs.Bound.{num}
 use Rattle.whole.specs.Times.{W, Passed, reached, passing, passed}
-use Rattle.calls.specs.Shape.{Shape, shp, shape, shapes}
+use Rattle.calls.specs.Shape.{shape}
 use Rattle.finish.specs.Shaped.{Shaped}
-use Rattle.calls.specs.Shape
 use Rattle.finish.specs.Valid.{Valid}
 use Rattle.finish.specs.Post.{WWorld, WEvent, Post, bind, TickQ, Good, NodeQ}
 
@@ -41,32 +40,30 @@ module _ (F : Format) (d : ℕ) where
     unfolding rule
     wait-good n l x p m b ts (Update y) w wl wx h ev wv =
         time-post (NodeQ F d Wait n l (cell x p m) b ts (Update y)) x y l (λ r. done Success r (cell l p m, ts) w) (λ x'. waiting (cell x' p m, ts) w) (le l (add F x y)) (passed F x y l wx ev wl h)
-        (λ wr. (wv, (refl, wr)))
-        (λ under w' e. (wv, (refl, ((w', omega arith), refl), λ full j z. wait-down (num x) (num y) (num l) (num (add F x y)) j under e full (z .1))))
+        (λ wr. (wv, wr))
+        (λ under w' e. (wv, ((w', omega arith), λ full j z. wait-down (num x) (num y) (num l) (num (add F x y)) j under e full (z .1))))
     wait-good n l x p m b ts Other w wl wx h ev wv = absurd ev
 
-    pub timeout-good : (n : ℕ) (l x : Float) (p : ℕ) (m : ℕ) (b : ℕ) (t : Tree) (ts : Forest) (e : Event) (w : World) → W F l → W F x → num x ≤ num l → Shaped F (shape t) → Valid F t → WEvent F e → WWorld F w
+    pub timeout-good : (n : ℕ) (l x : Float) (p : ℕ) (m : ℕ) (b : ℕ) (t : Tree) (ts : Forest) (e : Event) (w : World) → W F l → W F x → num x ≤ num l → Shaped F (shape t) → Valid F t → WEvent F e
+        → WWorld F w
         → Post F (NodeQ F d Timeout n l (cell x p m) b (t ∷ ts) e) (rule F child Timeout n l (cell x p m) e (t ∷ ts) w)
     unfolding rule
     timeout-good n l x p m b t ts Other w wl wx h s v ev wv = absurd ev
     timeout-good n l x p m b t ts (Update y) w wl wx h s v ev wv =
         bind F (TickQ F d (Update y) t) (NodeQ F d Timeout n l (cell x p m) b (t ∷ ts) (Update y)) (child t (Update y) w) _ (g t (Update y) w s v ev wv) λ s'. elim s' [
-          | Running ↦ λ r t' w' wv' q. time-post (NodeQ F d Timeout n l (cell x p m) b (t ∷ ts) (Update y)) x y l (λ r'. done Failure r' (cell (add F x y) p m, t' ∷ ts) w') (λ x'. waiting (cell x' p m, t' ∷ ts) w') (le l (add F x y)) (passed F x y l wx ev wl h)
-              (λ wr. (wv', (sh t' (q .0), wr)))
+          | Running ↦ λ r t' w' wv' q. time-post (NodeQ F d Timeout n l (cell x p m) b (t ∷ ts) (Update y)) x y l (λ r'. done Failure r' (cell (add F x y) p m, t' ∷ ts) w')
+              (λ x'. waiting (cell x' p m, t' ∷ ts) w') (le l (add F x y)) (passed F x y l wx ev wl h)
+              (λ wr. (wv', wr))
               (λ under wx' e. (
                 wv',
                 (
-                  sh t' (q .0),
-                  ((wx', omega arith, q .1 .0), refl),
+                  (wx', omega arith, q .1 .0),
                   λ full j z. elim z [
                     | inl a ↦ inl (wait-down (num x) (num y) (num l) (num (add F x y)) j under e full (a .1))
-                    | inr a ↦ inr (q .2 full j a)
+                    | inr a ↦ inr (q .1 .1 full j a)
                   ],
                 ),
               ))
-          | Success ↦ λ r t' w' wv' q. (wv', (sh t' (q .0), q .1))
-          | Failure ↦ λ r t' w' wv' q. (wv', (sh t' (q .0), q .1))
+          | Success ↦ λ r t' w' wv' q. (wv', q .1)
+          | Failure ↦ λ r t' w' wv' q. (wv', q .1)
         ]
-      where
-        sh : (t' : Tree) → shape t' ≡ shape t → shp Timeout n l (shapes (t' ∷ ts)) ≡ shp Timeout n l (shapes (t ∷ ts))
-        sh t' q = λ i. shp Timeout n l (Shape._∷_ (q i) (shapes ts))

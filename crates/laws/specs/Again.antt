@@ -48,7 +48,9 @@ module _ (g : Given) (k : ℕ) (ss : List ℕ) (ls : List Float) (even : Paired 
     long-enough = w .long-enough;
     cells-good = w .cells-good;
     time-good = w .time-good;
-    answers-good = none-if 0 (g .statuses ++ ss) (g .leftovers ++ ls) (allowed-append (g .statuses) ss (g .leftovers) ls even (allowed-of 0 (w .answers-good .0) (g .statuses) (g .leftovers) (w .answers-good .1)) (allowed-of i j ss ls allowed));
+    answers-good =
+        none-if 0 (g .statuses ++ ss) (g .leftovers ++ ls) (allowed-append (g .statuses) ss (g .leftovers) ls even
+        (allowed-of 0 (w .answers-good .0) (g .statuses) (g .leftovers) (w .answers-good .1)) (allowed-of i j ss ls allowed));
     not-finished = w .not-finished;
   }
 
@@ -123,15 +125,20 @@ module _ (g : Given) (s : ℕ) (l : Float) (even : Paired (g .statuses) (g .left
   one-allowed : (j : ℕ) × (badAnswer 0 (List._∷_ s List.[]) (List._∷_ l List.[]) ≡ none j)
   one-allowed = none-if 0 (List._∷_ s List.[]) (List._∷_ l List.[]) (allowed, tt)
 
-  all-used : (t : Tree) (o o' : Out Tree) → Answered (statusOf s, l) List.[] binary64 o o' → isAsked (walked g t o .answer) → Progress (suc (length (answers (g .statuses) (g .leftovers)))) (walked one t o' .answer)
+  all-used : (t : Tree) (o o' : Out Tree) → Answered (statusOf s, l) List.[] binary64 o o' → isAsked (walked g t o .answer)
+      → Progress (suc (length (answers (g .statuses) (g .leftovers)))) (walked one t o' .answer)
   unfolding answers
   all-used t (done s' r t' (world f ans)) o' h a = absurd a
   all-used t short o' h a = absurd a
   all-used t (asks n x) (asks n' x') h a = tt
   all-used t (asks n x) short h a = tt
-  all-used t (asks n x) (done s' r t' (world f left)) h a = rw (no-more (h .0) left (h .1)) (count (length (answers (g .statuses) (g .leftovers))) (ap length (answers-append (g .statuses) (List._∷_ s List.[]) (g .leftovers) (List._∷_ l List.[]) even) ∙ length-append (answers (g .statuses) (g .leftovers)) (List._∷_ (statusOf s, l) List.[])))
+  all-used t (asks n x) (done s' r t' (world f left)) h a =
+      rw (no-more (h .0) left (h .1)) (count (length (answers (g .statuses) (g .leftovers)))
+      (ap length (answers-append (g .statuses) (List._∷_ s List.[]) (g .leftovers) (List._∷_ l List.[]) even) ∙ length-append (answers (g .statuses) (g .leftovers))
+      (List._∷_ (statusOf s, l) List.[])))
     where
-      count : (n : ℕ) → length (answers (g .statuses ++ List._∷_ s List.[]) (g .leftovers ++ List._∷_ l List.[])) ≡ n + 1 → length (answers (g .statuses ++ List._∷_ s List.[]) (g .leftovers ++ List._∷_ l List.[])) - 0 ≡ suc n
+      count : (n : ℕ) → length (answers (g .statuses ++ List._∷_ s List.[]) (g .leftovers ++ List._∷_ l List.[])) ≡ n + 1
+          → length (answers (g .statuses ++ List._∷_ s List.[]) (g .leftovers ++ List._∷_ l List.[])) - 0 ≡ suc n
       count n q = omega arith
 
   walk-one : (t : Tree) → walk t one ≡ tick binary64 mostDeep (heldBy t g) (g .event) (world (g .fuel) (answers (g .statuses) (g .leftovers) ++ List._∷_ (statusOf s, l) List.[]))

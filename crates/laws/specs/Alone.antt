@@ -130,7 +130,8 @@ module _ (F : Format) where
   tick-spends zero t e f ans = tt
   tick-spends (suc d) t e zero ans = tt
   tick-spends (suc d) (node k n l c b ts) e (suc f) ans =
-      less-of f ans (Same (node k n l c b ts)) (tick F (suc d) (node k n l c b ts) e (world (suc f) ans)) (alike-after (world f ans) (Same (node k n l c b ts)) _ _ (visit Any (tick F d) (tick F d) (tick-alone d) k n l c b ts e f ans (any-each (shapes ts))))
+      less-of f ans (Same (node k n l c b ts)) (tick F (suc d) (node k n l c b ts) e (world (suc f) ans))
+      (alike-after (world f ans) (Same (node k n l c b ts)) _ _ (visit Any (tick F d) (tick F d) (tick-alone d) k n l c b ts e f ans (any-each (shapes ts))))
 
   -- ---- trees no deeper than d and d'
   abbrev Within : ℕ → ℕ → Shape → Type 0

@@ -118,7 +118,8 @@ module _ (a : Status × Float) (more : Answers) where
     module _ (d : ℕ) (g : Alike asking Any (tick F d) (tick F d)) (k : Kind) (n : ℕ) (l : Float) (c : Cell) (b : ℕ) (ts : Forest) (e : Event) where
       rule-asks : (p : Worlds) → Both asking p (KeptNext c ts) (λ w. rule F (tick F d) k n l c e ts w) (λ w. rule F (tick F d) k n l c e ts w)
       rule-asks (together f ans) =
-          rw (rule-with F (tick F d) k n l c e ts f ans, rule-with F (tick F d) k n l c e ts f (ans ++ List._∷_ a more)) (rule-pair asking F acts Any (tick F d) (tick F d) g (suc f) k n l c e ts (together f ans) (any-each (shapes ts)))
+          rw (rule-with F (tick F d) k n l c e ts f ans, rule-with F (tick F d) k n l c e ts f (ans ++ List._∷_ a more))
+          (rule-pair asking F acts Any (tick F d) (tick F d) g (suc f) k n l c e ts (together f ans) (any-each (shapes ts)))
       rule-asks (asked n' x f left used q) =
           rw (rule-with F (tick F d) k n l c e ts f left) (rule-pair asking F acts Any (tick F d) (tick F d) g (suc f) k n l c e ts (asked n' x f left used q) (any-each (shapes ts)))
 
@@ -129,7 +130,8 @@ module _ (a : Status × Float) (more : Answers) where
     unfolding tick
     tick-asks zero t e p u = ends (firstIn p (λ w. short)) (secondIn p (λ w. short)) (stop-short Tree p)
     tick-asks (suc d) (node k n l c b ts) e (together zero ans) u = ends short short refl
-    tick-asks (suc d) (node k n l c b ts) e (together (suc f) ans) u = back asking (together (suc f) ans) (together f ans) (Same (node k n l c b ts)) _ _ tt (visit d (tick-asks d) k n l c b ts e (together f ans))
+    tick-asks (suc d) (node k n l c b ts) e (together (suc f) ans) u =
+        back asking (together (suc f) ans) (together f ans) (Same (node k n l c b ts)) _ _ tt (visit d (tick-asks d) k n l c b ts e (together f ans))
     tick-asks (suc d) (node k n l c b ts) e (asked n' x zero left used q) u = ends (asks n' x) short (refl, tt)
     tick-asks (suc d) (node k n l c b ts) e (asked n' x (suc f) left used q) u =
         back asking (asked n' x (suc f) left used q) (asked n' x f left used q) (Same (node k n l c b ts)) _ _ (refl, refl) (visit d (tick-asks d) k n l c b ts e (asked n' x f left used q))
@@ -180,7 +182,8 @@ module _ (a : Status × Float) (more : Answers) where
         clash : (m u n k : ℕ) → m ≡ u + n → n ≡ k + suc m → ⊥
         clash m u n k h g = omega arith
 
-    pub was-asked : (d : ℕ) (t : Tree) (e : Event) (f : ℕ) (ans : Answers) (s : Status) (r : Float) (t' : Tree) (f' : ℕ) (left used : Answers) → tick F d t e (world f (ans ++ List._∷_ a more)) ≡ done s r t' (world f' left) → more ≡ used ++ left
+    pub was-asked : (d : ℕ) (t : Tree) (e : Event) (f : ℕ) (ans : Answers) (s : Status) (r : Float) (t' : Tree) (f' : ℕ) (left used : Answers)
+        → tick F d t e (world f (ans ++ List._∷_ a more)) ≡ done s r t' (world f' left) → more ≡ used ++ left
         → (n : ℕ) × (x : Float) × (tick F d t e (world f ans) ≡ asks n x)
     was-asked d t e f ans s r t' f' left used q h = go (tick F d t e (world f ans)) refl (answer-taken d t e f ans)
       where

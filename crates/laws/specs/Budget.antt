@@ -5,7 +5,8 @@ use Prim.Native.Nat.{ℕ, zero, suc, _<_}
 use lib.Dec.{ltb}
 use lib.Ieee.{Float, Format}
 use Rattle.rules.specs.declared.behavior.Kind.{Kind}
-use Rattle.rules.specs.declared.behavior.Kind.the-variants.{Wait, WaitForever, Action, Invert, AlwaysSucceed, Timeout, Select, If, Sequence, MemorylessSequence, MemorylessSelector, While, WhileAll, WhenAll, WhenAny, After, Race}
+use Rattle.rules.specs.declared.behavior.Kind.the-variants.{Wait, WaitForever, Action, Invert, AlwaysSucceed, Timeout, Select, If, Sequence}
+use Rattle.rules.specs.declared.behavior.Kind.the-variants.{MemorylessSequence, MemorylessSelector, While, WhileAll, WhenAll, WhenAny, After, Race}
 use Rattle.rules.specs.declared.status.Status.{Status}
 use Rattle.rules.specs.declared.status.Status.the-variants.{Running, Success, Failure}
 use Rattle.rules.specs.declared.event.Event.{Event}
@@ -31,7 +32,7 @@ abbrev pub Spends : Format → Ticker → Type 0
 Spends F child = (t : Tree) (e : Event) (f : ℕ) (ans : Answers) → Less F f (child t e (world f ans))
 
 module _ (F : Format) (child : Ticker) (g : Spends F child) where
-  child-spends : (e : Event) (ts : Forest) (n f : ℕ) (ans : Answers) → Less F f (childAt child n e ts (world f ans))
+  pub child-spends : (e : Event) (ts : Forest) (n f : ℕ) (ans : Answers) → Less F f (childAt child n e ts (world f ans))
   child-spends e [] n f ans = tt
   child-spends e (t ∷ ts) zero f ans = g t e f ans
   child-spends e (t ∷ ts) (suc n) f ans = child-spends e ts n f ans
@@ -47,7 +48,8 @@ module _ (F : Format) (child : Ticker) (g : Spends F child) where
   ]
   body-budget (suc b) (suc b') n Other ts f ans h h' = refl
 
-  pub loop-budget : (b b' : ℕ) (whole : Event) (n : ℕ) (e : Event) (c : Tree) (ts : Forest) (f : ℕ) (ans : Answers) → f < b → f < b' → whileAll child b whole n e c ts (world f ans) ≡ whileAll child b' whole n e c ts (world f ans)
+  pub loop-budget : (b b' : ℕ) (whole : Event) (n : ℕ) (e : Event) (c : Tree) (ts : Forest) (f : ℕ) (ans : Answers) → f < b → f < b'
+      → whileAll child b whole n e c ts (world f ans) ≡ whileAll child b' whole n e c ts (world f ans)
   unfolding whileAll
   loop-budget zero b' whole n e c ts f ans h h' = absurd (not-suc-le-zero h)
   loop-budget (suc b) zero whole n e c ts f ans h h' = absurd (not-suc-le-zero h')
@@ -75,7 +77,8 @@ module _ (F : Format) (child : Ticker) (g : Spends F child) where
   while-all-budget b b' (cell x p m) e (t ∷ ts) f ans h h' = ap (λ (o : Out (ℕ × Forest)). atPlace (cell x p m) o) (loop-budget b b' e p e t ts f ans h h')
 
   -- a rule with any budget above the fuel
-  with-budget : (b b' : ℕ) (k : Kind) (n : ℕ) (l : Float) (c : Cell) (e : Event) (ts : Forest) (f : ℕ) (ans : Answers) → f < b → f < b' → ruleWith b F child k n l c e ts (world f ans) ≡ ruleWith b' F child k n l c e ts (world f ans)
+  with-budget : (b b' : ℕ) (k : Kind) (n : ℕ) (l : Float) (c : Cell) (e : Event) (ts : Forest) (f : ℕ) (ans : Answers) → f < b → f < b'
+      → ruleWith b F child k n l c e ts (world f ans) ≡ ruleWith b' F child k n l c e ts (world f ans)
   unfolding ruleWith
   with-budget b b' While n l c e ts f ans h h' = while-budget b b' c e ts f ans h h'
   with-budget b b' WhileAll n l c e ts f ans h h' = while-all-budget b b' c e ts f ans h h'
@@ -95,7 +98,8 @@ module _ (F : Format) (child : Ticker) (g : Spends F child) where
   with-budget b b' After n l c e ts f ans h h' = refl
   with-budget b b' Race n l c e ts f ans h h' = refl
 
-  pub rule-budget : (b : ℕ) (k : Kind) (n : ℕ) (l : Float) (c : Cell) (e : Event) (ts : Forest) (f : ℕ) (ans : Answers) → f < b → rule F child k n l c e ts (world f ans) ≡ ruleWith b F child k n l c e ts (world f ans)
+  pub rule-budget : (b : ℕ) (k : Kind) (n : ℕ) (l : Float) (c : Cell) (e : Event) (ts : Forest) (f : ℕ) (ans : Answers) → f < b
+      → rule F child k n l c e ts (world f ans) ≡ ruleWith b F child k n l c e ts (world f ans)
   rule-budget b k n l c e ts f ans h = rule-with F child k n l c e ts f ans ∙ with-budget (suc f) b k n l c e ts f ans (omega arith) h
 
 -- of the rules' own ticks

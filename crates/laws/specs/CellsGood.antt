@@ -1,6 +1,6 @@
 -- Cells that were reached from fresh, by any calls, are always accepted by the cell check: answer 9 is never given to them. And cells that the
 -- check accepts stay accepted, whatever a tick does.
-use mathlib.Core.Path.{_≡_, refl, sym, ap, _∙_, subst}
+use mathlib.Core.Path.{_≡_, sym, ap, _∙_, subst}
 use mathlib.Core.Bool.{Bool, true, false, cond}
 use mathlib.Core.List.{List}
 use mathlib.Core.List
@@ -12,29 +12,30 @@ use Rattle.rules.specs.declared.event.Event.{Event}
 use Rattle.rules.specs.declared.event.Event.the-variants.{Update, Other}
 use Rattle.rules.specs.declared.answer.Answer.{Answer}
 use Rattle.rules.specs.declared.answer.Answer.the-variants.{Ticked, Asked, Finished, BadTable, TooShort, BadTime, BadAnswer, OutOfFuel, BadCell}
-use Rattle.rules.specs.declared.answer.Record.{Record}
 use Rattle.rules.specs.Tree.{Tree, fresh, size}
 use Rattle.rules.specs.Outcome.{dt, World, world, Out, done, asks, short}
 use Rattle.rules.specs.State.{tick}
 use Rattle.rules.specs.Table.{mostDeep, number, good, table}
 use Rattle.rules.specs.Cells.{elapsed, Found, faulty, none, badCell}
-use Rattle.rules.specs.Call.{Run, Given, Left, answers, answerAllowed, badAnswer, timeAllowed, walked, tickCall, ResetLeft, resetCall}
+use Rattle.rules.specs.Call.{Given, Left, answers, answerAllowed, badAnswer, timeAllowed, walked, tickCall, ResetLeft}
 use Rattle.calls.specs.Shape.{shape}
 use Rattle.calls.specs.Memory.{held, held-onto, held-shape}
-use Rattle.calls.specs.Tables.{Tabled, tabled, tabled-fresh, tabled-clear, one-tree}
-use Rattle.calls.specs.View.{heldBy, walk, Why, View, walking, refusing, view}
-use Rattle.calls.specs.History.{Brought, given, FreshCells}
-use Rattle.calls.specs.Resets.{ResetView, resetting, leaving, reset-view}
+use Rattle.calls.specs.Tables.{tabled, tabled-fresh}
+use Rattle.calls.specs.View.{heldBy, walk, Why, not-walked, View, walking, refusing, view}
+use Rattle.calls.specs.History.{Call, ticks, resets, resetOf, not-ticked, Standing, afterTick, afterReset, after, afterAll, TakesUp, long-cells, same-tree}
+use Rattle.calls.specs.Resets.{ResetView, resetting, leaving, reset-view, not-reset, FreshCells, fresh-held, written-fresh}
+use Rattle.calls.specs.Invariant.{ticked}
 use Rattle.laws.specs.Elapsed.{number-elapsed}
 use Rattle.laws.specs.Fine.{fine-of, none-of, IfNone}
 use Rattle.laws.specs.Live.{Live, fresh-live, live-clear, live-fine, root-live, Right, tabled-right}
 use Rattle.laws.specs.LiveDrivers.{EAnswers, EWorld, Post}
-use Rattle.laws.specs.LiveDrivers
+use Rattle.laws.specs.Alone.{AfterTick, tick-keeps}
+use Rattle.laws.specs.PairDrivers.{Same}
 use Rattle.laws.specs.LiveTicks.{tick-live}
-use Rattle.laws.specs.Follows.{Call, ticks, resets, called, afterCalls}
+use Rattle.laws.specs.Follows.{givenTo, TakeUps}
 
 -- ---- what the checks of a call say of its times
-event-elapsed : (e : Event) → timeAllowed e ≡ true → T (elapsed (dt e))
+pub event-elapsed : (e : Event) → timeAllowed e ≡ true → T (elapsed (dt e))
 event-elapsed (Update x) h = number-elapsed x (subst T (sym h) tt)
 event-elapsed Other h = tt
 
@@ -60,7 +61,7 @@ answers-if i (List._∷_ s ss) (List._∷_ l ls) = on (answerAllowed s l) (allow
     on true f (none j) h = (number-elapsed l (f tt), h)
     on false f o h = tt
 
-answers-elapsed : (i j : ℕ) (ss : List ℕ) (ls : List Float) → badAnswer i ss ls ≡ none j → EAnswers (answers ss ls)
+pub answers-elapsed : (i j : ℕ) (ss : List ℕ) (ls : List Float) → badAnswer i ss ls ≡ none j → EAnswers (answers ss ls)
 answers-elapsed i j ss ls e = rw e at (answers-if i ss ls)
 
 -- ---- one tick
@@ -83,8 +84,8 @@ AcceptedAfter short = Unit {0}
 pub tick-accepted : (F : Format) (d : ℕ) (t : Tree) (e : Event) (w : World) → Right (shape t) → Accepted t → T (elapsed (dt e)) → EWorld w → AcceptedAfter (tick F d t e w)
 tick-accepted F d t e w s a ev wv = on (tick F d t e w) (tick-live F d t e w s (live-of t (size t) a) ev wv)
   where
-    on : (o : Out Tree) → Post (LiveDrivers.Ticked t) o → AcceptedAfter o
-    on (done s' r t' w') h = accepted-of t' (h .2 .1)
+    on : (o : Out Tree) → Post (Unit {0}) Live o → AcceptedAfter o
+    on (done s' r t' w') h = accepted-of t' (h .1 .1)
     on (asks n x) h = tt
     on short h = tt
 
@@ -93,42 +94,43 @@ fresh-accepted t = accepted-of (fresh t) (fresh-live t)
 
 -- ---- calls
 module _ (kinds ns : List ℕ) (limits : List Float) (t : Tree) (e : table kinds ns limits ≡ good t) where
-  right-held : (c : Run) → Right (shape (held t c))
-  right-held c = rw (held-shape t c) (tabled-right t (tabled kinds ns limits t e .0))
+  module _ (st : Standing) (g : Given) (up : TakesUp t st g) (v : Live (held t (st .cells'))) where
+    walk-good : (o : Out Tree) → Post (Unit {0}) Live o → AfterTick (world (g .fuel) (answers (g .statuses) (g .leftovers))) (Same (held t (st .cells'))) o
+        → Live (held t (afterTick st (walked g (held t (st .cells')) o) .cells'))
+    walk-good (done s x t' (world f ans)) h k = rw (held-onto t t' (g .cells') (k .1 .0 ∙ held-shape t (st .cells'))) (live-clear t' (h .1 .1))
+    walk-good (asks n x) h k = v
+    walk-good short h k = v
 
-  walk-good : (r : Record) (c : Run) (b : Brought) (o : Out Tree) → Live (held t c) → Post (LiveDrivers.Ticked (held t c)) o → Live (held t (walked (given kinds ns limits r c b) (held t c) o .cells'))
-  walk-good r c b (done s x t' (world f ans)) v h = rw (held-onto t t' c (h .2 .0 .0 ∙ held-shape t c)) (live-clear t' (h .2 .1))
-  walk-good r c b (asks n x) v h = v
-  walk-good r c b short v h = v
+    tick-good : (l : Left) → View g l → Live (held t (afterTick st l .cells'))
+    tick-good l (refusing a n) = rw (not-ticked a (not-walked g a n)) v
+    tick-good l (walking u w) =
+        let q : u ≡ t = up .the-table u (w .table-good) in
+        rw (q, same-tree t st g up (long-cells g (size t) (rw q at (w .long-enough)))) (walk-good (ticked g (held t (st .cells')))
+        (tick-live binary64 mostDeep (held t (st .cells')) (g .event) (world (g .fuel) (answers (g .statuses) (g .leftovers)))
+        (rw (held-shape t (st .cells')) (tabled-right t (tabled kinds ns limits t e .0))) v
+        (event-elapsed (g .event) (w .time-good)) (answers-elapsed 0 (w .answers-good .0) (g .statuses) (g .leftovers) (w .answers-good .1)))
+        (tick-keeps binary64 mostDeep (held t (st .cells')) (g .event) (world (g .fuel) (answers (g .statuses) (g .leftovers)))))
 
-  tick-good : (r : Record) (c : Run) (b : Brought) (l : Left) → View (given kinds ns limits r c b) l → Live (held t c) → Live (held t (l .cells'))
-  tick-good r c b l (refusing a n) v = v
-  tick-good r c b l (walking u w) v =
-      let g = given kinds ns limits r c b in
-      let q : u ≡ t = one-tree (table kinds ns limits) t u e (w .table-good) in
-      rw q (walk-good r c b (walk t g) v (tick-live binary64 mostDeep (held t c) (b .event) (world (b .fuel) (answers (b .statuses) (b .leftovers))) (right-held c) v
-      (event-elapsed (b .event) (w .time-good)) (answers-elapsed 0 (w .answers-good .0) (b .statuses) (b .leftovers) (w .answers-good .1))))
+    reset-good : (l : ResetLeft) → ResetView (g .kinds) (g .ns) (g .limits) (g .record') (g .cells') l → Live (held t (afterReset st l .cells'))
+    reset-good l (resetting u f h) =
+        let q : u ≡ t = up .the-table u f in
+        rw (q, written-fresh kinds ns limits t (g .cells') e) (rw (tabled-fresh t (tabled kinds ns limits t e .0)) at (fresh-live t))
+    reset-good l (leaving a n) = rw (not-reset a n) v
 
-  reset-good : (r : Record) (c : Run) (l : ResetLeft) → ResetView kinds ns limits r c l → Live (held t c) → Live (held t (l .cells'))
-  reset-good r c l (resetting u f h) v =
-      let q : u ≡ t = one-tree (table kinds ns limits) t u e f in
-      let d : Tabled t = tabled kinds ns limits t e .0 in
-      rw (q, held-onto t t c refl, tabled-clear t d) (rw (tabled-fresh t d) at (fresh-live t))
-  reset-good r c l (leaving a n) v = v
+  call-good : (st : Standing) (a : Call) → TakesUp t st (givenTo a) → Live (held t (st .cells')) → Live (held t (after st a .cells'))
+  unfolding after
+  call-good st (ticks g) up v = tick-good st g up v (tickCall g) (view g)
+  call-good st (resets g) up v = reset-good st g up v (resetOf g) (reset-view (g .kinds) (g .ns) (g .limits) (g .record') (g .cells'))
 
-  call-good : (r : Record) (c : Run) (a : Call) → Live (held t c) → Live (held t (called kinds ns limits r c a .1))
-  unfolding called
-  call-good r c (ticks b) v = tick-good r c b (tickCall (given kinds ns limits r c b)) (view (given kinds ns limits r c b)) v
-  call-good r c resets v = reset-good r c (resetCall kinds ns limits r c) (reset-view kinds ns limits r c) v
-
-  calls-good : (r : Record) (c : Run) (cs : List Call) → Live (held t c) → Live (held t (afterCalls kinds ns limits r c cs .1))
-  unfolding afterCalls
-  calls-good r c List.[] v = v
-  calls-good r c (List._∷_ a cs) v = let x = called kinds ns limits r c a in calls-good (x .0) (x .1) cs (call-good r c a v)
+  calls-good : (st : Standing) (cs : List Call) → TakeUps t st cs → Live (held t (st .cells')) → Live (held t (afterAll st cs .cells'))
+  unfolding afterAll
+  calls-good st List.[] up v = v
+  calls-good st (List._∷_ a cs) up v = calls-good (after st a) cs (up .1) (call-good st a (up .0) v)
 
   -- fresh cells, then any calls: the cells are accepted
-  pub reached-accepted : (r : Record) (c : Run) (cs : List Call) → FreshCells kinds ns limits c → Accepted (held t (afterCalls kinds ns limits r c cs .1))
-  reached-accepted r c cs f = accepted-of (held t (afterCalls kinds ns limits r c cs .1)) (calls-good r c cs (rw (f t e) (rw (tabled-fresh t (tabled kinds ns limits t e .0)) at (fresh-live t))))
+  pub reached-accepted : (st : Standing) → FreshCells t (st .cells') → (cs : List Call) → TakeUps t st cs → Accepted (held t (afterAll st cs .cells'))
+  reached-accepted st f cs up =
+      accepted-of (held t (afterAll st cs .cells')) (calls-good st cs up (rw (fresh-held kinds ns limits t (st .cells') e f) (rw (tabled-fresh t (tabled kinds ns limits t e .0)) at (fresh-live t))))
 
 -- ---- and answer 9 is never given to them
 abbrev NotBad : Answer → Type 0
@@ -146,29 +148,32 @@ abbrev IsFaulty : Found → Type 0
 IsFaulty (faulty p) = Unit {0}
 IsFaulty (none i) = ⊥
 
-not-bad : (g : Given) → ((t : Tree) → table (g .kinds) (g .ns) (g .limits) ≡ good t → Accepted (heldBy t g)) → (a : Answer) → Why g a → NotBad a
-not-bad g f (Ticked s r v u) h = tt
-not-bad g f (Asked n x) h = tt
-not-bad g f Finished h = tt
-not-bad g f (BadTable p) h = tt
-not-bad g f TooShort h = tt
-not-bad g f BadTime h = tt
-not-bad g f (BadAnswer i) h = tt
-not-bad g f OutOfFuel h = tt
-not-bad g f (BadCell p) h = subst IsFaulty (sym (h .2) ∙ f (h .0) (h .1)) tt
-
 walked-not-bad : (g : Given) (t : Tree) (o : Out Tree) → NotBad (walked g t o .answer)
 walked-not-bad g t (done s r t' (world f ans)) = tt
 walked-not-bad g t (asks n x) = tt
 walked-not-bad g t short = tt
 
-by-view : (g : Given) (l : Left) → View g l → ((t : Tree) → table (g .kinds) (g .ns) (g .limits) ≡ good t → Accepted (heldBy t g)) → NotBad (l .answer)
-by-view g l (refusing a n) f = not-bad g f a n
-by-view g l (walking t w) f = walked-not-bad g (heldBy t g) (walk t g)
+module _ (t : Tree) (st : Standing) (g : Given) (up : TakesUp t st g) (a : Accepted (held t (st .cells'))) where
+  found-none : (p : ℕ) → Why g (BadCell p) → ⊥
+  found-none p h =
+      let q : h .0 ≡ t = up .the-table (h .0) (h .1) in
+      subst IsFaulty (sym (h .3) ∙ ap (λ (u : Tree). badCell false false 0 (heldBy u g)) q ∙ ap (badCell false false 0) (same-tree t st g up (long-cells g (size t) (rw q at (h .2)))) ∙ a) tt
 
-pub never-bad-cell : (kinds ns : List ℕ) (limits : List Float) (r : Record) (c : Run) (cs : List Call) → FreshCells kinds ns limits c → (b : Brought) (p : ℕ)
-    → let x = afterCalls kinds ns limits r c cs in tickCall (given kinds ns limits (x .0) (x .1) b) .answer ≡ BadCell p → ⊥
-never-bad-cell kinds ns limits r c cs f b p =
-    let x = afterCalls kinds ns limits r c cs in
-    let g = given kinds ns limits (x .0) (x .1) b in
-    λ q. subst NotBad q (by-view g (tickCall g) (view g) (λ t e. reached-accepted kinds ns limits t e r c cs f))
+  not-bad : (b : Answer) → Why g b → NotBad b
+  not-bad (Ticked s r v u) h = tt
+  not-bad (Asked n x) h = tt
+  not-bad Finished h = tt
+  not-bad (BadTable p) h = tt
+  not-bad TooShort h = tt
+  not-bad BadTime h = tt
+  not-bad (BadAnswer i) h = tt
+  not-bad OutOfFuel h = tt
+  not-bad (BadCell p) h = found-none p h
+
+  by-view : (l : Left) → View g l → NotBad (l .answer)
+  by-view l (refusing b n) = not-bad b n
+  by-view l (walking u w) = walked-not-bad g (heldBy u g) (walk u g)
+
+pub never-bad-cell : (kinds ns : List ℕ) (limits : List Float) (t : Tree) → table kinds ns limits ≡ good t → (st : Standing) → FreshCells t (st .cells') → (cs : List Call) → TakeUps t st cs
+    → (g : Given) → TakesUp t (afterAll st cs) g → (p : ℕ) → tickCall g .answer ≡ BadCell p → ⊥
+never-bad-cell kinds ns limits t e st f cs up g next p q = subst NotBad q (by-view t (afterAll st cs) g next (reached-accepted kinds ns limits t e st f cs up) (tickCall g) (view g))

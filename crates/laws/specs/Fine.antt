@@ -39,12 +39,14 @@ mutual
 
   fine-if : (ended mayEnd : Bool) (at : ℕ) (t : Tree) → IfNone (badCell ended mayEnd at t) (Fine ended mayEnd t)
   fine-if ended mayEnd at (node k n l c b ts) =
-      node-if (cellAllowed ended mayEnd k n c) (badCells (ended || endedIn c) (marksChildren k) (suc at) ts) at (T (cellAllowed ended mayEnd k n c)) (Fines (ended || endedIn c) (marksChildren k) ts) (λ h. h)
+      node-if (cellAllowed ended mayEnd k n c) (badCells (ended || endedIn c) (marksChildren k) (suc at) ts) at (T (cellAllowed ended mayEnd k n c))
+      (Fines (ended || endedIn c) (marksChildren k) ts) (λ h. h)
       (fines-if (ended || endedIn c) (marksChildren k) (suc at) ts)
 
   fines-if : (ended mayEnd : Bool) (at : ℕ) (ts : Forest) → IfNone (badCells ended mayEnd at ts) (Fines ended mayEnd ts)
   fines-if ended mayEnd at [] = tt
-  fines-if ended mayEnd at (t ∷ ts) = both-if (badCell ended mayEnd at t) (λ at'. badCells ended mayEnd at' ts) (Fine ended mayEnd t) (Fines ended mayEnd ts) (fine-if ended mayEnd at t) (λ at'. fines-if ended mayEnd at' ts)
+  fines-if ended mayEnd at (t ∷ ts) =
+      both-if (badCell ended mayEnd at t) (λ at'. badCells ended mayEnd at' ts) (Fine ended mayEnd t) (Fines ended mayEnd ts) (fine-if ended mayEnd at t) (λ at'. fines-if ended mayEnd at' ts)
 
 pub fine-of : (ended mayEnd : Bool) (at at' : ℕ) (t : Tree) → badCell ended mayEnd at t ≡ none at' → Fine ended mayEnd t
 fine-of ended mayEnd at at' t e = rw e at (fine-if ended mayEnd at t)
@@ -74,4 +76,6 @@ mutual
 
   nones-of : (ended mayEnd : Bool) (at : ℕ) (ts : Forest) → Fines ended mayEnd ts → badCells ended mayEnd at ts ≡ none (at + sizes ts)
   nones-of ended mayEnd at [] h = ap none (sym (add-zero at))
-  nones-of ended mayEnd at (t ∷ ts) h = found (badCell ended mayEnd at t) (at + size t) (λ at'. badCells ended mayEnd at' ts) (none-of ended mayEnd at t (h .0)) ∙ nones-of ended mayEnd (at + size t) ts (h .1) ∙ ap none (sums at (size t) (sizes ts))
+  nones-of ended mayEnd at (t ∷ ts) h =
+      found (badCell ended mayEnd at t) (at + size t) (λ at'. badCells ended mayEnd at' ts) (none-of ended mayEnd at t (h .0)) ∙ nones-of ended mayEnd (at + size t) ts (h .1) ∙ ap none
+      (sums at (size t) (sizes ts))

@@ -1,118 +1,188 @@
--- Over every sequence of calls, ticks and resets, refused or not, cells and record are those of the rules run one after the other: the calls
--- answered 0 count, and no other.
-use mathlib.Core.Path.{_≡_, refl, ap, _∙_}
-use mathlib.Core.Bool.{Bool, true, false}
-use mathlib.Core.List.{List}
+-- Over every sequence of calls, ticks and resets, refused or not: the list of what they say, the record and the cells are those of the rules, run
+-- on a tree one call after the other. So no call says again what an earlier one said, unless the rules do.
+use mathlib.Core.Path.{_≡_, refl, sym, ap, _∙_, subst}
+use mathlib.Core.Bool.{Bool, true, false, cond}
+use mathlib.Core.List.{List, map}
 use mathlib.Core.List
-use Prim.Native.Nat.{ℕ}
+use Prim.Native.Nat.{ℕ, _-_}
+use lib.Dec.{T, leb}
+use lib.ListN.{length}
 use lib.Ieee.{Float, binary64}
+use Rattle.rules.specs.declared.answer.Answer.{Answer}
+use Rattle.rules.specs.declared.answer.Answer.the-variants.{Ticked, Asked, Finished, BadTable, TooShort, BadTime, BadAnswer, OutOfFuel, BadCell}
 use Rattle.rules.specs.declared.answer.ResetAnswer.{ResetAnswer}
-use Rattle.rules.specs.declared.answer.ResetAnswer.the-variants.{Reset, BadTable, TooShort}
+use Rattle.rules.specs.declared.answer.ResetAnswer.the-variants as resetSays
 use Rattle.rules.specs.declared.answer.Record.{Record}
-use Rattle.rules.specs.Tree.{Tree}
+use Rattle.rules.specs.declared.answer.Said.{Said}
+use Rattle.rules.specs.Tree.{Tree, size}
 use Rattle.rules.specs.Outcome.{world, Out, done, asks, short}
-use Rattle.rules.specs.State.{tick}
-use Rattle.rules.specs.Table.{mostDeep, good, table}
-use Rattle.rules.specs.Call.{Run, Left, answers, counted, walked, tickCall, ResetLeft, resetCall}
+use Rattle.rules.specs.Table.{mostDeep, Table, good, bad, table}
+use Rattle.rules.specs.Cells.{Found, faulty, none, badCell}
+use Rattle.rules.specs.Call.{Given, Left, answers, badAnswer, timeAllowed, counted, refused, walked, tickTree}
+use Rattle.rules.specs.Call.{tooShort, tickCall, ResetLeft, resetLeft, resetCall, ontoRun, runLength, saidOf, saidOfReset}
 use Rattle.calls.specs.Memory.{clear, held, held-onto, held-shape}
-use Rattle.calls.specs.Tables.{one-tree, tabled, tabled-clear}
-use Rattle.calls.specs.View.{not-walked, walk, View, walking, refusing, view}
-use Rattle.calls.specs.History.{Brought, isTicked, not-ticked, given, FreshCells}
-use Rattle.calls.specs.Resets.{NotReset, ResetView, resetting, leaving, reset-view}
+use Rattle.calls.specs.View.{heldBy}
+use Rattle.calls.specs.History.{Call, ticks, resets, resetOf, Standing, afterTick, afterReset, after, afterAll, TakesUp, long-cells, same-tree}
+use Rattle.calls.specs.Resets.{FreshCells, fresh-held, written-fresh}
+use Rattle.calls.specs.Invariant.{ticked}
 use Rattle.laws.specs.Alone.{AfterTick, tick-keeps}
 use Rattle.laws.specs.PairDrivers.{Same}
 
--- a tick with what it brings, or a reset
-pub data Call : Type 0 where
-  ticks : Brought → Call
-  resets : Call
+-- ---- the rules: a record and a tree, and no memory. Of what a call lends, the lengths count
+abbrev pub Held : Type 0
+Held = Record × Tree
 
-abbrev isReset : ResetAnswer → Bool
-isReset Reset = true
-isReset (BadTable p) = false
-isReset TooShort = false
+-- what a walk says, and the record and the tree after it; a tree is handed on with its board cleared
+abbrev pub ran : Given → Held → Out Tree → Answer × Held
+ran g h (done s r u (world f ans)) = (Ticked s r (g .fuel - f) (length (answers (g .statuses) (g .leftovers)) - length ans), (counted s (h .0), clear u))
+ran g h (asks n x) = (Asked n x, h)
+ran g h short = (OutOfFuel, h)
 
-module _ (kinds ns : List ℕ) (limits : List Float) where
-  -- ---- the calls
-  -- record and cells after a call, and whether it is answered 0
-  unfoldable pub called : Record → Run → Call → Record × Run × Bool
-  unfolding tickCall resetCall
-  called r c (ticks b) = let l = tickCall (given kinds ns limits r c b) in (l .record', l .cells', isTicked (l .answer))
-  called r c resets = let l = resetCall kinds ns limits r c in (l .record', l .cells', isReset (l .answer))
+-- a tick: 3, 4, 9, 5, 6 and 2 in this order, and then the walk
+abbrev pub ruledTick : Tree → Held → Given → Answer × Held
+ruledTick t h g = elim (table (g .kinds) (g .ns) (g .limits)) [
+  | bad p ↦ (BadTable p, h)
+  | good _ ↦ cond (tooShort g (size t))
+      (TooShort, h)
+      (elim (badCell false false 0 (h .1)) [
+        | faulty p ↦ (BadCell p, h)
+        | none _ ↦ cond (timeAllowed (g .event))
+            (elim (badAnswer 0 (g .statuses) (g .leftovers)) [
+              | faulty i ↦ (BadAnswer i, h)
+              | none _ ↦ cond (h .0 .finished) (Finished, h) (ran g h (ticked g (h .1)))
+            ])
+            (BadTime, h)
+      ])
+]
 
-  unfoldable pub afterCalls : Record → Run → List Call → Record × Run
-  unfolding called
-  afterCalls r c List.[] = (r, c)
-  afterCalls r c (List._∷_ a cs) = let x = called r c a in afterCalls (x .0) (x .1) cs
+-- a reset: 3, 4, or the fresh tree
+abbrev pub ruledReset : Tree → Held → Given → ResetAnswer × Held
+ruledReset t h g = elim (table (g .kinds) (g .ns) (g .limits)) [
+  | bad p ↦ (resetSays.BadTable p, h)
+  | good _ ↦ cond (leb (size t) (runLength (g .cells'))) (resetSays.Reset, (record { finished = false; ticks = h .0 .ticks }, t)) (resetSays.TooShort, h)
+]
 
-  unfoldable pub answered0 : Record → Run → List Call → List Bool
-  unfolding called
-  answered0 r c List.[] = List.[]
-  answered0 r c (List._∷_ a cs) = let x = called r c a in List._∷_ (x .2) (answered0 (x .0) (x .1) cs)
+unfoldable pub ruledAll : Tree → Held → List Call → List Said × Held
+ruledAll t h List.[] = (List.[], h)
+ruledAll t h (List._∷_ (ticks g) cs) = let x = ruledTick t h g in let y = ruledAll t (x .1) cs in (List._∷_ (saidOf (x .0)) (y .0), y .1)
+ruledAll t h (List._∷_ (resets g) cs) = let x = ruledReset t h g in let y = ruledAll t (x .1) cs in (List._∷_ (saidOfReset (x .0)) (y .0), y .1)
 
--- ---- the rules
--- record and tree after a walk; a tree is handed on with its board cleared
-abbrev pub ran : Record → Tree → Out Tree → Record × Tree
-ran r t (done s x t' w) = (counted s r, clear t')
-ran r t (asks n x) = (r, t)
-ran r t short = (r, t)
+-- ---- the calls: what each says, and what stands after it. Each takes up what the last one left
+abbrev pub saidBy : Call → Said
+saidBy (ticks g) = saidOf (tickCall g .answer)
+saidBy (resets g) = saidOfReset (resetOf g .answer)
 
-abbrev pub ruled : Tree → Record → Tree → Call → Bool → Record × Tree
-ruled t₀ r t (ticks b) true = ran r t (tick binary64 mostDeep t (b .event) (world (b .fuel) (answers (b .statuses) (b .leftovers))))
-ruled t₀ r t (ticks b) false = (r, t)
-ruled t₀ r t resets true = (record { finished = false; ticks = r .ticks }, t₀)
-ruled t₀ r t resets false = (r, t)
+abbrev pub givenTo : Call → Given
+givenTo (ticks g) = g
+givenTo (resets g) = g
 
--- the rules for those calls that are marked, one after the other
-unfoldable pub rulesRun : Tree → Record → Tree → List Call → List Bool → Record × Tree
-rulesRun t₀ r t List.[] bs = (r, t)
-rulesRun t₀ r t (List._∷_ a cs) List.[] = (r, t)
-rulesRun t₀ r t (List._∷_ a cs) (List._∷_ b bs) = let x = ruled t₀ r t a b in rulesRun t₀ (x .0) (x .1) cs bs
+abbrev pub TakeUps : Tree → Standing → List Call → Type 0
+TakeUps t st List.[] = Unit {0}
+TakeUps t st (List._∷_ a cs) = TakesUp t st (givenTo a) × TakeUps t (after st a) cs
 
-module _ (kinds ns : List ℕ) (limits : List Float) (t : Tree) (e : table kinds ns limits ≡ good t) where
-  abbrev pub heldIn : Record × Run → Record × Tree
-  heldIn x = (x .0, held t (x .1))
+-- the record, and the tree that the cells hold
+abbrev pub heldIn : Tree → Standing → Held
+heldIn t st = (st .record', held t (st .cells'))
 
-  abbrev Follow : Record → Run → Call → Record × Run × Bool → Type 0
-  Follow r c a x = heldIn (x .0, x .1) ≡ ruled t r (held t c) a (x .2)
+-- ---- one call
+module _ (t : Tree) (st : Standing) (g : Given) (up : TakesUp t st g) where
+  abbrev Says : Left → Answer × Held → Type 0
+  Says l x = _≡_ {A = Answer × Held} (l .answer, heldIn t (afterTick st l)) x
 
-  walk-follows : (r : Record) (c : Run) (b : Brought) (o : Out Tree) → AfterTick (world (b .fuel) (answers (b .statuses) (b .leftovers))) (Same (held t c)) o
-      → o ≡ tick binary64 mostDeep (held t c) (b .event) (world (b .fuel) (answers (b .statuses) (b .leftovers)))
-      → let l = walked (given kinds ns limits r c b) (held t c) o in Follow r c (ticks b) (l .record', l .cells', isTicked (l .answer))
-  walk-follows r c b (done s x t' (world f ans)) h q = rw (← q) (λ i. (counted s r, held-onto t t' c (h .1 .0 ∙ held-shape t c) i))
-  walk-follows r c b (asks n x) h q = refl
-  walk-follows r c b short h q = refl
+  by-walk : (u : Tree) → held t (st .cells') ≡ u → (o : Out Tree) → AfterTick (world (g .fuel) (answers (g .statuses) (g .leftovers))) (Same u) o → Says (walked g u o) (ran g (heldIn t st) o)
+  by-walk u q (done s r u' (world f ans)) k = rw (up .the-record, held-onto t u' (g .cells') (k .1 .0 ∙ rw (← q) (held-shape t (st .cells'))))
+  by-walk u q (asks n x) k = refl
+  by-walk u q short k = refl
 
-  tick-follows : (r : Record) (c : Run) (b : Brought) (l : Left) → View (given kinds ns limits r c b) l → Follow r c (ticks b) (l .record', l .cells', isTicked (l .answer))
-  tick-follows r c b l (refusing a n) = rw (not-ticked a (not-walked (given kinds ns limits r c b) a n)) refl
-  tick-follows r c b l (walking u w) =
-      let q : u ≡ t = one-tree (table kinds ns limits) t u e (w .table-good) in
-      rw q (walk-follows r c b (walk t (given kinds ns limits r c b)) (tick-keeps binary64 mostDeep (held t c) (b .event) (world (b .fuel) (answers (b .statuses) (b .leftovers)))) refl)
+  by-finished : (u : Tree) → held t (st .cells') ≡ u → (b b' : Bool) → b ≡ b'
+      → Says (cond b (refused g Finished) (walked g u (ticked g u))) (cond b' (Finished, heldIn t st) (ran g (heldIn t st) (ticked g u)))
+  by-finished u q true true e = refl
+  by-finished u q true false e = absurd (subst T e tt)
+  by-finished u q false true e = absurd (subst T (sym e) tt)
+  by-finished u q false false e = by-walk u q (ticked g u) (tick-keeps binary64 mostDeep u (g .event) (world (g .fuel) (answers (g .statuses) (g .leftovers))))
 
-  not-reset : (a : ResetAnswer) → NotReset a → isReset a ≡ false
-  not-reset Reset h = absurd h
-  not-reset (BadTable p) h = refl
-  not-reset TooShort h = refl
+  -- the call and the rules from each test on
+  abbrev callAnswers : Tree → Found → Left
+  callAnswers u f = elim f [ faulty i ↦ refused g (BadAnswer i) | none _ ↦ cond (g .record' .finished) (refused g Finished) (walked g u (ticked g u)) ]
 
-  reset-follows : (r : Record) (c : Run) (l : ResetLeft) → ResetView kinds ns limits r c l → Follow r c resets (l .record', l .cells', isReset (l .answer))
-  reset-follows r c l (resetting u f h) =
-      let q : u ≡ t = one-tree (table kinds ns limits) t u e f in
-      rw q (λ i. (record { finished = false; ticks = r .ticks }, (held-onto t t c refl ∙ tabled-clear t (tabled kinds ns limits t e .0)) i))
-  reset-follows r c l (leaving a n) = rw (not-reset a n) refl
+  abbrev ruleAnswers : Tree → Found → Answer × Held
+  ruleAnswers u f = elim f [ faulty i ↦ (BadAnswer i, heldIn t st) | none _ ↦ cond (st .record' .finished) (Finished, heldIn t st) (ran g (heldIn t st) (ticked g u)) ]
 
-  call-follows : (r : Record) (c : Run) (a : Call) → Follow r c a (called kinds ns limits r c a)
-  unfolding called
-  call-follows r c (ticks b) = tick-follows r c b (tickCall (given kinds ns limits r c b)) (view (given kinds ns limits r c b))
-  call-follows r c resets = reset-follows r c (resetCall kinds ns limits r c) (reset-view kinds ns limits r c)
+  by-answers : (u : Tree) → held t (st .cells') ≡ u → (f : Found) → Says (callAnswers u f) (ruleAnswers u f)
+  by-answers u q (faulty i) = refl
+  by-answers u q (none i) = by-finished u q (g .record' .finished) (st .record' .finished) (ap (λ (r : Record). r .finished) (up .the-record))
 
-  -- from the tree that the cells hold
-  pub follows : (r : Record) (c : Run) (cs : List Call) → heldIn (afterCalls kinds ns limits r c cs) ≡ rulesRun t r (held t c) cs (answered0 kinds ns limits r c cs)
-  unfolding afterCalls answered0 rulesRun
-  follows r c List.[] = refl
-  follows r c (List._∷_ a cs) =
-      let x = called kinds ns limits r c a in
-      follows (x .0) (x .1) cs ∙ ap (λ (y : Record × Tree). rulesRun t (y .0) (y .1) cs (answered0 kinds ns limits (x .0) (x .1) cs)) (call-follows r c a)
+  abbrev ruleTime : Tree → Bool → Answer × Held
+  ruleTime u b = cond b (ruleAnswers u (badAnswer 0 (g .statuses) (g .leftovers))) (BadTime, heldIn t st)
 
-  -- from fresh cells, the fresh tree
-  pub follows-fresh : (r : Record) (c : Run) (cs : List Call) → FreshCells kinds ns limits c → heldIn (afterCalls kinds ns limits r c cs) ≡ rulesRun t r t cs (answered0 kinds ns limits r c cs)
-  follows-fresh r c cs f = follows r c cs ∙ ap (λ (u : Tree). rulesRun t r u cs (answered0 kinds ns limits r c cs)) (f t e)
+  by-time : (u : Tree) → held t (st .cells') ≡ u → (b : Bool) → Says (cond b (callAnswers u (badAnswer 0 (g .statuses) (g .leftovers))) (refused g BadTime)) (ruleTime u b)
+  by-time u q true = by-answers u q (badAnswer 0 (g .statuses) (g .leftovers))
+  by-time u q false = refl
+
+  abbrev callCells : Tree → Found → Left
+  callCells u f = elim f [ faulty p ↦ refused g (BadCell p) | none _ ↦ tickTree g u ]
+
+  abbrev ruleCells : Tree → Found → Answer × Held
+  ruleCells u f = elim f [ faulty p ↦ (BadCell p, heldIn t st) | none _ ↦ ruleTime u (timeAllowed (g .event)) ]
+
+  by-cells : (u : Tree) → held t (st .cells') ≡ u → (f : Found) → Says (callCells u f) (ruleCells u f)
+  unfolding tickTree
+  by-cells u q (faulty p) = refl
+  by-cells u q (none i) = by-time u q (timeAllowed (g .event))
+
+  abbrev callLength : Tree → Bool → Left
+  callLength u b = cond b (refused g TooShort) (callCells (heldBy u g) (badCell false false 0 (heldBy u g)))
+
+  abbrev ruleLength : Bool → Answer × Held
+  ruleLength b = cond b (TooShort, heldIn t st) (ruleCells (held t (st .cells')) (badCell false false 0 (held t (st .cells'))))
+
+  by-length : (b : Bool) → tooShort g (size t) ≡ b → Says (callLength t b) (ruleLength b)
+  by-length true s = refl
+  by-length false s = subst (λ (u : Tree). Says (callCells u (badCell false false 0 u)) (ruleLength false)) (sym (same-tree t st g up (long-cells g (size t) s)))
+      (by-cells (held t (st .cells')) refl (badCell false false 0 (held t (st .cells'))))
+
+  by-table : (o : Table) → table (g .kinds) (g .ns) (g .limits) ≡ o
+      → Says (elim o [ bad p ↦ refused g (BadTable p) | good u ↦ callLength u (tooShort g (size u)) ]) (elim o [ bad p ↦ (BadTable p, heldIn t st) | good u ↦ ruleLength (tooShort g (size t)) ])
+  by-table (bad p) e = refl
+  by-table (good u) e = subst (λ (z : Tree). Says (callLength z (tooShort g (size z))) (ruleLength (tooShort g (size t)))) (sym (up .the-table u e)) (by-length (tooShort g (size t)) refl)
+
+  tick-follows : Says (tickCall g) (ruledTick t (heldIn t st) g)
+  unfolding tickCall
+  tick-follows = by-table (table (g .kinds) (g .ns) (g .limits)) refl
+
+  abbrev SaysReset : ResetLeft → ResetAnswer × Held → Type 0
+  SaysReset l x = _≡_ {A = ResetAnswer × Held} (l .answer, heldIn t (afterReset st l)) x
+
+  abbrev callReset : Tree → Bool → ResetLeft
+  callReset u b = cond b (resetLeft resetSays.Reset (record { finished = false; ticks = g .record' .ticks }) (ontoRun u (g .cells'))) (resetLeft resetSays.TooShort (g .record') (g .cells'))
+
+  abbrev ruleReset : Bool → ResetAnswer × Held
+  ruleReset b = cond b (resetSays.Reset, (record { finished = false; ticks = st .record' .ticks }, t)) (resetSays.TooShort, heldIn t st)
+
+  by-reset : table (g .kinds) (g .ns) (g .limits) ≡ good t → (b : Bool) → SaysReset (callReset t b) (ruleReset b)
+  by-reset e true = rw (up .the-record, written-fresh (g .kinds) (g .ns) (g .limits) t (g .cells') e)
+  by-reset e false = refl
+
+  reset-table : (o : Table) → table (g .kinds) (g .ns) (g .limits) ≡ o
+      → SaysReset (elim o [ bad p ↦ resetLeft (resetSays.BadTable p) (g .record') (g .cells') | good u ↦ callReset u (leb (size u) (runLength (g .cells'))) ])
+      (elim o [ bad p ↦ (resetSays.BadTable p, heldIn t st) | good u ↦ ruleReset (leb (size t) (runLength (g .cells'))) ])
+  reset-table (bad p) e = refl
+  reset-table (good u) e = subst (λ (z : Tree). SaysReset (callReset z (leb (size z) (runLength (g .cells')))) (ruleReset (leb (size t) (runLength (g .cells'))))) (sym (up .the-table u e))
+      (by-reset (e ∙ ap good (up .the-table u e)) (leb (size t) (runLength (g .cells'))))
+
+  reset-follows : SaysReset (resetOf g) (ruledReset t (heldIn t st) g)
+  unfolding resetCall
+  reset-follows = reset-table (table (g .kinds) (g .ns) (g .limits)) refl
+
+-- ---- every sequence
+-- from the tree that the cells hold
+pub follows : (t : Tree) (st : Standing) (cs : List Call) → TakeUps t st cs → (map saidBy cs, heldIn t (afterAll st cs)) ≡ ruledAll t (heldIn t st) cs
+unfolding afterAll after ruledAll
+follows t st List.[] up = refl
+follows t st (List._∷_ (ticks g) cs) up = rw (← tick-follows t st g (up .0), ← follows t (after st (ticks g)) cs (up .1))
+follows t st (List._∷_ (resets g) cs) up = rw (← reset-follows t st g (up .0), ← follows t (after st (resets g)) cs (up .1))
+
+-- from fresh cells, the table's tree
+pub follows-fresh : (kinds ns : List ℕ) (limits : List Float) (t : Tree) → table kinds ns limits ≡ good t → (st : Standing) → FreshCells t (st .cells') → (cs : List Call) → TakeUps t st cs
+    → (map saidBy cs, heldIn t (afterAll st cs)) ≡ ruledAll t (st .record', t) cs
+follows-fresh kinds ns limits t e st f cs up = follows t st cs up ∙ ap (λ (u : Tree). ruledAll t (st .record', u) cs) (fresh-held kinds ns limits t (st .cells') e f)

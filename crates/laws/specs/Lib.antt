@@ -6,6 +6,7 @@ pub mod Alone
 pub mod Budget
 pub mod More
 pub mod Asking
+pub mod Used
 pub mod Fuel
 pub mod Fine
 pub mod FuelCall
@@ -17,6 +18,7 @@ pub mod LiveDrivers
 pub mod LiveLoops
 pub mod LiveTicks
 pub mod CellsGood
+pub mod OnlyFuel
 pub mod Lent
 pub mod Again
 pub mod Deep

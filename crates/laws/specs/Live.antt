@@ -172,15 +172,20 @@ unfolding cellAllowed
 live-cell mayEnd k n x p m u h = on (eqb m 0) (eqb→eq m 0) h
   where
     on : (b : Bool) → (T b → m ≡ 0) → T (cond b (cond (timed k) (elapsed x) (zeroBits x) && leb p (lastPlace k n)) (eqb m 1 && mayEnd && zeroBits x && eqb p 0)) → LiveCell k n (cell x p m)
-    on true f g = (f tt, and-l (cond (timed k) (elapsed x) (zeroBits x)) (leb p (lastPlace k n)) g, leb→le p (lastPlace k n) (and-r (cond (timed k) (elapsed x) (zeroBits x)) (leb p (lastPlace k n)) g))
+    on true f g =
+        (f tt, and-l (cond (timed k) (elapsed x) (zeroBits x)) (leb p (lastPlace k n)) g, leb→le p (lastPlace k n) (and-r (cond (timed k) (elapsed x) (zeroBits x)) (leb p (lastPlace k n)) g))
     on false f g = absurd (subst T u (and-l (eqb m 1) mayEnd (and-l (eqb m 1 && mayEnd) (zeroBits x) (and-l (eqb m 1 && mayEnd && zeroBits x) (eqb p 0) g))))
 
 -- the cell of a marked child: mayEnd, and time and place zero
 ended-cell : (mayEnd : Bool) (k : Kind) (n : ℕ) (x : Float) (p m : ℕ) → T (eqb m 1) → T (cellAllowed false mayEnd k n (cell x p m)) → T mayEnd × T (zeroBits x) × (p ≡ 0)
 unfolding cellAllowed
 ended-cell mayEnd k n x p m u h =
-    let g : T (eqb m 1 && mayEnd && zeroBits x && eqb p 0) = rw (one-not-zero m u) at h in
-    (and-r (eqb m 1) mayEnd (and-l (eqb m 1 && mayEnd) (zeroBits x) (and-l (eqb m 1 && mayEnd && zeroBits x) (eqb p 0) g)), and-r (eqb m 1 && mayEnd) (zeroBits x) (and-l (eqb m 1 && mayEnd && zeroBits x) (eqb p 0) g), eqb→eq p 0 (and-r (eqb m 1 && mayEnd && zeroBits x) (eqb p 0) g))
+    let g : T (eqb m 1 && mayEnd && zeroBits x && eqb p 0) = rw (one-not-zero m u) at h in (
+      and-r (eqb m 1) mayEnd (and-l (eqb m 1 && mayEnd) (zeroBits x) (and-l (eqb m 1 && mayEnd && zeroBits x) (eqb p 0) g)),
+      and-r (eqb m 1 && mayEnd) (zeroBits x)
+          (and-l (eqb m 1 && mayEnd && zeroBits x) (eqb p 0) g),
+      eqb→eq p 0 (and-r (eqb m 1 && mayEnd && zeroBits x) (eqb p 0) g),
+    )
 
 mutual
   unfolding cellAllowed

@@ -74,7 +74,8 @@ module _ (k : ℕ) (more : Answers) where
     acts child child' n l c e ts (world f (List._∷_ a ans)) = goes (a .0) (a .1) (c, ts) (world f ans) tt (refl, refl)
 
     visit : (d : ℕ) → Alike growing Any (tick F d) (tick F d) → (kd : Kind) (n : ℕ) (l : Float) (c : Cell) (b : ℕ) (ts : Forest) (e : Event) (f : ℕ) (ans : Answers)
-        → Sim growing (world f ans) (Same (node kd n l c b ts)) (rule F (tick F d) kd n l c e ts (world f ans) ▸ leave kd n l) (rule F (tick F d) kd n l c e ts (world (f + k) (ans ++ more)) ▸ leave kd n l)
+        → Sim growing (world f ans) (Same (node kd n l c b ts)) (rule F (tick F d) kd n l c e ts (world f ans) ▸ leave kd n l)
+        (rule F (tick F d) kd n l c e ts (world (f + k) (ans ++ more)) ▸ leave kd n l)
     visit d g kd n l c b ts e f ans = visit-pair growing F (tick F d) (tick F d) kd n l c b ts e (world f ans)
         (rw (tick-budget F d (suc (f + k)) kd n l c e ts f ans (omega arith), tick-budget F d (suc (f + k)) kd n l c e ts (f + k) (ans ++ more) (omega arith))
         (rule-pair growing F acts Any (tick F d) (tick F d) g (suc (f + k)) kd n l c e ts (world f ans) (any-each (shapes ts))))
@@ -86,7 +87,8 @@ module _ (k : ℕ) (more : Answers) where
       where
         none : (t : Tree) (e : Event) (ans : Answers) → k ≡ 0 → tick F (suc d) t e (world (0 + k) (ans ++ more)) ≡ short
         none t e ans h = rw h
-    tick-grows (suc d) (node kd n l c b ts) e (world (suc f) ans) u = rw (suc-add f k) (back growing (world (suc f) ans) (world f ans) (Same (node kd n l c b ts)) _ _ tt (visit d (tick-grows d) kd n l c b ts e f ans))
+    tick-grows (suc d) (node kd n l c b ts) e (world (suc f) ans) u =
+        rw (suc-add f k) (back growing (world (suc f) ans) (world f ans) (Same (node kd n l c b ts)) _ _ tt (visit d (tick-grows d) kd n l c b ts e f ans))
 
     pub tick-more : (d : ℕ) (t : Tree) (e : Event) (f : ℕ) (ans : Answers) → Grown k more (tick F d t e (world f ans)) (tick F d t e (world (f + k) (ans ++ more)))
     tick-more d t e f ans = grown (world f ans) (Same t) (tick F d t e (world f ans)) (tick F d t e (world (f + k) (ans ++ more))) (tick-grows d t e (world f ans) tt)

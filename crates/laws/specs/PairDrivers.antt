@@ -53,7 +53,8 @@ module _ (R : Pairing) (D : Shape → Type 0) (child child' : Ticker) (g : Alike
   unfolding raceFrom
   race-pair e [] p d = sim-done R p (Kept []) Running zeroTime [] refl
   race-pair e (t ∷ ts) p d = sim-then R p (Same t) (Kept (t ∷ ts)) (λ w. child t e w) (λ w. child' t e w) _ _ (g t e p (d .0)) λ s. elim s [
-    | Running ↦ λ r t' q x. sim-map R q (Kept ts) (Kept (t ∷ ts)) (λ w. raceFrom child e ts w) (λ w. raceFrom child' e ts w) same (λ us. t' ∷ us) (race-pair e ts q (d .1)) (λ us y i. Shape._∷_ (x .0 i) (y i))
+    | Running ↦ λ r t' q x. sim-map R q (Kept ts) (Kept (t ∷ ts)) (λ w. raceFrom child e ts w) (λ w. raceFrom child' e ts w) same (λ us. t' ∷ us) (race-pair e ts q (d .1))
+        (λ us y i. Shape._∷_ (x .0 i) (y i))
     | Success ↦ λ r t' q x. sim-done R q (Kept (t ∷ ts)) Success r (t' ∷ ts) (λ i. Shape._∷_ (x .0 i) (shapes ts))
     | Failure ↦ λ r t' q x. sim-done R q (Kept (t ∷ ts)) Failure r (t' ∷ ts) (λ i. Shape._∷_ (x .0 i) (shapes ts))
   ]
@@ -73,7 +74,8 @@ module _ (R : Pairing) (D : Shape → Type 0) (child child' : Ticker) (g : Alike
   ]
   seq-from (Update y) t (u ∷ us) p d ds = sim-then R p (Same t) (KeptAt (t ∷ u ∷ us)) (λ w. child t (Update y) w) (λ w. child' t (Update y) w) _ _ (g t (Update y) p d) λ s. elim s [
     | Running ↦ λ r t' q x. sim-done R q (KeptAt (t ∷ u ∷ us)) Running zeroTime (0, t' ∷ u ∷ us) (λ i. Shape._∷_ (x .0 i) (shapes (u ∷ us)))
-    | Success ↦ λ r t' q x. sim-map R q (KeptAt (fresh u ∷ us)) (KeptAt (t ∷ u ∷ us)) (λ w. sequenceFrom child (Update r) (fresh u) us w) (λ w. sequenceFrom child' (Update r) (fresh u) us w) same (λ z. (suc (z .0), fresh t' ∷ z .1))
+    | Success ↦ λ r t' q x. sim-map R q (KeptAt (fresh u ∷ us)) (KeptAt (t ∷ u ∷ us)) (λ w. sequenceFrom child (Update r) (fresh u) us w) (λ w. sequenceFrom child' (Update r) (fresh u) us w) same
+        (λ z. (suc (z .0), fresh t' ∷ z .1))
         (seq-from (Update r) (fresh u) us q (rw (fresh-shape u) (ds .0)) (ds .1)) (λ z y i. Shape._∷_ ((fresh-shape t' ∙ x .0) i) ((y ∙ (λ j. Shape._∷_ (fresh-shape u j) (shapes us))) i))
     | Failure ↦ λ r t' q x. sim-done R q (KeptAt (t ∷ u ∷ us)) Failure r (0, t' ∷ u ∷ us) (λ i. Shape._∷_ (x .0 i) (shapes (u ∷ us)))
   ]
@@ -87,7 +89,9 @@ module _ (R : Pairing) (D : Shape → Type 0) (child child' : Ticker) (g : Alike
   unfolding sequenceAt
   seq-pair e [] n p d = sim-done R p (KeptAt []) Running zeroTime (n, []) refl
   seq-pair e (t ∷ ts) zero p d = seq-from e t ts p (d .0) (d .1)
-  seq-pair e (t ∷ ts) (suc n) p d = sim-map R p (KeptAt ts) (KeptAt (t ∷ ts)) (λ w. sequenceAt child n e ts w) (λ w. sequenceAt child' n e ts w) same (λ z. (suc (z .0), t ∷ z .1)) (seq-pair e ts n p (d .1)) (λ z y i. Shape._∷_ (shape t) (y i))
+  seq-pair e (t ∷ ts) (suc n) p d =
+      sim-map R p (KeptAt ts) (KeptAt (t ∷ ts)) (λ w. sequenceAt child n e ts w) (λ w. sequenceAt child' n e ts w) same (λ z. (suc (z .0), t ∷ z .1)) (seq-pair e ts n p (d .1))
+      (λ z y i. Shape._∷_ (shape t) (y i))
 
   -- ---- Memoryless
   pub mem-pair : (e : Event) (ts : Forest) (p : R .Worlds) → Each D (shapes ts) → Both R p (Kept ts) (λ w. memoryless child e ts w) (λ w. memoryless child' e ts w)
@@ -106,15 +110,19 @@ module _ (R : Pairing) (D : Shape → Type 0) (child child' : Ticker) (g : Alike
   ]
 
   -- ---- WhenAll
-  all-from : (e : Event) (all : Bool) (least : Float) (ts : Forest) (p : R .Worlds) → Each D (shapes ts) → Both R p (Kept ts) (λ w. whenAllFrom child e all least ts w) (λ w. whenAllFrom child' e all least ts w)
+  all-from : (e : Event) (all : Bool) (least : Float) (ts : Forest) (p : R .Worlds) → Each D (shapes ts)
+      → Both R p (Kept ts) (λ w. whenAllFrom child e all least ts w) (λ w. whenAllFrom child' e all least ts w)
   unfolding whenAllFrom
   all-from e true least [] p d = sim-done R p (Kept []) Success least [] refl
   all-from e false least [] p d = sim-done R p (Kept []) Running zeroTime [] refl
   all-from e all least (t ∷ ts) p d = sim-either R p (Kept (t ∷ ts)) (marked t) _ _ _ _
-      (sim-map R p (Kept ts) (Kept (t ∷ ts)) (λ w. whenAllFrom child e all least ts w) (λ w. whenAllFrom child' e all least ts w) same (λ us. t ∷ us) (all-from e all least ts p (d .1)) (λ us y i. Shape._∷_ (shape t) (y i)))
+      (sim-map R p (Kept ts) (Kept (t ∷ ts)) (λ w. whenAllFrom child e all least ts w) (λ w. whenAllFrom child' e all least ts w) same (λ us. t ∷ us) (all-from e all least ts p (d .1))
+      (λ us y i. Shape._∷_ (shape t) (y i)))
       (sim-then R p (Same t) (Kept (t ∷ ts)) (λ w. child t e w) (λ w. child' t e w) _ _ (g t e p (d .0)) λ s. elim s [
-        | Running ↦ λ r t' q x. sim-map R q (Kept ts) (Kept (t ∷ ts)) (λ w. whenAllFrom child e false least ts w) (λ w. whenAllFrom child' e false least ts w) same (λ us. t' ∷ us) (all-from e false least ts q (d .1)) (λ us y i. Shape._∷_ (x .0 i) (y i))
-        | Success ↦ λ r t' q x. sim-map R q (Kept ts) (Kept (t ∷ ts)) (λ w. whenAllFrom child e all (smaller least r) ts w) (λ w. whenAllFrom child' e all (smaller least r) ts w) same (λ us. mark (fresh t') ∷ us)
+        | Running ↦ λ r t' q x. sim-map R q (Kept ts) (Kept (t ∷ ts)) (λ w. whenAllFrom child e false least ts w) (λ w. whenAllFrom child' e false least ts w) same (λ us. t' ∷ us)
+            (all-from e false least ts q (d .1)) (λ us y i. Shape._∷_ (x .0 i) (y i))
+        | Success ↦ λ r t' q x. sim-map R q (Kept ts) (Kept (t ∷ ts)) (λ w. whenAllFrom child e all (smaller least r) ts w) (λ w. whenAllFrom child' e all (smaller least r) ts w) same
+            (λ us. mark (fresh t') ∷ us)
             (all-from e all (smaller least r) ts q (d .1)) (λ us y i. Shape._∷_ ((mark-shape (fresh t') ∙ fresh-shape t' ∙ x .0) i) (y i))
         | Failure ↦ λ r t' q x. sim-done R q (Kept (t ∷ ts)) Failure r (t' ∷ ts) (λ i. Shape._∷_ (x .0 i) (shapes ts))
       ])
@@ -125,15 +133,18 @@ module _ (R : Pairing) (D : Shape → Type 0) (child child' : Ticker) (g : Alike
   all-pair top e (t ∷ ts) p d = all-from e true top (t ∷ ts) p d
 
   -- ---- After
-  after-from : (e : Event) (nx : Bool) (least : Float) (ts : Forest) (p : R .Worlds) → Each D (shapes ts) → Both R p (KeptAt ts) (λ w. afterFrom child e nx least ts w) (λ w. afterFrom child' e nx least ts w)
+  after-from : (e : Event) (nx : Bool) (least : Float) (ts : Forest) (p : R .Worlds) → Each D (shapes ts)
+      → Both R p (KeptAt ts) (λ w. afterFrom child e nx least ts w) (λ w. afterFrom child' e nx least ts w)
   unfolding afterFrom
   after-from e true least [] p d = sim-done R p (KeptAt []) Success least (0, []) refl
   after-from e false least [] p d = sim-done R p (KeptAt []) Running zeroTime (0, []) refl
   after-from e nx least (t ∷ ts) p d = sim-then R p (Same t) (KeptAt (t ∷ ts)) (λ w. child t e w) (λ w. child' t e w) _ _ (g t e p (d .0)) λ s. elim s [
-    | Running ↦ λ r t' q x. sim-map R q (KeptAt ts) (KeptAt (t ∷ ts)) (λ w. afterFrom child e false zeroTime ts w) (λ w. afterFrom child' e false zeroTime ts w) same (λ z. (0, t' ∷ z .1)) (after-from e false zeroTime ts q (d .1)) (λ z y i. Shape._∷_ (x .0 i) (y i))
+    | Running ↦ λ r t' q x. sim-map R q (KeptAt ts) (KeptAt (t ∷ ts)) (λ w. afterFrom child e false zeroTime ts w) (λ w. afterFrom child' e false zeroTime ts w) same (λ z. (0, t' ∷ z .1))
+        (after-from e false zeroTime ts q (d .1)) (λ z y i. Shape._∷_ (x .0 i) (y i))
     | Failure ↦ λ r t' q x. sim-done R q (KeptAt (t ∷ ts)) Failure r (0, t' ∷ ts) (λ i. Shape._∷_ (x .0 i) (shapes ts))
     | Success ↦ λ r t' q x. sim-either R q (KeptAt (t ∷ ts)) (nx && lt r least) _ _ _ _
-        (sim-map R q (KeptAt ts) (KeptAt (t ∷ ts)) (λ w. afterFrom child e true r ts w) (λ w. afterFrom child' e true r ts w) same (λ z. (suc (z .0), t' ∷ z .1)) (after-from e true r ts q (d .1)) (λ z y i. Shape._∷_ (x .0 i) (y i)))
+        (sim-map R q (KeptAt ts) (KeptAt (t ∷ ts)) (λ w. afterFrom child e true r ts w) (λ w. afterFrom child' e true r ts w) same (λ z. (suc (z .0), t' ∷ z .1)) (after-from e true r ts q (d .1))
+        (λ z y i. Shape._∷_ (x .0 i) (y i)))
         (sim-done R q (KeptAt (t ∷ ts)) Failure (smaller least r) (0, t' ∷ ts) (λ i. Shape._∷_ (x .0 i) (shapes ts)))
   ]
 
@@ -141,4 +152,6 @@ module _ (R : Pairing) (D : Shape → Type 0) (child child' : Ticker) (g : Alike
   unfolding afterAt
   after-pair top e ts zero p d = after-from e true top ts p d
   after-pair top e [] (suc n) p d = sim-done R p (KeptAt []) Running zeroTime (suc n, []) refl
-  after-pair top e (t ∷ ts) (suc n) p d = sim-map R p (KeptAt ts) (KeptAt (t ∷ ts)) (λ w. afterAt child top n e ts w) (λ w. afterAt child' top n e ts w) same (λ z. (suc (z .0), t ∷ z .1)) (after-pair top e ts n p (d .1)) (λ z y i. Shape._∷_ (shape t) (y i))
+  after-pair top e (t ∷ ts) (suc n) p d =
+      sim-map R p (KeptAt ts) (KeptAt (t ∷ ts)) (λ w. afterAt child top n e ts w) (λ w. afterAt child' top n e ts w) same (λ z. (suc (z .0), t ∷ z .1)) (after-pair top e ts n p (d .1))
+      (λ z y i. Shape._∷_ (shape t) (y i))

@@ -22,21 +22,26 @@ KeptPut n ts t' = shapes (put n t' ts) ≡ shapes ts
 module _ (R : Pairing) (D : Shape → Type 0) (child child' : Ticker) (g : Alike R D child child') where
   child-pair : (e : Event) (ts : Forest) (n : ℕ) (p : R .Worlds) → Each D (shapes ts) → Both R p (KeptPut n ts) (λ w. childAt child n e ts w) (λ w. childAt child' n e ts w)
   child-pair e [] n p d = sim-short R p (KeptPut n [])
-  child-pair e (t ∷ ts) zero p d = sim-weak R p (Same t) (KeptPut 0 (t ∷ ts)) (R .first p (λ w. child t e w)) (R .second p (λ w. child' t e w)) (g t e p (d .0)) (λ t' x i. Shape._∷_ (x .0 i) (shapes ts))
-  child-pair e (t ∷ ts) (suc n) p d = sim-weak R p (KeptPut n ts) (KeptPut (suc n) (t ∷ ts)) (R .first p (λ w. childAt child n e ts w)) (R .second p (λ w. childAt child' n e ts w)) (child-pair e ts n p (d .1)) (λ t' x i. Shape._∷_ (shape t) (x i))
+  child-pair e (t ∷ ts) zero p d =
+      sim-weak R p (Same t) (KeptPut 0 (t ∷ ts)) (R .first p (λ w. child t e w)) (R .second p (λ w. child' t e w)) (g t e p (d .0)) (λ t' x i. Shape._∷_ (x .0 i) (shapes ts))
+  child-pair e (t ∷ ts) (suc n) p d =
+      sim-weak R p (KeptPut n ts) (KeptPut (suc n) (t ∷ ts)) (R .first p (λ w. childAt child n e ts w)) (R .second p (λ w. childAt child' n e ts w)) (child-pair e ts n p (d .1))
+      (λ t' x i. Shape._∷_ (shape t) (x i))
 
   -- ---- While's body
   pub body-pair : (b n : ℕ) (e : Event) (ts : Forest) (p : R .Worlds) → Each D (shapes ts) → Both R p (KeptAt ts) (λ w. whileBody child b n e ts w) (λ w. whileBody child' b n e ts w)
   unfolding whileBody
   body-pair zero n e ts p d = sim-short R p (KeptAt ts)
-  body-pair (suc b) n (Update y) ts p d = sim-then R p (KeptPut n ts) (KeptAt ts) (λ w. childAt child n (Update y) ts w) (λ w. childAt child' n (Update y) ts w) _ _ (child-pair (Update y) ts n p d) λ s. elim s [
-    | Running ↦ λ r t' q x. sim-done R q (KeptAt ts) Running zeroTime (n, put n t' ts) x
-    | Failure ↦ λ r t' q x. sim-done R q (KeptAt ts) Failure r (n, put n t' ts) x
-    | Success ↦ λ r t' q x.
-        let us : Forest = moved n t' ts in
-        let sh : shapes us ≡ shapes ts = moved-shapes ts n (next n ts) t' x in
-        sim-weak R q (KeptAt us) (KeptAt ts) (R .first q (λ w. whileBody child b (next n ts) (Update r) us w)) (R .second q (λ w. whileBody child' b (next n ts) (Update r) us w)) (body-pair b (next n ts) (Update r) us q (rw sh d)) (λ z y. y ∙ sh)
-  ]
+  body-pair (suc b) n (Update y) ts p d =
+      sim-then R p (KeptPut n ts) (KeptAt ts) (λ w. childAt child n (Update y) ts w) (λ w. childAt child' n (Update y) ts w) _ _ (child-pair (Update y) ts n p d) λ s. elim s [
+        | Running ↦ λ r t' q x. sim-done R q (KeptAt ts) Running zeroTime (n, put n t' ts) x
+        | Failure ↦ λ r t' q x. sim-done R q (KeptAt ts) Failure r (n, put n t' ts) x
+        | Success ↦ λ r t' q x.
+            let us : Forest = moved n t' ts in
+            let sh : shapes us ≡ shapes ts = moved-shapes ts n (next n ts) t' x in
+            sim-weak R q (KeptAt us) (KeptAt ts) (R .first q (λ w. whileBody child b (next n ts) (Update r) us w)) (R .second q (λ w. whileBody child' b (next n ts) (Update r) us w))
+            (body-pair b (next n ts) (Update r) us q (rw sh d)) (λ z y. y ∙ sh)
+      ]
   body-pair (suc b) n Other ts p d = sim-then R p (KeptPut n ts) (KeptAt ts) (λ w. childAt child n Other ts w) (λ w. childAt child' n Other ts w) _ _ (child-pair Other ts n p d) λ s. elim s [
     | Running ↦ λ r t' q x. sim-done R q (KeptAt ts) Running zeroTime (n, put n t' ts) x
     | Failure ↦ λ r t' q x. sim-done R q (KeptAt ts) Failure r (n, put n t' ts) x
@@ -61,7 +66,8 @@ module _ (R : Pairing) (D : Shape → Type 0) (child child' : Ticker) (g : Alike
         let us : Forest = moved n t' ts in
         let sh : shapes us ≡ shapes ts = moved-shapes ts n (next n ts) t' x in
         let m : ℕ = cond (ltb (suc n) (count ts)) (suc (suc n)) 0 in
-        sim-weak R q (KeptAt (c ∷ us)) (KeptAt (c ∷ ts)) (R .first q (λ w. whileAll child b whole m (rest r e) c us w)) (R .second q (λ w. whileAll child' b whole m (rest r e) c us w)) (loop-pair b whole m (rest r e) c us q dc (rw sh d))
+        sim-weak R q (KeptAt (c ∷ us)) (KeptAt (c ∷ ts)) (R .first q (λ w. whileAll child b whole m (rest r e) c us w)) (R .second q (λ w. whileAll child' b whole m (rest r e) c us w))
+        (loop-pair b whole m (rest r e) c us q dc (rw sh d))
         (λ z y. y ∙ (λ i. Shape._∷_ (shape c) (sh i)))
   ]
 

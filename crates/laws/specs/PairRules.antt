@@ -4,7 +4,8 @@ use mathlib.Core.List.{List}
 use Prim.Native.Nat.{ℕ, suc}
 use lib.Ieee.{Float, Format, add, sub, le}
 use Rattle.rules.specs.declared.behavior.Kind.{Kind}
-use Rattle.rules.specs.declared.behavior.Kind.the-variants.{Wait, WaitForever, Action, Invert, AlwaysSucceed, Timeout, Select, If, Sequence, MemorylessSequence, MemorylessSelector, While, WhileAll, WhenAll, WhenAny, After, Race}
+use Rattle.rules.specs.declared.behavior.Kind.the-variants.{Wait, WaitForever, Action, Invert, AlwaysSucceed, Timeout, Select, If, Sequence}
+use Rattle.rules.specs.declared.behavior.Kind.the-variants.{MemorylessSequence, MemorylessSelector, While, WhileAll, WhenAll, WhenAny, After, Race}
 use Rattle.rules.specs.declared.status.Status.{Status}
 use Rattle.rules.specs.declared.status.Status.the-variants.{Running, Success, Failure}
 use Rattle.rules.specs.declared.event.Event.{Event}
@@ -87,14 +88,18 @@ KeptNext c ts x = (markIn (x .0) ≡ markIn c) × (shapes (x .1) ≡ shapes ts)
 
 -- the two walks do alike at an action
 abbrev pub Acts : Pairing → Format → Type 0
-Acts R F = (child child' : Ticker) (n : ℕ) (l : Float) (c : Cell) (e : Event) (ts : Forest) (p : R .Worlds) → Both R p (KeptNext c ts) (λ w. rule F child Action n l c e ts w) (λ w. rule F child' Action n l c e ts w)
+Acts R F =
+    (child child' : Ticker) (n : ℕ) (l : Float) (c : Cell) (e : Event) (ts : Forest) (p : R .Worlds) → Both R p (KeptNext c ts) (λ w. rule F child Action n l c e ts w)
+    (λ w. rule F child' Action n l c e ts w)
 
 module _ (R : Pairing) (F : Format) (acts : Acts R F) (D : Shape → Type 0) (child child' : Ticker) (g : Alike R D child child') where
   only-pair : (ch : Status → Status) (c : Cell) (e : Event) (ts : Forest) (p : R .Worlds) → Each D (shapes ts) → Both R p (KeptNext c ts) (λ w. only child ch c e ts w) (λ w. only child' ch c e ts w)
   only-pair ch c e [] p d = sim-short R p (KeptNext c [])
-  only-pair ch c e (t ∷ ts) p d = sim-map R p (Same t) (KeptNext c (t ∷ ts)) (λ w. child t e w) (λ w. child' t e w) ch (λ t'. (c, t' ∷ ts)) (g t e p (d .0)) (λ t' x. (refl, λ i. Shape._∷_ (x .0 i) (shapes ts)))
+  only-pair ch c e (t ∷ ts) p d =
+      sim-map R p (Same t) (KeptNext c (t ∷ ts)) (λ w. child t e w) (λ w. child' t e w) ch (λ t'. (c, t' ∷ ts)) (g t e p (d .0)) (λ t' x. (refl, λ i. Shape._∷_ (x .0 i) (shapes ts)))
 
-  place-pair : (x : Float) (n m : ℕ) (ts : Forest) (p : R .Worlds) (o o' : World → Out (ℕ × Forest)) → Both R p (KeptAt ts) o o' → Both R p (KeptNext (cell x n m) ts) (λ w. atPlace (cell x n m) (o w)) (λ w. atPlace (cell x n m) (o' w))
+  place-pair : (x : Float) (n m : ℕ) (ts : Forest) (p : R .Worlds) (o o' : World → Out (ℕ × Forest)) → Both R p (KeptAt ts) o o'
+      → Both R p (KeptNext (cell x n m) ts) (λ w. atPlace (cell x n m) (o w)) (λ w. atPlace (cell x n m) (o' w))
   place-pair x n m ts p o o' h = sim-map R p (KeptAt ts) (KeptNext (cell x n m) ts) o o' same (λ y. (cell x (y .0) m, y .1)) h (λ y z. (refl, z))
 
   cell-pair : (c : Cell) (ts : Forest) (p : R .Worlds) (o o' : World → Out Forest) → Both R p (Kept ts) o o' → Both R p (KeptNext c ts) (λ w. inCell c (o w)) (λ w. inCell c (o' w))
@@ -103,7 +108,8 @@ module _ (R : Pairing) (F : Format) (acts : Acts R F) (D : Shape → Type 0) (ch
   exchange-pair : {A : Type 0} (p : R .Worlds) (P : A → Type 0) (o o' : World → Out A) → Both R p P o o' → Both R p P (λ w. exchange (o w)) (λ w. exchange (o' w))
   exchange-pair p P o o' h = sim-map R p P P o o' exchanged (λ a. a) h (λ a x. x)
 
-  timeout-pair : (n : ℕ) (l : Float) (c : Cell) (e : Event) (ts : Forest) (p : R .Worlds) → Each D (shapes ts) → Both R p (KeptNext c ts) (λ w. rule F child Timeout n l c e ts w) (λ w. rule F child' Timeout n l c e ts w)
+  timeout-pair : (n : ℕ) (l : Float) (c : Cell) (e : Event) (ts : Forest) (p : R .Worlds) → Each D (shapes ts)
+      → Both R p (KeptNext c ts) (λ w. rule F child Timeout n l c e ts w) (λ w. rule F child' Timeout n l c e ts w)
   unfolding rule
   timeout-pair n l (cell x a m) e [] p d = sim-short R p (KeptNext (cell x a m) [])
   timeout-pair n l (cell x a m) e (t ∷ ts) p d = sim-then R p (Same t) (KeptNext (cell x a m) (t ∷ ts)) (λ w. child t e w) (λ w. child' t e w) _ _ (g t e p (d .0)) λ s. elim s [
@@ -130,9 +136,11 @@ module _ (R : Pairing) (F : Format) (acts : Acts R F) (D : Shape → Type 0) (ch
     | Failure ↦ λ r t' q y. sim-done R q (KeptNext (cell x a m) (t ∷ ts)) Failure r (cell x a m, t' ∷ ts) (refl, λ i. Shape._∷_ (y .0 i) (shapes ts))
   ]
 
-  while-all-pair : (b : ℕ) (c : Cell) (e : Event) (ts : Forest) (p : R .Worlds) → Each D (shapes ts) → Both R p (KeptNext c ts) (λ w. whileAllWith b child c e ts w) (λ w. whileAllWith b child' c e ts w)
+  while-all-pair : (b : ℕ) (c : Cell) (e : Event) (ts : Forest) (p : R .Worlds) → Each D (shapes ts)
+      → Both R p (KeptNext c ts) (λ w. whileAllWith b child c e ts w) (λ w. whileAllWith b child' c e ts w)
   while-all-pair b c e [] p d = sim-short R p (KeptNext c [])
-  while-all-pair b (cell x a m) e (t ∷ ts) p d = place-pair x a m (t ∷ ts) p (λ w. whileAll child b e a e t ts w) (λ w. whileAll child' b e a e t ts w) (loop-pair R D child child' g b e a e t ts p (d .0) (d .1))
+  while-all-pair b (cell x a m) e (t ∷ ts) p d =
+      place-pair x a m (t ∷ ts) p (λ w. whileAll child b e a e t ts w) (λ w. whileAll child' b e a e t ts w) (loop-pair R D child child' g b e a e t ts p (d .0) (d .1))
 
   pub rule-pair : (b : ℕ) (k : Kind) (n : ℕ) (l : Float) (c : Cell) (e : Event) (ts : Forest) (p : R .Worlds) → Each D (shapes ts)
       → Both R p (KeptNext c ts) (λ w. ruleWith b F child k n l c e ts w) (λ w. ruleWith b F child' k n l c e ts w)
@@ -148,20 +156,24 @@ module _ (R : Pairing) (F : Format) (acts : Acts R F) (D : Shape → Type 0) (ch
   rule-pair b Select n l (cell x a m) e ts p d =
       let o : World → Out (ℕ × Forest) = λ w. sequenceAt (exchanging child) a e ts w in
       let o' : World → Out (ℕ × Forest) = λ w. sequenceAt (exchanging child') a e ts w in
-      place-pair x a m ts p (λ w. exchange (o w)) (λ w. exchange (o' w)) (exchange-pair p (KeptAt ts) o o' (seq-pair R D (exchanging child) (exchanging child') (exchanging-alike R D child child' g) e ts a p d))
+      place-pair x a m ts p (λ w. exchange (o w)) (λ w. exchange (o' w))
+      (exchange-pair p (KeptAt ts) o o' (seq-pair R D (exchanging child) (exchanging child') (exchanging-alike R D child child' g) e ts a p d))
   rule-pair b MemorylessSequence n l c e ts p d = cell-pair c ts p (λ w. memoryless child e ts w) (λ w. memoryless child' e ts w) (mem-pair R D child child' g e ts p d)
   rule-pair b MemorylessSelector n l c e ts p d =
       let o : World → Out Forest = λ w. memoryless (exchanging child) e ts w in
       let o' : World → Out Forest = λ w. memoryless (exchanging child') e ts w in
-      cell-pair c ts p (λ w. exchange (o w)) (λ w. exchange (o' w)) (exchange-pair p (Kept ts) o o' (mem-pair R D (exchanging child) (exchanging child') (exchanging-alike R D child child' g) e ts p d))
+      cell-pair c ts p (λ w. exchange (o w)) (λ w. exchange (o' w))
+      (exchange-pair p (Kept ts) o o' (mem-pair R D (exchanging child) (exchanging child') (exchanging-alike R D child child' g) e ts p d))
   rule-pair b While n l c e ts p d = while-pair b c e ts p d
   rule-pair b WhileAll n l c e ts p d = while-all-pair b c e ts p d
   rule-pair b WhenAll n l c e ts p d = cell-pair c ts p (λ w. whenAll child (largest F) e ts w) (λ w. whenAll child' (largest F) e ts w) (all-pair R D child child' g (largest F) e ts p d)
   rule-pair b WhenAny n l c e ts p d =
       let o : World → Out Forest = λ w. whenAll (exchanging child) (largest F) e ts w in
       let o' : World → Out Forest = λ w. whenAll (exchanging child') (largest F) e ts w in
-      cell-pair c ts p (λ w. exchange (o w)) (λ w. exchange (o' w)) (exchange-pair p (Kept ts) o o' (all-pair R D (exchanging child) (exchanging child') (exchanging-alike R D child child' g) (largest F) e ts p d))
-  rule-pair b After n l (cell x a m) e ts p d = place-pair x a m ts p (λ w. afterAt child (largest F) a e ts w) (λ w. afterAt child' (largest F) a e ts w) (after-pair R D child child' g (largest F) e ts a p d)
+      cell-pair c ts p (λ w. exchange (o w)) (λ w. exchange (o' w))
+      (exchange-pair p (Kept ts) o o' (all-pair R D (exchanging child) (exchanging child') (exchanging-alike R D child child' g) (largest F) e ts p d))
+  rule-pair b After n l (cell x a m) e ts p d =
+      place-pair x a m ts p (λ w. afterAt child (largest F) a e ts w) (λ w. afterAt child' (largest F) a e ts w) (after-pair R D child child' g (largest F) e ts a p d)
   rule-pair b Race n l c e ts p d = cell-pair c ts p (λ w. raceFrom child e ts w) (λ w. raceFrom child' e ts w) (race-pair R D child child' g e ts p d)
 
 -- ---- the visit of a node, around its rule

@@ -40,7 +40,8 @@ add-val f (fin false m e) nan a b v w = absurd w
 add-val f (fin false m e) (inf t) a b v w = absurd w
 add-val f (fin false m e) (fin true n d) a b v w = absurd (true≢false (w .0))
 add-val f (fin false m e) (fin false n d) a b v w =
-    round-same f false (m * up e * down d + n * up d * down e) (down e * down d) (a + b) 1 (mul-pos (down-pos e) (down-pos d)) (omega arith) (cross-add (m * up e) (n * up d) (down e) (down d) a b (v .1) (w .1))
+    round-same f false (m * up e * down d + n * up d * down e) (down e * down d) (a + b) 1 (mul-pos (down-pos e) (down-pos d)) (omega arith)
+    (cross-add (m * up e) (n * up d) (down e) (down d) a b (v .1) (w .1))
 
 pick : (f : Format) (a b c : ℕ) → b ≤ a → sum f false a true b c ≡ round f false (a - b) c
 unfolding sum

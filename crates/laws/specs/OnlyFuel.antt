@@ -1,0 +1,182 @@
+-- Answer 7 only ever means fuel: the walk would make visit fuel + 1. Each visit takes one of the fuel, so that visit is the one that finds none
+-- left; the rules are `short` there, and in clauses that no accepted cell leads to: a child that is not there, a place past its range, the depth
+-- and the loops' budget. So that the two can be told apart, that one visit gets an outcome of its own.
+use mathlib.Core.Path.{_≡_, refl, ap, subst}
+use mathlib.Core.Logic.{_⊎_, inl, inr}
+use mathlib.Core.List.{List}
+use mathlib.Core.List
+use Prim.Native.Nat.{ℕ, zero, suc, _≤_}
+use native.Mathlib.Nat.{le-of-suc-le-suc, not-suc-le-zero}
+use lib.Dec.{T}
+use lib.Ieee.{Float, Format, binary64}
+use Rattle.rules.specs.declared.status.Status.{Status}
+use Rattle.rules.specs.declared.event.Event.{Event}
+use Rattle.rules.specs.declared.answer.Answer.{Answer}
+use Rattle.rules.specs.declared.answer.Answer.the-variants.{Ticked, Asked, Finished, BadTable, TooShort, BadTime, BadAnswer, OutOfFuel, BadCell}
+use Rattle.rules.specs.Tree.{Tree, node, [], _∷_}
+use Rattle.rules.specs.Outcome.{dt, World, world, Out, done, asks, short, Ticker, _▸_}
+use Rattle.rules.specs.State.{rule, tick}
+use Rattle.rules.specs.Table.{mostDeep, good, table}
+use Rattle.rules.specs.Cells.{elapsed}
+use Rattle.rules.specs.Call.{Given, Left, answers, walked, tickCall}
+use Rattle.calls.specs.Shape.{Shape, Shapes, shape, shapes, depthOf, depthsOf, depth-of}
+use Rattle.calls.specs.Shape
+use Rattle.calls.specs.Memory.{held-shape}
+use Rattle.calls.specs.Tables.{tabled}
+use Rattle.calls.specs.View.{heldBy, walk, Walked, Why, View, walking, refusing, view}
+use Rattle.calls.specs.Walks.{walks}
+use Rattle.laws.specs.Pair.{Pairing, Sim, goes, ends, back}
+use Rattle.laws.specs.PairDrivers.{Same, Each, Alike, Any, any-each}
+use Rattle.laws.specs.PairRules.{rule-with, Acts, rule-pair, leave, visit-pair}
+use Rattle.laws.specs.Alone.{max-left, max-right}
+use Rattle.laws.specs.Live.{Live, Right, Rights, tabled-right}
+use Rattle.laws.specs.LiveDrivers.{EWorld, Post, Keeps}
+use Rattle.laws.specs.LiveLoops.{Falls, Orderly}
+use Rattle.laws.specs.LiveTicks.{visit-live, tick-falls}
+use Rattle.laws.specs.CellsGood.{event-elapsed, answers-elapsed, live-of}
+
+-- ---- the rules' tick, with `out` for the outcome of a visit that finds no fuel left
+unfoldable pub tickOr : Out Tree → Format → ℕ → Ticker
+tickOr out F zero t e w = short
+tickOr out F (suc d) t e (world zero ans) = out
+tickOr out F (suc d) (node k n l c b ts) e (world (suc f) ans) = rule F (tickOr out F d) k n l c e ts (world f ans) ▸ leave k n l
+
+-- with `short` it is the rules' own
+pub is-tick : (F : Format) (d : ℕ) (t : Tree) (e : Event) (w : World) → tickOr short F d t e w ≡ tick F d t e w
+unfolding tickOr tick
+is-tick F zero t e w = refl
+is-tick F (suc d) t e (world zero ans) = refl
+is-tick F (suc d) (node k n l c b ts) e (world (suc f) ans) = ap (λ (child : Ticker). rule F child k n l c e ts (world f ans) ▸ leave k n l) (λ i t' e' w'. is-tick F d t' e' w' i)
+
+-- the outcome o with `out` in place of `short`
+abbrev pub instead : Out Tree → Out Tree → Out Tree
+instead out (done s r t w) = done s r t w
+instead out (asks n x) = asks n x
+instead out short = out
+
+-- a tree that a table holds, at most d deep
+abbrev Fits : ℕ → Shape → Type 0
+Fits d s = Right s × (depthOf s ≤ d)
+
+fits-each : (d : ℕ) (ss : Shapes) → Rights ss → depthsOf ss ≤ d → Each (Fits d) ss
+fits-each d Shape.[] r h = tt
+fits-each d (Shape._∷_ s ss) r h = ((r .0, max-left (depthOf s) (depthsOf ss) d h), fits-each d ss (r .1) (max-right (depthOf s) (depthsOf ss) d h))
+
+-- ---- the two ticks side by side: as long as both go on, they do the same
+module _ (n : ℕ) (x : Float) where
+  abbrev Stopped : {A : Type 0} → Out A → Out A → Type 0
+  Stopped (done s r a w) o' = ⊥
+  Stopped (asks m y) o' = o' ≡ asks m y
+  Stopped short o' = (o' ≡ short) ⊎ (o' ≡ asks n x)
+
+  stopped-then : {A B : Type 0} (o o' : Out A) (c c' : Status → Float → A → World → Out B) → Stopped o o' → Stopped (o ▸ c) (o' ▸ c')
+  stopped-then (done s r a w) o' c c' h = absurd h
+  stopped-then (asks m y) o' c c' h = rw h
+  stopped-then short o' c c' h = elim h [ inl e ↦ inl (rw e) | inr e ↦ inr (rw e) ]
+
+  abbrev beside : Pairing
+  beside = record {
+    Worlds = World;
+    first = λ w m. m w;
+    second = λ w m. m w;
+    Reach = λ w w'. Unit {0};
+    stays = λ w. tt;
+    onward = λ w w' w'' h g. tt;
+    Stop = λ w o o'. Stopped o o';
+    stop-then = λ w o o' c c' h. stopped-then o o' c c' h;
+    stop-back = λ w w' o o' g h. h;
+    stop-short = λ w. inl refl;
+    first-then = λ w m c. refl;
+    second-then = λ w m c. refl;
+  }
+
+  module _ (F : Format) where
+    acts : Acts beside F
+    unfolding rule
+    acts child child' m l c e ts (world f List.[]) = ends (asks m (dt e)) (asks m (dt e)) refl
+    acts child child' m l c e ts (world f (List._∷_ a ans)) = goes (a .0) (a .1) (c, ts) (world f ans) tt (refl, refl)
+
+    tick-beside : (d : ℕ) → Alike beside Any (tick F d) (tickOr (asks n x) F d)
+    unfolding tick tickOr
+    tick-beside zero t e w u = ends short short (inl refl)
+    tick-beside (suc d) t e (world zero ans) u = ends short (asks n x) (inr refl)
+    tick-beside (suc d) (node k m l c b ts) e (world (suc f) ans) u =
+        back beside (world (suc f) ans) (world f ans) (Same (node k m l c b ts)) _ _ tt (visit-pair beside F (tick F d) (tickOr (asks n x) F d) k m l c b ts e (world f ans)
+        (rw (rule-with F (tick F d) k m l c e ts f ans, rule-with F (tickOr (asks n x) F d) k m l c e ts f ans)
+        (rule-pair beside F acts Any (tick F d) (tickOr (asks n x) F d) (tick-beside d) (suc f) k m l c e ts (world f ans) (any-each (shapes ts)))))
+
+    or-falls : (d : ℕ) → Orderly (tickOr (asks n x) F d)
+    or-falls d t e w = on (tick F d t e w) (tickOr (asks n x) F d t e w) (tick-beside d t e w tt) (tick-falls F d t e w)
+      where
+        K : Tree → Type 0
+        K t' = shape t' ≡ shape t
+
+        stop : (u u' : Out Tree) → Stopped u u' → Falls w K u'
+        stop (done s r t' w') u' q = absurd q
+        stop (asks m y) u' q = rw q tt
+        stop short u' q = elim q [ inl e' ↦ rw e' tt | inr e' ↦ rw e' tt ]
+
+        on : (o o' : Out Tree) → Sim beside w (Same t) o o' → Falls w K o → Falls w K o'
+        on o o' (goes s r t' w' h y) l = l
+        on o o' (ends u u' q) l = stop u u' q
+
+    -- ---- from accepted cells no other clause is met: with an outcome of its own for the fuel, a tick is never `short`
+    or-live : (d : ℕ) → Keeps (Fits d) ⊥ (tickOr (asks n x) F d)
+    unfolding tickOr
+    or-live zero (node k m l c b ts) e w s v ev wv = absurd (not-suc-le-zero (s .1))
+    or-live (suc d) t e (world zero ans) s v ev wv = tt
+    or-live (suc d) (node k m l c b ts) e (world (suc f) ans) s v ev wv =
+        visit-live F (Fits d) ⊥ (tickOr (asks n x) F d) (or-live d) (or-falls d) k m l c b e ts (world f ans) (s .0 .0, s .0 .1, s .0 .2)
+        (fits-each d (shapes ts) (s .0 .3) (le-of-suc-le-suc (s .1))) v ev wv
+
+    pub only-fuel : (d : ℕ) (t : Tree) (e : Event) (w : World) → Fits d (shape t) → Live t → T (elapsed (dt e)) → EWorld w → tickOr (asks n x) F d t e w ≡ instead (asks n x) (tick F d t e w)
+    only-fuel d t e w s v ev wv = on (tick F d t e w) (tickOr (asks n x) F d t e w) (tick-beside d t e w tt) (or-live d t e w s v ev wv)
+      where
+        stop : (u u' : Out Tree) → Stopped u u' → Post ⊥ Live u' → u' ≡ instead (asks n x) u
+        stop (done s' r t' w') u' q h = absurd q
+        stop (asks m y) u' q h = q
+        stop short u' q h = elim q [ inl e' ↦ absurd (subst (Post ⊥ Live) e' h) | inr e' ↦ e' ]
+
+        on : (o o' : Out Tree) → Sim beside w (Same t) o o' → Post ⊥ Live o' → o' ≡ instead (asks n x) o
+        on o o' (goes s' r t' w' g y) h = refl
+        on o o' (ends u u' q) h = stop u u' q h
+
+-- ---- the walk of a call
+abbrev pub walkOr : Out Tree → Tree → Given → Out Tree
+walkOr out t g = tickOr out binary64 mostDeep (heldBy t g) (g .event) (world (g .fuel) (answers (g .statuses) (g .leftovers)))
+
+pub walk-or : (g : Given) (t : Tree) → Walked g t → (n : ℕ) (x : Float) → walkOr (asks n x) t g ≡ instead (asks n x) (walk t g)
+walk-or g t w n x =
+    let r = tabled (g .kinds) (g .ns) (g .limits) t (w .table-good) in
+    only-fuel n x binary64 mostDeep (heldBy t g) (g .event) (world (g .fuel) (answers (g .statuses) (g .leftovers)))
+    (rw (held-shape t (g .cells')) (tabled-right t (r .0), rw (depth-of t) at (r .1))) (live-of (heldBy t g) (w .cells-good .0) (w .cells-good .1))
+    (event-elapsed (g .event) (w .time-good)) (answers-elapsed 0 (w .answers-good .0) (g .statuses) (g .leftovers) (w .answers-good .1))
+
+-- 7: the visit that finds no fuel left is met, and its outcome, whichever, is that of the walk. 0 and 1: it is not met
+abbrev pub ByFuel : Given → Tree → Answer → Type 0
+ByFuel g t OutOfFuel = (n : ℕ) (x : Float) → walkOr (asks n x) t g ≡ asks n x
+ByFuel g t (Ticked s r v u) = (n : ℕ) (x : Float) → walkOr (asks n x) t g ≡ walk t g
+ByFuel g t (Asked m y) = (n : ℕ) (x : Float) → walkOr (asks n x) t g ≡ walk t g
+ByFuel g t Finished = ⊥
+ByFuel g t (BadTable p) = ⊥
+ByFuel g t TooShort = ⊥
+ByFuel g t BadTime = ⊥
+ByFuel g t (BadAnswer i) = ⊥
+ByFuel g t (BadCell p) = ⊥
+
+pub by-fuel : (g : Given) (t : Tree) → Walked g t → ByFuel g t (tickCall g .answer)
+by-fuel g t w = rw (walks g t w) (on (walk t g) refl (walk-or g t w))
+  where
+    on : (o : Out Tree) → walk t g ≡ o → ((n : ℕ) (x : Float) → walkOr (asks n x) t g ≡ instead (asks n x) o) → ByFuel g t (walked g (heldBy t g) o .answer)
+    on (done s r t' (world f ans)) q h = rw (← q) at h
+    on (asks m y) q h = rw (← q) at h
+    on short q h = h
+
+-- so a call is answered 7 only where that visit ends its walk
+pub seven-is-fuel : (g : Given) → tickCall g .answer ≡ OutOfFuel
+    → (t : Tree) × (table (g .kinds) (g .ns) (g .limits) ≡ good t) × ((n : ℕ) (x : Float) → walkOr (asks n x) t g ≡ asks n x)
+seven-is-fuel g q = on (tickCall g) (view g) q
+  where
+    on : (l : Left) → View g l → l .answer ≡ OutOfFuel → (t : Tree) × (table (g .kinds) (g .ns) (g .limits) ≡ good t) × ((n : ℕ) (x : Float) → walkOr (asks n x) t g ≡ asks n x)
+    on l (refusing a y) e = absurd (subst (Why g) e y)
+    on l (walking t w) e = (t, w .table-good, subst (ByFuel g t) q (by-fuel g t w))
