@@ -55,7 +55,9 @@ module _ (kinds ns : List ℕ) (limits : List Float) (ends : List ℕ) (count : 
     good-ready b = record { tree = g .tree; stands = record { held = g .held; whole = b }; room = rw (g .ends-at) (g .room) }
 
     module _ (x : Float) where
-      good-call : boundCall kinds ns limits x ≡ cond (wholeTime binary64 x && leb 1 (num x) && boundable binary64 (g .tree)) (told (bound (num x) (g .tree))) says.NoBound
+      good-call :
+          boundCall kinds ns limits x ≡
+          cond (wholeTime binary64 x && leb 1 (num x) && boundable binary64 (g .tree)) (told (bound (num x) (g .tree))) says.NoBound
       unfolding boundCall
       good-call = rw (boundCall, g .is)
 
@@ -73,7 +75,10 @@ module _ (kinds ns : List ℕ) (limits : List Float) (ends : List ℕ) (count : 
           pub not-bounded : boundable binary64 (g .tree) ≡ false → says.NoBound ≡ boundCall kinds ns limits x
           not-bounded b = rw (good-call, w, ← n, above-zero, b)
 
-          pub bounded-told : boundable binary64 (g .tree) ≡ true → (r : Ticks) (a : BoundAnswer) → r ≡ clipped (bound d (g .tree)) → a ≡ told (lim r) → a ≡ boundCall kinds ns limits x
+          pub bounded-told :
+              boundable binary64 (g .tree) ≡ true →
+              (r : Ticks) (a : BoundAnswer) → r ≡ clipped (bound d (g .tree)) → a ≡ told (lim r) →
+              a ≡ boundCall kinds ns limits x
           bounded-told b r a p q = q ∙ rw (good-call, w, ← n, above-zero, b, p) (clip-told (bound d (g .tree)))
 
 -- ---- what the table check found

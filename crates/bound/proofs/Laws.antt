@@ -2,9 +2,8 @@
 use mathlib.Core.Path.{_≡_, refl, sym, ap, subst, _∙_}
 use mathlib.Core.Bool.{Bool, true, false, cond, not, _&&_}
 use mathlib.Core.List.{List}
-use mathlib.Core.List
-use Prim.Native.Nat.{ℕ, zero, suc, _+_, _-_, _≤_, _<_}
-use native.Mathlib.Nat.{le-refl, le-of-suc-le-suc, not-suc-le-zero}
+use Prim.Native.Nat.{ℕ, suc, _+_, _-_, _≤_, _<_}
+use native.Mathlib.Nat.{le-refl}
 use native.Mathlib.Numerals.{add-one}
 use native.Mathlib.Omega.{arith}
 use borrow.Author.Tests.{leb-true}
@@ -19,6 +18,7 @@ use Rattle.rules.specs.Table.{rowAllowed, countAllowed, limitAllowed}
 use Rattle.rules.specs.Bound.{Lim, within, wholeTime, ownTicks, bound, boundable, boundables}
 use Rattle.tables.specs.At.{Row, At, Ats}
 use Rattle.tables.proofs.Placed.{size-pos, at-end, ats-end}
+use Rattle.tables.proofs.Rows.{any-default}
 use Rattle.limits.specs.declared.node.Join.{Join}
 use Rattle.limits.specs.declared.ticks.Ticks.{Ticks}
 use Rattle.limits.specs.Ticks.{lim, clipped}
@@ -33,12 +33,6 @@ and-first false b e = e
 pub and-second : (a b : Bool) → (a && b) ≡ true → b ≡ true
 and-second true b e = e
 and-second false b e = cc
-
--- the default of a place that is there
-pub any-default : {A : Type 0} (l : List A) (i : ℕ) (d e : A) → i < length l → getD l i d ≡ getD l i e
-any-default List.[] i d e h = absurd (not-suc-le-zero h)
-any-default (List._∷_ x l) zero d e h = refl
-any-default (List._∷_ x l) (suc i) d e h = any-default l i d e (le-of-suc-le-suc h)
 
 -- ---- where trees end
 module _ (kinds ns : List ℕ) (limits : List Float) (ends : List ℕ) where
@@ -57,7 +51,10 @@ module _ (kinds ns : List ℕ) (limits : List Float) (ends : List ℕ) where
   room-down stop less h r = record { in-kinds = omega arith; in-ns = omega arith; in-limits = omega arith; in-ends = omega arith }
 
   -- the children of the node at q
-  pub children-stand : (q : ℕ) (k : Kind) (n : ℕ) (l : Float) (c : Cell) (b : ℕ) (ts : Forest) → Stands kinds ns limits ends q (node k n l c b ts) → Stand kinds ns limits ends (suc q) (count ts) ts (getD ends q 0)
+  pub children-stand :
+      (q : ℕ) (k : Kind) (n : ℕ) (l : Float) (c : Cell) (b : ℕ) (ts : Forest) →
+      Stands kinds ns limits ends q (node k n l c b ts) →
+      Stand kinds ns limits ends (suc q) (count ts) ts (getD ends q 0)
   unfolding boundable
   children-stand q k n l c b ts h = record { held = h .held .1; whole = and-second (rowBounded k (count ts) l) (boundables binary64 ts) (h .whole); are = refl }
 
@@ -66,7 +63,10 @@ module _ (kinds ns : List ℕ) (limits : List Float) (ends : List ℕ) where
   unfolding boundable
   one-stands q many t ts stop h = record { held = h .held .0; whole = and-first (boundable binary64 t) (boundables binary64 ts) (h .whole) }
 
-  pub rest-stand : (q many : ℕ) (t : Tree) (ts : Forest) (stop : ℕ) → Stand kinds ns limits ends q many (t ∷ ts) stop → Stand kinds ns limits ends (getD ends q 0) (many - 1) ts stop
+  pub rest-stand :
+      (q many : ℕ) (t : Tree) (ts : Forest) (stop : ℕ) →
+      Stand kinds ns limits ends q many (t ∷ ts) stop →
+      Stand kinds ns limits ends (getD ends q 0) (many - 1) ts stop
   unfolding boundable
   rest-stand q many t ts stop h = record { held = h .held .1; whole = and-second (boundable binary64 t) (boundables binary64 ts) (h .whole); are = omega (arith, h .are) }
 
@@ -74,7 +74,11 @@ module _ (kinds ns : List ℕ) (limits : List Float) (ends : List ℕ) where
   module _ (q : ℕ) (k : Kind) (n : ℕ) (l : Float) (many : ℕ) (r : Row kinds ns limits q k n l many) where
     counts : countAllowed k n ≡ true
     unfolding rowAllowed
-    counts = rw (r .kind) at (and-second (leb (getD kinds q 0) 16) (countAllowed (kindOf (getD kinds q 0)) n) (and-first (leb (getD kinds q 0) 16 && countAllowed (kindOf (getD kinds q 0)) n) (limitAllowed (kindOf (getD kinds q 0)) l) (r .allowed)))
+    counts =
+        let low = leb (getD kinds q 0) 16 in
+        let kind = kindOf (getD kinds q 0) in
+        let both = and-first (low && countAllowed kind n) (limitAllowed kind l) (r .allowed) in
+        rw (r .kind) at (and-second low (countAllowed kind n) both)
 
     few : fewest k ≤ many
     few = rw (r .kids) (leb-true (fewest k) (children k n) (and-first (leb (fewest k) (children k n)) (leb (children k n) (most k)) counts))
@@ -82,9 +86,14 @@ module _ (kinds ns : List ℕ) (limits : List Float) (ends : List ℕ) where
     enough : many ≤ most k
     enough = rw (r .kids) (leb-true (children k n) (most k) (and-second (leb (fewest k) (children k n)) (leb (children k n) (most k)) counts))
 
-  timed-whole : (q : ℕ) (k : Kind) (n : ℕ) (l : Float) (c : Cell) (b : ℕ) (ts : Forest) → Stands kinds ns limits ends q (node k n l c b ts) → timed k ≡ true → wholeTime binary64 l ≡ true
+  timed-whole :
+      (q : ℕ) (k : Kind) (n : ℕ) (l : Float) (c : Cell) (b : ℕ) (ts : Forest) →
+      Stands kinds ns limits ends q (node k n l c b ts) → timed k ≡ true →
+      wholeTime binary64 l ≡ true
   unfolding boundable
-  timed-whole q k n l c b ts h t = rw t at (and-first (cond (timed k) (wholeTime binary64 l) true) (not (is k After && eqb (count ts) 0)) (and-first (rowBounded k (count ts) l) (boundables binary64 ts) (h .whole)))
+  timed-whole q k n l c b ts h t =
+      let row = and-first (rowBounded k (count ts) l) (boundables binary64 ts) (h .whole) in
+      rw t at (and-first (cond (timed k) (wholeTime binary64 l) true) (not (is k After && eqb (count ts) 0)) row)
 
   -- ---- a node that is worked out, and what is known of it: its kind, its own ticks, its number of children
   module _ (d q : ℕ) (kind : Kind) (own : Ticks) (many : ℕ)
@@ -122,7 +131,8 @@ module _ (kinds ns : List ℕ) (limits : List Float) (ends : List ℕ) where
         let kk = same-kind k n l c b (t ∷ ts) h in
         let a' : Together k own first rest r = subst (λ (k : Kind). Together k own first rest r) kk a in
         let s : Stand kinds ns limits ends (q + 1) (suc (count ts)) (t ∷ ts) (getD ends q 0) = rw add-one (children-stand q k n l c b (t ∷ ts) h) in
-        let s' : Stand kinds ns limits ends (getD ends (q + 1) 0) (many - 1) ts (getD ends q 0) = rw (← same-count k n l c b (t ∷ ts) h) (rest-stand (q + 1) (suc (count ts)) t ts (getD ends q 0) s) in
+        let rest = rest-stand (q + 1) (suc (count ts)) t ts (getD ends q 0) s in
+        let s' : Stand kinds ns limits ends (getD ends (q + 1) 0) (many - 1) ts (getD ends q 0) = rw (← same-count k n l c b (t ∷ ts) h) rest in
         a' d n l c b t ts (omega (arith, enough q k n l (suc (count ts)) (h .held .0))) (same-own k n l c b (t ∷ ts) h)
         (f t (one-stands (q + 1) (suc (count ts)) t ts (getD ends q 0) s))
         (rw (e, kk) at (g ts (getD ends q 0) s'))
@@ -151,7 +161,10 @@ module _ (kinds ns : List ℕ) (limits : List Float) (ends : List ℕ) where
     pub first-after : q + 1 < getD ends (q + 1) 0
     pub rest-inside : after ends (many - 1) (getD ends (q + 1) 0) ≡ getD ends q 0
 
-  pub children-ready : (q : ℕ) (kind : Kind) (many : ℕ) → Ready kinds ns limits ends q → kind ≡ kindOf (getD kinds q 0) → many ≡ children kind (getD ns q 0) → (many ≡ 0 → ⊥) → Children q many
+  pub children-ready :
+      (q : ℕ) (kind : Kind) (many : ℕ) → Ready kinds ns limits ends q →
+      kind ≡ kindOf (getD kinds q 0) → many ≡ children kind (getD ns q 0) → (many ≡ 0 → ⊥) →
+      Children q many
   children-ready q kind many r k-is m-is z = go (r .tree) (r .stands)
     where
       go : (t : Tree) → Stands kinds ns limits ends q t → Children q many
@@ -183,7 +196,10 @@ module _ (kinds ns : List ℕ) (limits : List Float) (ends : List ℕ) where
       pub counted : all ≡ clipped sofar
       pub same : onto join d sofar trees ≡ onto join d (noneL join) ts
 
-    pub left-start : (all : Ticks) → all ≡ clipped (noneL join) → (ts : Forest) (stop : ℕ) → Stand kinds ns limits ends from count₀ ts stop → Left ts stop from count₀ all
+    pub left-start :
+        (all : Ticks) → all ≡ clipped (noneL join) →
+        (ts : Forest) (stop : ℕ) → Stand kinds ns limits ends from count₀ ts stop →
+        Left ts stop from count₀ all
     left-start all e ts stop s = record { trees = ts; stand = s; later = le-refl from; sofar = noneL join; counted = e; same = refl }
 
     pub left-done : (ts : Forest) (stop at left : ℕ) (all : Ticks) → left ≡ 0 → Left ts stop at left all → all ≡ clipped (joined join d ts)
@@ -198,14 +214,19 @@ module _ (kinds ns : List ℕ) (limits : List Float) (ends : List ℕ) where
             some m e = omega arith
 
     -- one tree more
-    pub left-next : (ts : Forest) (stop at left : ℕ) (all one new : Ticks) → 0 < left
-        → ((t : Tree) → Stands kinds ns limits ends at t → one ≡ clipped (bound d t))
-        → new ≡ clipped (joinL join (lim all) (lim one))
-        → Left ts stop at left all → Left ts stop (getD ends at 0) (left - 1) new
+    pub left-next :
+        (ts : Forest) (stop at left : ℕ) (all one new : Ticks) → 0 < left →
+        ((t : Tree) → Stands kinds ns limits ends at t → one ≡ clipped (bound d t)) →
+        new ≡ clipped (joinL join (lim all) (lim one)) →
+        Left ts stop at left all →
+        Left ts stop (getD ends at 0) (left - 1) new
     unfolding onto
     left-next ts stop at left all one new p f g h = go (h .trees) (h .stand) (h .same)
       where
-        go : (us : Forest) → Stand kinds ns limits ends at left us stop → onto join d (h .sofar) us ≡ onto join d (noneL join) ts → Left ts stop (getD ends at 0) (left - 1) new
+        go :
+            (us : Forest) → Stand kinds ns limits ends at left us stop →
+            onto join d (h .sofar) us ≡ onto join d (noneL join) ts →
+            Left ts stop (getD ends at 0) (left - 1) new
         go [] s e = absurd (none left p (s .are))
           where
             none : (m : ℕ) → 0 < m → 0 ≡ m → ⊥

@@ -1,6 +1,6 @@
 -- A tree has a bound or none exactly where each of its rows allows it.
 use mathlib.Core.Path.{_≡_, refl, sym, ap, _∙_}
-use mathlib.Core.Bool.{Bool, true, false, _&&_}
+use mathlib.Core.Bool.{Bool, true, false, and-false}
 use mathlib.Core.List.{List}
 use mathlib.Core.Logic.{_⊎_, inl, inr, ⊎-elim}
 use Prim.Native.Nat.{ℕ, suc, _≤_, _<_}
@@ -15,12 +15,9 @@ use Rattle.rules.specs.Kinds.{kindOf, children}
 use Rattle.rules.specs.Tree.{zeroTime, Tree, node, Forest, [], _∷_, count}
 use Rattle.rules.specs.Bound.{boundable, boundables}
 use Rattle.tables.specs.At.{Row, At, Ats}
+use Rattle.tables.proofs.Rows.{any-default}
 use Rattle.limits.specs.Node.{rowBounded}
-use Rattle.bound.proofs.Laws.{any-default, ends-after, ends-from}
-
-and-none : (a : Bool) → (a && false) ≡ false
-and-none true = refl
-and-none false = refl
+use Rattle.bound.proofs.Laws.{ends-after, ends-from}
 
 either : (a b : ℕ) → (a < b) ⊎ (b ≤ a)
 either a b = go (ltb a b) refl
@@ -41,31 +38,40 @@ module _ (kinds ns : List ℕ) (limits : List Float) where
     mutual
       unfolding boundable
 
-      pub all-rows : (q : ℕ) (t : Tree) → At kinds ns limits ends q t → getD ends q 0 ≤ top → ((i : ℕ) → q ≤ i → i < getD ends q 0 → rowAt i ≡ true) → boundable binary64 t ≡ true
+      pub all-rows :
+          (q : ℕ) (t : Tree) → At kinds ns limits ends q t → getD ends q 0 ≤ top →
+          ((i : ℕ) → q ≤ i → i < getD ends q 0 → rowAt i ≡ true) → boundable binary64 t ≡ true
       all-rows q (node k n l c b ts) h u f =
           let below = ends-after kinds ns limits ends q (node k n l c b ts) h in
           let here : rowBounded k (count ts) l ≡ true = sym (row-is q k n l (count ts) (omega arith) (h .0)) ∙ f q (le-refl q) below in
           rw (here, all-rows-of (suc q) ts (getD ends q 0) (h .1) u (λ i a b. f i (omega arith) b))
 
-      pub all-rows-of : (q : ℕ) (ts : Forest) (stop : ℕ) → Ats kinds ns limits ends q ts stop → stop ≤ top → ((i : ℕ) → q ≤ i → i < stop → rowAt i ≡ true) → boundables binary64 ts ≡ true
+      pub all-rows-of :
+          (q : ℕ) (ts : Forest) (stop : ℕ) → Ats kinds ns limits ends q ts stop → stop ≤ top →
+          ((i : ℕ) → q ≤ i → i < stop → rowAt i ≡ true) → boundables binary64 ts ≡ true
       all-rows-of q [] stop h u f = refl
       all-rows-of q (t ∷ ts) stop h u f =
           let on = ends-from kinds ns limits ends (getD ends q 0) ts stop (h .1) in
           let up = ends-after kinds ns limits ends q t (h .0) in
-          rw (all-rows q t (h .0) (omega arith) (λ i a b. f i a (omega arith)), all-rows-of (getD ends q 0) ts stop (h .1) u (λ i a b. f i (omega arith) b))
+          let first = all-rows q t (h .0) (omega arith) (λ i a b. f i a (omega arith)) in
+          rw (first, all-rows-of (getD ends q 0) ts stop (h .1) u (λ i a b. f i (omega arith) b))
 
     mutual
       unfolding boundable
 
-      pub a-row : (q : ℕ) (t : Tree) → At kinds ns limits ends q t → getD ends q 0 ≤ top → (i : ℕ) → q ≤ i → i < getD ends q 0 → rowAt i ≡ false → boundable binary64 t ≡ false
+      pub a-row :
+          (q : ℕ) (t : Tree) → At kinds ns limits ends q t → getD ends q 0 ≤ top →
+          (i : ℕ) → q ≤ i → i < getD ends q 0 → rowAt i ≡ false → boundable binary64 t ≡ false
       a-row q (node k n l c b ts) h u i from to e = ⊎-elim
           (λ (s : q ≡ i). rw (sym (row-is q k n l (count ts) (omega arith) (h .0)) ∙ ap rowAt s ∙ e))
-          (λ (s : q < i). rw (a-row-of (suc q) ts (getD ends q 0) (h .1) u i s to e) (and-none (rowBounded k (count ts) l)))
+          (λ (s : q < i). rw (a-row-of (suc q) ts (getD ends q 0) (h .1) u i s to e) (and-false (rowBounded k (count ts) l)))
           (eq-or-lt-of-le from)
 
-      pub a-row-of : (q : ℕ) (ts : Forest) (stop : ℕ) → Ats kinds ns limits ends q ts stop → stop ≤ top → (i : ℕ) → q ≤ i → i < stop → rowAt i ≡ false → boundables binary64 ts ≡ false
+      pub a-row-of :
+          (q : ℕ) (ts : Forest) (stop : ℕ) → Ats kinds ns limits ends q ts stop → stop ≤ top →
+          (i : ℕ) → q ≤ i → i < stop → rowAt i ≡ false → boundables binary64 ts ≡ false
       a-row-of q [] stop h u i from to e = absurd (omega arith)
       a-row-of q (t ∷ ts) stop h u i from to e = ⊎-elim
           (λ (s : i < getD ends q 0). rw (a-row q t (h .0) (le-trans (ends-from kinds ns limits ends (getD ends q 0) ts stop (h .1)) u) i from s e))
-          (λ (s : getD ends q 0 ≤ i). rw (a-row-of (getD ends q 0) ts stop (h .1) u i s to e) (and-none (boundable binary64 t)))
+          (λ (s : getD ends q 0 ≤ i). rw (a-row-of (getD ends q 0) ts stop (h .1) u i s to e) (and-false (boundable binary64 t)))
           (either i (getD ends q 0))

@@ -26,7 +26,8 @@ pub record Copying {A : Type 0} (l start : List A) (n i : ℕ) (m : List A) : Ty
 pub copying-start : {A : Type 0} {l start : List A} {n : ℕ} → Copying l start n 0 start
 copying-start = record { within = omega arith; is = refl; long = refl }
 
-pub copying-more : {A : Type 0} {l start : List A} {n i : ℕ} {m m′ : List A} (d : A) → (n ≤ length l) × (n ≤ length start) → Copying l start n i m → i < n → m′ ≡ set m i (getD l i d) → Copying l start n (i + 1) m′
+pub copying-more : {A : Type 0} {l start : List A} {n i : ℕ} {m m′ : List A} (d : A) → (n ≤ length l) × (n ≤ length start) → Copying l start n i m → i < n
+    → m′ ≡ set m i (getD l i d) → Copying l start n (i + 1) m′
 copying-more {l} {start} {n} {i} {m} {m′} d long c h e =
     let e′ : m′ ≡ onto (suc i) l start = rw (e, c .is) (onto-suc i l start d (omega arith) (omega arith)) in
     record { within = omega arith; is = rw add-one e′; long = ap length e′ ∙ onto-length (suc i) l start (omega arith) (omega arith) }

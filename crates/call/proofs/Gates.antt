@@ -78,6 +78,8 @@ module _ (g : Given) (ends : List ℕ) (n : ℕ) where
   -- its cells are fine, and its walk is left, or 5, 6 or 2
   pub record Held : Type 0 where
     pub fit : Fit
+    pub behind : ℕ
+    pub fine : badCell false false 0 (loaded g (fit .good .tree)) ≡ none behind
     pub is : tickCall g ≡ tickTree g (loaded g (fit .good .tree))
 
   pub record Timed : Type 0 where
@@ -123,7 +125,14 @@ module _ {g : Given} {ends : List ℕ} {n : ℕ} where
 
       pub fine-cells : r ≡ Fine → Held g ends n
       unfolding tickCall
-      fine-cells h = record { fit = t; is = rw (tickCall, t .good .is, t .good .sized, t .cells, t .spare, le-leb n (length (g .board)) (t .board), said-fine found r says h .1) }
+      fine-cells h = record {
+        fit = t;
+        is = rw
+            (tickCall, t .good .is, t .good .sized, t .cells, t .spare, le-leb n (length (g .board)) (t .board), said-fine found r says h .1);
+        behind = said-fine found r
+            says h .0;
+        fine = said-fine found r says h .1;
+      }
 
   -- ---- 5
   pub bad-time : Held g ends n → timeAllowed (g .event) ≡ false → tickCall g ≡ refused g BadTime
@@ -155,8 +164,12 @@ module _ {g : Given} {ends : List ℕ} {n : ℕ} where
           is = f .good .is;
           sized = f .good .sized;
           few = f .good .few;
-          ended = f .good .ended;
+          levels = f .good .levels;
+          held = f .good .held;
           ends-long = f .good .ends-long;
+          in-kinds = f .good .in-kinds;
+          behind = t .timed .held .behind;
+          fine = t .timed .held .fine;
           cells-long = long n (g .cells') (f .cells);
           spare-long = long n (g .spare) (f .spare);
           board-long = f .board;

@@ -1,19 +1,17 @@
 -- A table that was found good, and the tree that stands in it.
 use mathlib.Core.Path.{_≡_, refl}
 use mathlib.Core.List.{List}
-use Prim.Native.Nat.{ℕ, suc, _≤_}
+use Prim.Native.Nat.{ℕ, _≤_}
 use native.Mathlib.Omega.{arith}
 use lib.Ieee.{Float}
-use lib.ListN.{length, getD}
-use Rattle.rules.specs.Tree.{Tree, node, Forest, [], _∷_, size, depth}
+use lib.ListN.{length}
+use Rattle.rules.specs.Tree.{Tree, size, depth}
 use Rattle.rules.specs.Table.{Table, good, bad, table}
 use Rattle.tables.specs.declared.table.Checked.{Checked}
 use Rattle.tables.specs.declared.table.Checked.the-variants as checked
-use Rattle.tables.specs.At.{At, Ats}
+use Rattle.tables.specs.At.{At}
 use Rattle.tables.specs.Checks.{checkedOf, Laid, Tabled}
-use Rattle.tables.proofs.Placed.{at-end}
 use Rattle.tables.proofs.Rows.{length-rows}
-use Rattle.link.specs.Ends.{EndsAt, EndsAll}
 
 pub record Good (kinds ns : List ℕ) (limits : List Float) (ends : List ℕ) (n : ℕ) : Type 0 where
   pub tree : Tree
@@ -22,19 +20,9 @@ pub record Good (kinds ns : List ℕ) (limits : List Float) (ends : List ℕ) (n
   pub few : n ≤ 256
   pub levels : depth tree ≤ 16
   pub held : At kinds ns limits ends 0 tree
-  pub ended : EndsAt ends 0 tree
   pub ends-long : length ends ≡ 256
   pub in-kinds : n ≤ length kinds
   pub in-ns : n ≤ length ns
-
-module _ (kinds ns : List ℕ) (limits : List Float) (ends : List ℕ) where
-  mutual
-    ends-at : (t : Tree) (q : ℕ) → At kinds ns limits ends q t → EndsAt ends q t
-    ends-at (node k n l c b ts) q h = (at-end kinds ns limits (node k n l c b ts) ends q h, ends-all ts (suc q) (getD ends q 0) (h .1))
-
-    ends-all : (ts : Forest) (q stop : ℕ) → Ats kinds ns limits ends q ts stop → EndsAll ends q ts
-    ends-all [] q stop h = tt
-    ends-all (t ∷ ts) q stop h = (ends-at t q (h .0), rw (at-end kinds ns limits t ends q (h .0)) at (ends-all ts (getD ends q 0) stop (h .1)))
 
 -- what the table check found
 module _ (kinds ns : List ℕ) (limits : List Float) (ends₀ ends : List ℕ) (r : Checked) (k : Tabled kinds ns limits ends₀ ends r) where
@@ -52,7 +40,6 @@ module _ (kinds ns : List ℕ) (limits : List Float) (ends₀ ends : List ℕ) (
             few = omega (arith, l .few);
             levels = l .levels;
             held = l .placed;
-            ended = ends-at kinds ns limits ends t 0 (l .placed);
             ends-long = k .long;
             in-kinds = omega (arith, l .nodes);
             in-ns = omega (arith, l .nodes);

@@ -1,7 +1,8 @@
+pub mod Arms
 pub mod Copies
 pub mod Long
 pub mod Good
 pub mod Gates
 pub mod Resets
-pub mod Parts
+pub mod Columns
 pub mod Walks

@@ -1,35 +1,51 @@
--- The walk over the runs is the walk of the tree: what each way of it leaves is what the rules say.
-use mathlib.Core.Path.{_≡_, refl, sym, ap, _∙_}
-use mathlib.Core.Bool.{Bool, true, false, cond}
-use mathlib.Core.List.{List, _++_}
+-- The walk over the working array is the walk of the tree: what each way of it leaves is what the rules say.
+use mathlib.Core.Path.{_≡_, refl, sym, _∙_}
+use mathlib.Core.Bool.{cond}
+use mathlib.Core.List.{List, _++_, append-nil}
 use mathlib.Core.List
-use Prim.Native.Nat.{ℕ, zero, suc, _-_, _≤_, min}
-use native.Mathlib.Nat.{le-of-suc-le-suc, not-suc-le-zero}
+use Prim.Native.Nat.{ℕ, suc, _+_, _-_, _^_, _≤_, _<_, min}
+use native.Mathlib.Numerals.{sub-one}
 use native.Mathlib.Omega.{arith}
+use borrow.Author.Tests.{eq-eqb, ne-eqb}
+use types.Run.{miss}
+use lib.Dec.{eqb}
 use lib.Ieee.{Float, binary64}
-use lib.ListN.{length, take, drop, replicate, take-append-drop, length-drop}
+use lib.ListN.{length, getD, set, take, drop, replicate, take-append-drop, length-drop}
 use lib.Seq.{length-take-le, take-at}
 use Rattle.rules.specs.declared.status.Status.{Status}
+use Rattle.rules.specs.declared.status.Status.the-variants as status
+use Rattle.rules.specs.declared.event.Event.{Event}
+use Rattle.rules.specs.declared.event.Event.the-variants.{Update, Other}
 use Rattle.rules.specs.declared.answer.Answer.{Answer}
 use Rattle.rules.specs.declared.answer.Answer.the-variants.{Ticked, Asked, OutOfFuel}
 use Rattle.rules.specs.declared.answer.Record.{Record}
-use Rattle.rules.specs.Tree.{Cell, Tree, size}
-use Rattle.rules.specs.Outcome.{world, Out, done, asks, short}
+use Rattle.rules.specs.Tree.{Cell, Tree, [], _∷_, size, depth}
+use Rattle.rules.specs.Outcome.{eventOf, dt, world, Out, done, asks, short}
 use Rattle.rules.specs.State.{tick}
 use Rattle.rules.specs.Table.{mostDeep}
-use Rattle.rules.specs.Cells.{cells, column, timeOf, placeOf, markOf, boardOf}
+use Rattle.rules.specs.Cells.{cells, column, columns, timeOf, placeOf, markOf}
 use Rattle.rules.specs.Call.{Given, Run, run, left, answers, counted, ontoRun, ontoBoard, walked, tickCall}
-use Rattle.runs.specs.Runs.{State, tableOf}
-use Rattle.runs.specs.FlatRules.{ftick}
-use Rattle.drivers.specs.declared.turn.Ran.{Ran}
-use Rattle.drivers.specs.Turns.{outOf}
-use Rattle.link.specs.Shape.{same-size, with-shape, columnsOf, column-behind, time-column, place-column, mark-column}
-use Rattle.link.specs.Kept.{tick-size}
-use Rattle.link.specs.Loaded.{inColumns, whole-cut}
+use Rattle.calls.specs.Shape.{size-shape, depth-shape}
+use Rattle.calls.specs.Memory.{held-shape}
+use Rattle.work.specs.declared.result.Result.{Result}
+use Rattle.work.specs.declared.result.Seen.{Seen}
+use Rattle.work.specs.declared.result.Seen.the-variants.{Stopped, Running, Success, Failure}
+use Rattle.work.proofs.Laws.{Among}
+use Rattle.work.specs.Word as word
+use Rattle.work.specs.Array.{askedOf}
+use Rattle.work.specs.Flat.{out, seenAs, lent}
+use Rattle.work.specs.Flat as flat
+use Rattle.refine.specs.Words.{bit, working}
+use Rattle.refine.specs.Start.{fuel-left, used-up}
+use Rattle.refine.specs.Whole.{Ended, Gives, whole}
+use Rattle.load.specs.Load.{loadWords, over}
+use Rattle.load.specs.Trees.{holds, fits, put-places, put-marks, put-board}
+use Rattle.load.specs.Trees as trees
 use Rattle.call.specs.Onto.{onto, ontoCells}
 use Rattle.call.specs.Due.{loaded, Due}
-use Rattle.call.specs.Part.{part, Behind}
-use Rattle.call.specs.Told.{told}
+use Rattle.call.specs.Enter.{updates}
+use Rattle.call.specs.Told.{statusIn, toldStopped, toldDone}
+use Rattle.call.proofs.Columns.{column-behind, time-column, place-column, mark-column}
 
 -- ---- lists
 onto-same : {A : Type 0} (n : ℕ) (l m : List A) → drop n l ≡ drop n m → onto n l m ≡ l
@@ -39,38 +55,40 @@ onto-same n l m e = rw (← e) (take-append-drop n l)
 onto-back : {A : Type 0} (n : ℕ) (l spare m : List A) → n ≤ length l → drop n m ≡ drop n l → onto n (onto n l spare) m ≡ l
 onto-back n l spare m h e = rw (take-at (take n l) (drop n spare) n (length-take-le n l h), e) (take-append-drop n l)
 
-zeros : (n m : ℕ) → n ≤ m → take n (replicate m 0) ≡ replicate {A = ℕ} n 0
-zeros zero m h = refl
-zeros (suc n) zero h = absurd (not-suc-le-zero h)
-zeros (suc n) (suc m) h = ap (λ l. List._∷_ 0 l) (zeros n m (le-of-suc-le-suc h))
+-- ---- statuses
+status-back : (s : Status) → statusIn (seenAs s) ≡ s
+status-back status.Running = refl
+status-back status.Success = refl
+status-back status.Failure = refl
 
--- ---- how a walk over the runs ends
-record Ended (o : Out Tree) (r : Ran) (answers : List (Status × Float)) (S : State) : Type 0 where
-  tree : Tree
-  is : o ≡ done (r .status) (r .left) tree (world (r .fuel) (drop (r .used) answers))
-  columns : columnsOf tree ≡ S
+-- a walk that has not stopped
+abbrev pub Goes : Seen → Type 0
+Goes s = (t : Status) × (s ≡ seenAs t)
 
-ended : (o : Out Tree) (r : Ran) (answers : List (Status × Float)) (S : State) → inColumns o ≡ outOf answers r S → r .done ≡ true → Ended o r answers S
-unfolding outOf
-ended (done s x t w) r answers S e d = let f = rw d at e in record { tree = t; is = cc; columns = cc }
-ended (asks n x) r answers S e d = let f = rw d at e in absurd (let z : _≡_ {A = ℕ} 0 1 = cc in omega arith)
-ended short r answers S e d = let f = rw d at e in absurd (let z : _≡_ {A = ℕ} 0 1 = cc in omega arith)
+no-goes : Goes Stopped → ⊥
+no-goes (status.Running, e) = let z : _≡_ {A = ℕ} 0 1 = cc in omega arith
+no-goes (status.Success, e) = let z : _≡_ {A = ℕ} 0 1 = cc in omega arith
+no-goes (status.Failure, e) = let z : _≡_ {A = ℕ} 0 1 = cc in omega arith
 
--- a question, or too little fuel
-abbrev stopped : Ran → Out Tree
-stopped r = cond (r .asked) (asks (r .action) (r .left)) short
+pub goes-told : (s : Seen) → Among (List._∷_ 1 (List._∷_ 2 (List._∷_ 3 List.[]))) s → Goes s
+goes-told Stopped h = absurd (miss (List._∷_ 1 (List._∷_ 2 (List._∷_ 3 List.[]))) 0 tt h)
+goes-told Running h = (status.Running, refl)
+goes-told Success h = (status.Success, refl)
+goes-told Failure h = (status.Failure, refl)
 
-stops : (o : Out Tree) (r : Ran) (answers : List (Status × Float)) (S : State) → inColumns o ≡ outOf answers r S → r .done ≡ false → o ≡ stopped r
-unfolding outOf
-stops o r answers S e d = go (r .asked) o (rw d at e)
-  where
-    go : (b : Bool) (o : Out Tree) → inColumns o ≡ cond b (asks (r .action) (r .left)) short → o ≡ cond b (asks (r .action) (r .left)) short
-    go true (done s x t w) e = cc
-    go true (asks n x) e = cc
-    go true short e = cc
-    go false (done s x t w) e = cc
-    go false (asks n x) e = cc
-    go false short e = refl
+goes-not : {s : Seen} {l l₁ : Float} {ws ws₁ : List ℕ} {ts ts₁ : List Float} → out s l ws ts ≡ out Stopped l₁ ws₁ ts₁ → Goes s → ⊥
+goes-not {s} e g = let f : s ≡ Stopped = cc in no-goes (rw f at g)
+
+stops-not : {s : Seen} {l l₁ : Float} {ws ws₁ : List ℕ} {ts ts₁ : List Float} (t : Status) → out s l ws ts ≡ out (seenAs t) l₁ ws₁ ts₁ → s ≡ Stopped → ⊥
+stops-not t e f = no-goes (t, cc)
+
+-- an event in two parts, whether it is an update and the dt that it carries, is that event
+parted : (e : Event) → eventOf (updates e) (dt e) ≡ e
+parted (Update x) = refl
+parted Other = refl
+
+asked-number : (a : ℕ) (ns : List ℕ) (p m : ℕ) (x : Float) → a ≡ suc p → getD ns p 0 ≡ m → cond (eqb a 0) OutOfFuel (Asked (getD ns (a - 1) 0) x) ≡ Asked m x
+asked-number a ns p m x e f = rw (ne-eqb a 0 (λ z. omega arith), e, sub-one (suc p), f)
 
 -- ---- columns
 column-front : {A : Type 0} (f : Cell → ℕ → A) (t : Tree) (n : ℕ) (front m : List A) → size t ≡ n → column f t List.[] ≡ front → column f t (drop (size t) m) ≡ front ++ drop n m
@@ -87,98 +105,140 @@ module _ {g : Given} {ends : List ℕ} {n : ℕ} (due : Due g ends n) where
   outcome = tick binary64 mostDeep tree (g .event) (world (g .fuel) given-answers)
 
   tree-size : size tree ≡ n
-  tree-size = same-size tree (due .tree) (with-shape (due .tree) _) ∙ due .sized
+  tree-size = size-shape tree (due .tree) (held-shape (due .tree) (g .cells')) ∙ due .sized
+
+  tree-deep : depth tree ≤ mostDeep
+  tree-deep = rw (depth-shape tree (due .tree) (held-shape (due .tree) (g .cells'))) (due .levels)
+
+  module _ where
+    long-times : size (due .tree) ≤ length (g .cells' .times)
+    long-times = rw (due .sized) (due .cells-long .times)
+
+    long-places : size (due .tree) ≤ length (g .cells' .places)
+    long-places = rw (due .sized) (due .cells-long .places)
+
+    long-marks : size (due .tree) ≤ length (g .cells' .marks)
+    long-marks = rw (due .sized) (due .cells-long .marks)
 
   -- the spare has the cells at entry
   spared : ontoRun tree (g .spare) ≡ ontoCells n (g .cells') (g .spare)
   unfolding ontoRun
   spared =
       let c = g .cells' in
-      let l = due .cells-long in
-      let a : size (due .tree) ≤ length (c .times) = rw (due .sized) (l .times) in
-      let b : size (due .tree) ≤ length (c .places) = rw (due .sized) (l .places) in
-      let d : size (due .tree) ≤ length (c .marks) = rw (due .sized) (l .marks) in
       rw tree-size λ i. run
-      (rw (due .sized) at (time-column (due .tree) (c .times) (c .places) (c .marks) a b d (drop n (g .spare .times))) i)
-      (rw (due .sized) at (place-column (due .tree) (c .times) (c .places) (c .marks) a b d (drop n (g .spare .places))) i)
-      (rw (due .sized) at (mark-column (due .tree) (c .times) (c .places) (c .marks) a b d (drop n (g .spare .marks))) i)
+      (rw (due .sized) at (time-column (due .tree) (c .times) (c .places) (c .marks) long-times long-places long-marks (drop n (g .spare .times))) i)
+      (rw (due .sized) at (place-column (due .tree) (c .times) (c .places) (c .marks) long-times long-places long-marks (drop n (g .spare .places))) i)
+      (rw (due .sized) at (mark-column (due .tree) (c .times) (c .places) (c .marks) long-times long-places long-marks (drop n (g .spare .marks))) i)
 
-  module _ (r : Ran) (c : Run) (seen : List ℕ)
-      (walk : ftick binary64 (tableOf (g .kinds) (g .ns) (g .limits) ends) mostDeep 0 (part n (g .cells') (replicate 256 0)) (g .event) (world (g .fuel) given-answers) ≡ outOf given-answers r (part n c seen))
-      (behind : Behind n (g .cells') c)
-      (a : Answer) (lent : ℕ) (all : lent ≡ length given-answers) (says : a ≡ told r (g .fuel) lent)
+  times-at-entry : column timeOf tree List.[] ≡ take n (g .cells' .times)
+  times-at-entry = rw (due .sized, append-nil) at (time-column (due .tree) (g .cells' .times) (g .cells' .places) (g .cells' .marks) long-times long-places long-marks List.[])
+
+  module _ (r : Result) (ws₀ ws : List ℕ) (ts : List Float)
+      (load : ws₀ ≡ loadWords (g .kinds) ends (g .cells' .places) (g .cells' .marks) 0 n (replicate 260 0))
+      (walk : flat.tick binary64 (lent (g .limits) (g .statuses) (g .leftovers)) mostDeep 0 (dt (g .event))
+      (set (set ws₀ 256 (g .fuel)) 259 (bit (updates (g .event)))) (take n (g .cells' .times))
+      ≡ out (r .seen) (r .left) ws (take n ts))
+      (behind : drop n ts ≡ drop n (g .cells' .times))
+      (small : g .fuel < 2 ^ 32)
       (spare : Run) (copied : spare ≡ ontoCells n (g .cells') (g .spare)) where
-    in-columns : inColumns outcome ≡ outOf given-answers r (part n c seen)
-    in-columns =
-        let x = g .cells' in
-        let l = due .cells-long in
-        let whole = whole-cut binary64 (g .kinds) (g .ns) (g .limits) ends (x .times) (x .places) (x .marks) mostDeep (g .event) (world (g .fuel) given-answers) (due .tree) (due .is) (due .ended) (rw (due .sized) (l .times)) (rw (due .sized) (l .places)) (rw (due .sized) (l .marks)) in
-        sym (rw (due .sized, ← zeros n 256 (due .few)) at whole) ∙ walk
+    abbrev Given-out : Out Tree → Type 0
+    Given-out o = Gives (g .ns) (g .statuses) (g .leftovers) (g .fuel) (updates (g .event)) List.[] n o (out (r .seen) (r .left) ws (take n ts))
+
+    words-loaded : set (set ws₀ 256 (g .fuel)) 259 (bit (updates (g .event))) ≡ working tree (g .fuel) 0 (updates (g .event))
+    words-loaded =
+        let few : size (due .tree) ≤ 256 = rw (due .sized) (due .few) in
+        rw (load, ← due .sized) (trees.loaded (g .kinds) (g .ns) (g .limits) ends (g .cells' .times) (g .cells' .places) (g .cells' .marks) (due .tree) (g .fuel)
+        (updates (g .event)) (due .held) few long-times long-places long-marks)
+
+    given-out : Given-out outcome
+    given-out =
+        let cs = cells (g .cells' .times) (g .cells' .places) (g .cells' .marks) in
+        let h = holds (g .kinds) (g .ns) (g .limits) ends (due .tree) cs (due .held) in
+        let f = fits (g .kinds) (g .ns) (g .limits) ends (due .tree) cs (due .behind) (due .held) (due .fine) in
+        let w = whole binary64 (g .ns) (g .limits) (g .statuses) (g .leftovers) tree (updates (g .event)) (dt (g .event)) (g .fuel) List.[] h f tree-deep (rw tree-size (due .few)) small in
+        rw (parted (g .event), ← words-loaded, times-at-entry, walk, tree-size) at w
 
     spare-left : ontoRun tree (g .spare) ≡ spare
     spare-left = spared ∙ sym copied
 
-    -- a walk to its end
-    module _ (d : r .done ≡ true) where
-      end : Ended outcome r given-answers (part n c seen)
-      end = ended outcome r given-answers (part n c seen) in-columns d
+    -- ---- a walk to its end
+    module _ (goes : Goes (r .seen)) (a : Answer) (lent : ℕ) (all : lent ≡ length given-answers) (says : a ≡ toldDone ws r (g .fuel) lent)
+        (rec : Record) (counts : rec ≡ counted (statusIn (r .seen)) (g .record'))
+        (ps ms bs : List ℕ) (puts : ps ≡ over word.placeOf n ws (g .cells' .places)) (putm : ms ≡ over word.markOf n ws (g .cells' .marks)) (putb : bs ≡ over word.seenOf n ws (g .board)) where
+      module _ (s : Status) (x : Float) (t : Tree) (f : ℕ) (ans : List (Status × Float))
+          (e : Ended (g .statuses) (g .leftovers) (g .fuel) (updates (g .event)) List.[] n s x t f ans (out (r .seen) (r .left) ws (take n ts))) where
+        seen-is : r .seen ≡ seenAs s
+        seen-is = let f = e .is in cc
 
-      end-size : size (end .tree) ≡ n
-      end-size = tick-size binary64 mostDeep tree (end .tree) (g .event) (world (g .fuel) given-answers) _ (r .status) (r .left) (end .is) ∙ tree-size
+        left-is : r .left ≡ x
+        left-is = let f = e .is in cc
 
-      times-left : column timeOf (end .tree) List.[] ≡ take n (c .times)
-      unfolding columnsOf
-      times-left = ap (λ (S : State). S .times) (end .columns)
+        words-are : ws ≡ working t f (e .used) (updates (g .event))
+        words-are = let f = e .is in cc
 
-      places-left : column placeOf (end .tree) List.[] ≡ take n (c .places)
-      unfolding columnsOf
-      places-left = ap (λ (S : State). S .places) (end .columns)
+        times-are : column timeOf t List.[] ≡ take n ts
+        times-are = let f = e .is in cc
 
-      marks-left : column markOf (end .tree) List.[] ≡ take n (c .marks)
-      unfolding columnsOf
-      marks-left = ap (λ (S : State). S .marks) (end .columns)
+        few : size t ≤ 256
+        few = omega (arith, e .sized, due .few)
 
-      board-left : column boardOf (end .tree) List.[] ≡ take n seen
-      unfolding columnsOf
-      board-left = ap (λ (S : State). S .board) (end .columns)
+        used : length given-answers - length ans ≡ min (e .used) lent
+        used = rw (e .left, length-drop (e .used) given-answers, all) (omega arith)
 
-      cells-left : ontoRun (end .tree) (g .cells') ≡ c
-      unfolding ontoRun
-      cells-left = λ i. run
-          ((column-front timeOf (end .tree) n (take n (c .times)) (g .cells' .times) end-size times-left ∙ onto-same n (c .times) (g .cells' .times) (behind .times)) i)
-          ((column-front placeOf (end .tree) n (take n (c .places)) (g .cells' .places) end-size places-left ∙ onto-same n (c .places) (g .cells' .places) (behind .places)) i)
-          ((column-front markOf (end .tree) n (take n (c .marks)) (g .cells' .marks) end-size marks-left ∙ onto-same n (c .marks) (g .cells' .marks) (behind .marks)) i)
+        says-ticked : Ticked s x (g .fuel - f) (length given-answers - length ans) ≡ a
+        says-ticked = rw (says, seen-is, status-back s, left-is, words-are, fuel-left t f (e .used) (updates (g .event)) few, used-up t f (e .used) (updates (g .event)) few, used)
 
-      seen-left : ontoBoard (end .tree) (g .board) ≡ onto n seen (g .board)
-      unfolding ontoBoard
-      seen-left = column-front boardOf (end .tree) n (take n seen) (g .board) end-size board-left
+        places-left : column placeOf t (drop (size t) (g .cells' .places)) ≡ ps
+        places-left = rw (puts, words-are, ← e .sized) (sym (put-places t f (e .used) (updates (g .event)) (g .cells' .places) (e .fits) few))
 
-      used : length given-answers - length (drop (r .used) given-answers) ≡ min (r .used) lent
-      used = rw (length-drop (r .used) given-answers, all) (omega arith)
+        marks-left : column markOf t (drop (size t) (g .cells' .marks)) ≡ ms
+        marks-left = rw (putm, words-are, ← e .sized) (sym (put-marks t f (e .used) (updates (g .event)) (g .cells' .marks) (e .fits) few))
 
-      says-ticked : Ticked (r .status) (r .left) (g .fuel - r .fuel) (length given-answers - length (drop (r .used) given-answers)) ≡ a
-      says-ticked = rw (says, d, used)
+        board-left : ontoBoard t (g .board) ≡ bs
+        unfolding ontoBoard
+        board-left = rw (putb, words-are, ← e .sized) (sym (put-board t f (e .used) (updates (g .event)) (g .board) (e .fits) few))
 
-      pub carried : (rec : Record) (board : List ℕ) → rec ≡ counted (r .status) (g .record') → board ≡ onto n seen (g .board) → tickCall g ≡ left a rec c spare board
-      carried rec board counts shows = due .walks ∙ ap (walked g tree) (end .is) ∙ λ i. left (says-ticked i) (sym counts i) (cells-left i) (spare-left i) ((seen-left ∙ sym shows) i)
+        cells-left : ontoRun t (g .cells') ≡ run ts ps ms
+        unfolding ontoRun
+        cells-left = λ i. run
+            ((column-front timeOf t n (take n ts) (g .cells' .times) (e .sized) times-are ∙ onto-same n ts (g .cells' .times) behind) i)
+            (places-left i)
+            (marks-left i)
 
-    -- a question, or too little fuel: the cells are put back
-    module _ (d : r .done ≡ false) where
-      stop : (b : Bool) → walked g tree (cond b (asks (r .action) (r .left)) short) ≡ left (cond b (Asked (r .action) (r .left)) OutOfFuel) (g .record') (g .cells') (ontoRun tree (g .spare)) (g .board)
-      stop true = refl
-      stop false = refl
+        counts-left : counted s (g .record') ≡ rec
+        counts-left = rw (counts, seen-is, status-back s)
 
-      says-stopped : cond (r .asked) (Asked (r .action) (r .left)) OutOfFuel ≡ a
-      says-stopped = rw (says, d)
+        ends-so : walked g tree (done s x t (world f ans)) ≡ left a rec (run ts ps ms) spare bs
+        ends-so = λ i. left (says-ticked i) (counts-left i) (cells-left i) (spare-left i) (board-left i)
 
-      cells-back : (cells : Run) → cells ≡ ontoCells n spare c → g .cells' ≡ cells
-      cells-back cells e =
-          let x = g .cells' in
-          let l = due .cells-long in
-          rw (e, copied) λ i. run
-          (sym (onto-back n (x .times) (g .spare .times) (c .times) (l .times) (behind .times)) i)
-          (sym (onto-back n (x .places) (g .spare .places) (c .places) (l .places) (behind .places)) i)
-          (sym (onto-back n (x .marks) (g .spare .marks) (c .marks) (l .marks) (behind .marks)) i)
+      goes-so : (o : Out Tree) → Given-out o → walked g tree o ≡ left a rec (run ts ps ms) spare bs
+      goes-so (done s x t (world f ans)) e = ends-so s x t f ans e
+      goes-so (asks m x) e = absurd (goes-not (e .is) goes)
+      goes-so short e = absurd (goes-not (e .is) goes)
 
-      pub put-back : (cells : Run) → cells ≡ ontoCells n spare c → tickCall g ≡ left a (g .record') cells spare (g .board)
-      put-back cells e = due .walks ∙ ap (walked g tree) (stops outcome r given-answers (part n c seen) in-columns d) ∙ stop (r .asked) ∙ λ i. left (says-stopped i) (g .record') (cells-back cells e i) (spare-left i) (g .board)
+      pub carried : tickCall g ≡ left a rec (run ts ps ms) spare bs
+      carried = due .walks ∙ goes-so outcome given-out
+
+    -- ---- a question, or too little fuel: the times are put back
+    module _ (stopped : r .seen ≡ Stopped) (a : Answer) (says : a ≡ toldStopped ws (g .ns) r) (back : List Float) (puts : back ≡ onto n (spare .times) ts) where
+      times-back : g .cells' .times ≡ back
+      times-back = rw (puts, copied) (sym (onto-back n (g .cells' .times) (g .spare .times) ts (due .cells-long .times) behind))
+
+      cells-back : g .cells' ≡ run back (g .cells' .places) (g .cells' .marks)
+      cells-back = λ i. run (times-back i) (g .cells' .places) (g .cells' .marks)
+
+      stops : (o : Out Tree) → Given-out o → walked g tree o ≡ left a (g .record') (run back (g .cells' .places) (g .cells' .marks)) spare (g .board)
+      stops (done s x t (world f ans)) e = absurd (stops-not s (e .is) stopped)
+      stops (asks m x) e =
+          let asking : a ≡ Asked m x =
+          let w : ws ≡ e .words = (let i = e .is in cc) in
+          let l : r .left ≡ x = (let i = e .is in cc) in
+          rw (says, l) (asked-number (askedOf ws) (g .ns) (e .place) m x (rw w (e .asked)) (e .number)) in
+          λ i. left (sym asking i) (g .record') (cells-back i) (spare-left i) (g .board)
+      stops short e =
+          let w : ws ≡ e .words = (let i = e .is in cc) in
+          let out-of-fuel : a ≡ OutOfFuel = rw (says, eq-eqb (askedOf ws) 0 (rw w (e .asked))) in
+          λ i. left (sym out-of-fuel i) (g .record') (cells-back i) (spare-left i) (g .board)
+
+      pub put-back : tickCall g ≡ left a (g .record') (run back (g .cells' .places) (g .cells' .marks)) spare (g .board)
+      put-back = due .walks ∙ stops outcome given-out

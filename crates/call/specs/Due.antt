@@ -1,16 +1,17 @@
 -- What the checks before a walk leave of a call: a refusal, or the walk.
 use mathlib.Core.Path.{_≡_}
+use mathlib.Core.Bool.{false}
 use mathlib.Core.List.{List}
 use Prim.Native.Nat.{ℕ, _≤_}
 use lib.Ieee.{binary64}
 use lib.ListN.{length}
-use Rattle.rules.specs.Tree.{Tree, size}
+use Rattle.rules.specs.Tree.{Tree, size, depth}
 use Rattle.rules.specs.Outcome.{world}
 use Rattle.rules.specs.State.{tick}
 use Rattle.rules.specs.Table.{mostDeep, good, table}
-use Rattle.rules.specs.Cells.{cells, withCells}
+use Rattle.rules.specs.Cells.{cells, withCells, none, badCell}
 use Rattle.rules.specs.Call.{Given, Left, answers, refused, walked, tickCall}
-use Rattle.link.specs.Ends.{EndsAt}
+use Rattle.tables.specs.At.{At}
 use Rattle.call.specs.declared.gate.Gate.{Gate}
 use Rattle.call.specs.declared.gate.Gate.the-variants.{Refused, Open}
 use Rattle.call.specs.Onto.{Long}
@@ -28,8 +29,12 @@ pub record Due (g : Given) (ends : List ℕ) (n : ℕ) : Type 0 where
   pub is : table (g .kinds) (g .ns) (g .limits) ≡ good tree
   pub sized : size tree ≡ n
   pub few : n ≤ 256
-  pub ended : EndsAt ends 0 tree
+  pub levels : depth tree ≤ mostDeep
+  pub held : At (g .kinds) (g .ns) (g .limits) ends 0 tree
   pub ends-long : length ends ≡ 256
+  pub in-kinds : n ≤ length (g .kinds)
+  pub behind : ℕ
+  pub fine : badCell false false 0 (loaded g tree) ≡ none behind
   pub cells-long : Long n (g .cells')
   pub spare-long : Long n (g .spare)
   pub board-long : n ≤ length (g .board)

@@ -1,4 +1,4 @@
 pub mod Onto
 pub mod Due
-pub mod Part
+pub mod Enter
 pub mod Told

@@ -5,7 +5,7 @@ ghost use lib.ListN.{length};
 ghost use Rattle.rules.specs.Call.{run};
 ghost use Rattle.call.specs.Onto.{onto, Long, ontoCells};
 
-fn copy_times(from: &[f64], to: &mut [f64], n: usize)
+pub fn copy_times(from: &[f64], to: &mut [f64], n: usize)
     requires { ⌜ (n ≤ length (now from)) × (n ≤ length (now to)) ⌝ }
     ensures { λ _. ⌜ now (to .exit) ≡ onto n (now (from .entry)) (now (to .entry)) ⌝ }
 {
@@ -27,8 +27,7 @@ fn copy_places(from: &[u16], to: &mut [u16], n: usize)
     }
 }
 
-// Marks, or a board.
-pub fn copy_marks(from: &[u8], to: &mut [u8], n: usize)
+fn copy_marks(from: &[u8], to: &mut [u8], n: usize)
     requires { ⌜ (n ≤ length (now from)) × (n ≤ length (now to)) ⌝ }
     ensures { λ _. ⌜ now (to .exit) ≡ onto n (now (from .entry)) (now (to .entry)) ⌝ }
 {
@@ -50,7 +49,11 @@ pub fn copy_cells(
 )
     requires { ⌜ Long n (run (now times) (now places) (now marks)) ⌝ }
     requires { ⌜ Long n (run (now «to_times») (now «to_places») (now «to_marks»)) ⌝ }
-    ensures { λ _. ⌜ run (now («to_times» .exit)) (now («to_places» .exit)) (now («to_marks» .exit)) ≡ ontoCells n (run (now (times .entry)) (now (places .entry)) (now (marks .entry))) (run (now («to_times» .entry)) (now («to_places» .entry)) (now («to_marks» .entry))) ⌝ }
+    ensures { λ _. ⌜
+        run (now («to_times» .exit)) (now («to_places» .exit)) (now («to_marks» .exit))
+        ≡ ontoCells n (run (now (times .entry)) (now (places .entry)) (now (marks .entry)))
+        (run (now («to_times» .entry)) (now («to_places» .entry)) (now («to_marks» .entry)))
+        ⌝ }
 {
     copy_times(times, to_times, n);
     copy_places(places, to_places, n);

@@ -67,7 +67,12 @@ pub fn checks(
     leftovers: &[f64],
 ) -> Gate
     requires { ⌜ length (now ends) ≡ 256 ⌝ }
-    ensures { λ r. ⌜ ((fuel : ℕ) → Passed (given «record» (now (kinds .entry)) (now (ns .entry)) (now (limits .entry)) (run (now (times .entry)) (now (places .entry)) (now (marks .entry))) (run (now («spare_times» .entry)) (now («spare_places» .entry)) (now («spare_marks» .entry))) (now (board .entry)) event fuel (now (statuses .entry)) (now (leftovers .entry))) (now (ends .exit)) r) ⌝ }
+    ensures { λ r. ⌜
+        ((fuel : ℕ) → Passed (given «record» (now (kinds .entry)) (now (ns .entry)) (now (limits .entry))
+        (run (now (times .entry)) (now (places .entry)) (now (marks .entry)))
+        (run (now («spare_times» .entry)) (now («spare_places» .entry)) (now («spare_marks» .entry))) (now (board .entry)) event fuel (now (statuses .entry))
+        (now (leftovers .entry))) (now (ends .exit)) r)
+        ⌝ }
 {
     match check_table(kinds, ns, limits, ends) {
         Checked::Bad(p) => Gate::Refused(Answer::BadTable(p)),

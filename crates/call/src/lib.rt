@@ -1,16 +1,18 @@
 // The calls by value: the checks, then the walk, in place, with the cells at entry in the spare.
 // Whoever keeps the record gets it back with the answer.
 mod copy;
+mod enter;
 mod gate;
-mod part;
 mod told;
 
 use copy::copy_cells;
-use copy::copy_marks;
+use copy::copy_times;
+use enter::enter;
 use gate::Gate;
 use gate::checks;
 use gate::long_enough;
-use part::walk_part;
+use load::load;
+use load::put_back;
 use rules::Answer;
 use rules::Event;
 use rules::Record;
@@ -20,7 +22,9 @@ use tables::Checked;
 use tables::check_table;
 use told::counted;
 use told::lent;
-use told::told;
+use told::told_done;
+use told::told_stopped;
+use work::Seen;
 ghost use mathlib.Core.Path.{_≡_};
 ghost use Rattle.rules.specs.Call.{run, given, left, tickCall, resetLeft, resetCall};
 ghost use Rattle.call.specs.Due.{Due};
@@ -35,7 +39,8 @@ pub struct WasReset {
     pub record: Record,
 }
 
-// A walk that a question or too little fuel ends leaves cells and board as they were.
+// A walk that a question or too little fuel ends leaves cells and board as they were: only times were
+// changed in place, and come back from the spare.
 fn carry_out(
     record: Record,
     kinds: &[u8],
@@ -55,8 +60,16 @@ fn carry_out(
     leftovers: &[f64],
     n: usize,
 ) -> Called
-    requires { ⌜ Due (given «record» (now kinds) (now ns) (now limits) (run (now times) (now places) (now marks)) (run (now «spare_times») (now «spare_places») (now «spare_marks»)) (now board) event fuel (now statuses) (now leftovers)) (now ends) n ⌝ }
-    ensures { λ r. ⌜ tickCall (given «record» (now (kinds .entry)) (now (ns .entry)) (now (limits .entry)) (run (now (times .entry)) (now (places .entry)) (now (marks .entry))) (run (now («spare_times» .entry)) (now («spare_places» .entry)) (now («spare_marks» .entry))) (now (board .entry)) event fuel (now (statuses .entry)) (now (leftovers .entry))) ≡ left (r .answer) (r .record) (run (now (times .exit)) (now (places .exit)) (now (marks .exit))) (run (now («spare_times» .exit)) (now («spare_places» .exit)) (now («spare_marks» .exit))) (now (board .exit)) ⌝ }
+    requires { ⌜
+        Due (given «record» (now kinds) (now ns) (now limits) (run (now times) (now places) (now marks))
+        (run (now «spare_times») (now «spare_places») (now «spare_marks»)) (now board) event fuel (now statuses) (now leftovers)) (now ends) n
+        ⌝ }
+    ensures { λ r. ⌜
+        tickCall (given «record» (now (kinds .entry)) (now (ns .entry)) (now (limits .entry)) (run (now (times .entry)) (now (places .entry)) (now (marks .entry)))
+        (run (now («spare_times» .entry)) (now («spare_places» .entry)) (now («spare_marks» .entry))) (now (board .entry)) event fuel (now (statuses .entry))
+        (now (leftovers .entry))) ≡ left (r .answer) (r .record) (run (now (times .exit)) (now (places .exit)) (now (marks .exit))) (run (now («spare_times» .exit))
+        (now («spare_places» .exit)) (now («spare_marks» .exit))) (now (board .exit))
+        ⌝ }
 {
     copy_cells(
         times,
@@ -67,41 +80,31 @@ fn carry_out(
         spare_marks,
         n,
     );
-    let mut seen = [0u8; 256];
-    let r = walk_part(
-        kinds,
-        ns,
+    let mut work = [0u32; 260];
+    load(&mut work, kinds, ends, places, marks, n);
+    let result = enter(
+        &mut work,
         limits,
-        ends,
         statuses,
         leftovers,
         times,
-        places,
-        marks,
-        &mut seen,
         n,
         event,
         fuel,
     );
-    let answer = told(r, fuel, lent(statuses, leftovers));
-    if r.done {
-        copy_marks(&seen, board, n);
-        let status = r.status;
+    let seen = result.seen;
+    if let Seen::Stopped = seen {
+        copy_times(spare_times, times, n);
         return Called {
-            answer,
-            record: counted(record, status),
+            answer: told_stopped(&work, ns, result),
+            record,
         };
     }
-    copy_cells(
-        spare_times,
-        spare_places,
-        spare_marks,
-        times,
-        places,
-        marks,
-        n,
-    );
-    Called { answer, record }
+    put_back(&work, places, marks, board, n);
+    Called {
+        answer: told_done(&work, result, fuel, lent(statuses, leftovers)),
+        record: counted(record, result),
+    }
 }
 
 // A tick: the checks, then the walk.
@@ -122,7 +125,12 @@ pub fn tick_value(
     statuses: &[u8],
     leftovers: &[f64],
 ) -> Called
-    ensures { λ r. ⌜ tickCall (given «record» (now (kinds .entry)) (now (ns .entry)) (now (limits .entry)) (run (now (times .entry)) (now (places .entry)) (now (marks .entry))) (run (now («spare_times» .entry)) (now («spare_places» .entry)) (now («spare_marks» .entry))) (now (board .entry)) event fuel (now (statuses .entry)) (now (leftovers .entry))) ≡ left (r .answer) (r .record) (run (now (times .exit)) (now (places .exit)) (now (marks .exit))) (run (now («spare_times» .exit)) (now («spare_places» .exit)) (now («spare_marks» .exit))) (now (board .exit)) ⌝ }
+    ensures { λ r. ⌜
+        tickCall (given «record» (now (kinds .entry)) (now (ns .entry)) (now (limits .entry)) (run (now (times .entry)) (now (places .entry)) (now (marks .entry)))
+        (run (now («spare_times» .entry)) (now («spare_places» .entry)) (now («spare_marks» .entry))) (now (board .entry)) event fuel (now (statuses .entry))
+        (now (leftovers .entry))) ≡ left (r .answer) (r .record) (run (now (times .exit)) (now (places .exit)) (now (marks .exit))) (run (now («spare_times» .exit))
+        (now («spare_places» .exit)) (now («spare_marks» .exit))) (now (board .exit))
+        ⌝ }
 {
     let mut ends = [0u16; 256];
     match checks(
@@ -175,7 +183,10 @@ pub fn reset_value(
     places: &mut [u16],
     marks: &mut [u8],
 ) -> WasReset
-    ensures { λ r. ⌜ resetCall (now (kinds .entry)) (now (ns .entry)) (now (limits .entry)) «record» (run (now (times .entry)) (now (places .entry)) (now (marks .entry))) ≡ resetLeft (r .answer) (r .record) (run (now (times .exit)) (now (places .exit)) (now (marks .exit))) ⌝ }
+    ensures { λ r. ⌜
+        resetCall (now (kinds .entry)) (now (ns .entry)) (now (limits .entry)) «record» (run (now (times .entry)) (now (places .entry)) (now (marks .entry)))
+        ≡ resetLeft (r .answer) (r .record) (run (now (times .exit)) (now (places .exit)) (now (marks .exit)))
+        ⌝ }
 {
     let mut ends = [0u16; 256];
     match check_table(kinds, ns, limits, &mut ends) {

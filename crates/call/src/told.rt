@@ -1,13 +1,17 @@
 // What a call tells of a walk, and the record behind it.
-use drivers::Ran;
 use rules::Answer;
 use rules::Record;
 use rules::Status;
+use work::ASKED;
+use work::FUEL;
+use work::Result;
+use work::Seen;
+use work::USED;
 ghost use mathlib.Core.Path.{_≡_};
-ghost use Prim.Native.Nat.{_≤_, min};
-ghost use lib.ListN.{length};
-ghost use Rattle.rules.specs.Call.{answers, counted};
-ghost use Rattle.call.specs.Told.{told};
+ghost use Prim.Native.Nat.{_-_, min};
+ghost use lib.ListN.{length, getD};
+ghost use Rattle.rules.specs.Call.{answers, ended, counted};
+ghost use Rattle.call.specs.Told.{statusIn, toldStopped, toldDone};
 
 fn least(a: usize, b: usize) -> usize
     ensures { λ r. ⌜ r ≡ min a b ⌝ }
@@ -22,46 +26,82 @@ pub fn lent(statuses: &[u8], leftovers: &[f64]) -> usize
     least(statuses.len(), leftovers.len())
 }
 
-pub fn told(r: Ran, fuel: u32, lent: usize) -> Answer
-    requires { ⌜ r .fuel ≤ fuel ⌝ }
-    ensures { λ a. ⌜ a ≡ told r fuel lent ⌝ }
+fn wide(x: u32) -> usize
+    ensures { λ r. ⌜ r ≡ x ⌝ }
 {
-    if r.done {
-        let status = r.status;
-        return Answer::Ticked {
-            status,
-            leftover: r.left,
-            visits: fuel - r.fuel,
-            used: least(r.used, lent),
-        };
+    x as usize
+}
+
+fn number_at(ns: &[u16], p: usize) -> u16
+    ensures { λ r. ⌜ r ≡ getD (now (ns .entry)) p 0 ⌝ }
+{
+    if p < ns.len() { ns[p] } else { 0 }
+}
+
+// n less k, cut off at 0.
+fn less(n: u32, k: u32) -> u32
+    ensures { λ r. ⌜ r ≡ n - k ⌝ }
+{
+    if n < k { 0 } else { n - k }
+}
+
+fn status_of(seen: Seen) -> Status
+    ensures { λ r. ⌜ r ≡ statusIn seen ⌝ }
+{
+    match seen {
+        Seen::Stopped | Seen::Running => Status::Running,
+        Seen::Success => Status::Success,
+        Seen::Failure => Status::Failure,
     }
-    if r.asked {
-        Answer::Asked {
-            action: r.action,
-            dt: r.left,
-        }
-    } else {
-        Answer::OutOfFuel
+}
+
+// A walk that has stopped: an action asks, or the fuel is used up.
+pub fn told_stopped(work: &[u32; 260], ns: &[u16], result: Result) -> Answer
+    ensures { λ a. ⌜ a ≡ toldStopped (now (work .entry)) (now (ns .entry)) result ⌝ }
+{
+    let asked = work[ASKED];
+    if asked == 0 {
+        return Answer::OutOfFuel;
+    }
+    let dt = result.left;
+    Answer::Asked {
+        action: number_at(ns, wide(less(asked, 1))),
+        dt,
+    }
+}
+
+// A walk to its end.
+pub fn told_done(work: &[u32; 260], result: Result, fuel: u32, lent: usize) -> Answer
+    ensures { λ a. ⌜ a ≡ toldDone (now (work .entry)) result fuel lent ⌝ }
+{
+    let seen = result.seen;
+    let leftover = result.left;
+    Answer::Ticked {
+        status: status_of(seen),
+        leftover,
+        visits: less(fuel, work[FUEL]),
+        used: least(wide(work[USED]), lent),
+    }
+}
+
+// A status other than Running is an end.
+fn ends(seen: Seen) -> bool
+    ensures { λ r. ⌜ r ≡ ended (statusIn seen) ⌝ }
+{
+    match seen {
+        Seen::Stopped | Seen::Running => false,
+        Seen::Success => true,
+        Seen::Failure => true,
     }
 }
 
 // One more tick; the count goes from its largest number to 0.
-pub fn counted(record: Record, status: Status) -> Record
-    ensures { λ r. ⌜ r ≡ counted status «record» ⌝ }
+pub fn counted(record: Record, result: Result) -> Record
+    ensures { λ r. ⌜ r ≡ counted (statusIn (result .seen)) «record» ⌝ }
 {
-    let ticks = std::num::wrapping_add_u64(record.ticks, 1);
-    match status {
-        Status::Running => Record {
-            finished: false,
-            ticks,
-        },
-        Status::Success => Record {
-            finished: true,
-            ticks,
-        },
-        Status::Failure => Record {
-            finished: true,
-            ticks,
-        },
+    let seen = result.seen;
+    Record {
+        finished: ends(seen),
+        ticks: std::num::wrapping_add_u64(record.ticks, 1),
     }
 }

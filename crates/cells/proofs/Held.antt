@@ -24,7 +24,9 @@ length-cells (List._∷_ x xs) List.[] ms = omega arith
 length-cells (List._∷_ x xs) (List._∷_ p ps) List.[] = omega arith
 length-cells (List._∷_ x xs) (List._∷_ p ps) (List._∷_ m ms) = omega (arith, length-cells xs ps ms)
 
-drop-cells : (xs : List Float) (ps ms : List ℕ) (i : ℕ) → i < length (cells xs ps ms) → drop i (cells xs ps ms) ≡ List._∷_ (cellAt xs ps ms i) (drop (suc i) (cells xs ps ms))
+drop-cells :
+    (xs : List Float) (ps ms : List ℕ) (i : ℕ) → i < length (cells xs ps ms) →
+    drop i (cells xs ps ms) ≡ List._∷_ (cellAt xs ps ms i) (drop (suc i) (cells xs ps ms))
 unfolding cells
 drop-cells List.[] ps ms i h = absurd (omega arith)
 drop-cells (List._∷_ x xs) List.[] ms i h = absurd (omega arith)
@@ -64,17 +66,22 @@ module _ (kinds ns ends : List ℕ) (times : List Float) (places marks : List �
     mutual
       unfolding withCells depth size
 
-      pub holds : (t : Tree) (d q : ℕ) → depth t ≤ d → At kinds ns limits ends q t → getD ends q 0 ≤ length run → Held (withCells t (drop q run) .0) d q × (withCells t (drop q run) .1 ≡ drop (getD ends q 0) run)
+      pub holds :
+          (t : Tree) (d q : ℕ) → depth t ≤ d → At kinds ns limits ends q t → getD ends q 0 ≤ length run →
+          Held (withCells t (drop q run) .0) d q × (withCells t (drop q run) .1 ≡ drop (getD ends q 0) run)
       holds (node k n l c b ts) zero q deep h long = absurd (omega arith)
       holds (node k n l c b ts) (suc d) q deep h long =
           let z = ats-end kinds ns limits ts ends (suc q) (getD ends q 0) (h .1) in
           let r = holds-all ts d (suc q) (getD ends q 0) (omega arith) (h .1) long in
           rw (drop-cells times places marks q (omega arith)) ((record { kind = h .0 .kind; number = h .0 .number; held = refl }, r .0), r .1)
 
-      pub holds-all : (ts : Forest) (d q stop : ℕ) → depths ts ≤ d → Ats kinds ns limits ends q ts stop → stop ≤ length run → Helds (withCellsAll ts (drop q run) .0) d q stop × (withCellsAll ts (drop q run) .1 ≡ drop stop run)
+      pub holds-all :
+          (ts : Forest) (d q stop : ℕ) → depths ts ≤ d → Ats kinds ns limits ends q ts stop → stop ≤ length run →
+          Helds (withCellsAll ts (drop q run) .0) d q stop × (withCellsAll ts (drop q run) .1 ≡ drop stop run)
       holds-all [] d q stop deep h long = (h, ap (λ (x : ℕ). drop x run) h)
       holds-all (t ∷ ts) d q stop deep h long =
           let z = ats-end kinds ns limits ts ends (getD ends q 0) stop (h .1) in
           let r = holds t d q (omega arith) (h .0) (omega arith) in
-          let rs = subst (λ (x : List Cell). Helds (withCellsAll ts x .0) d (getD ends q 0) stop × (withCellsAll ts x .1 ≡ drop stop run)) (sym (r .1)) (holds-all ts d (getD ends q 0) stop (omega arith) (h .1) long) in
+          let rest = holds-all ts d (getD ends q 0) stop (omega arith) (h .1) long in
+          let rs = subst (λ (x : List Cell). Helds (withCellsAll ts x .0) d (getD ends q 0) stop × (withCellsAll ts x .1 ≡ drop stop run)) (sym (r .1)) rest in
           ((r .0, rs .0), rs .1)

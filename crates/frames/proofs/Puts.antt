@@ -1,7 +1,7 @@
 -- A line put into a room field by field.
 use mathlib.Core.Path.{_≡_, refl, sym, ap, subst, _∙_}
 use mathlib.Core.List.{List, [], _∷_, _++_, append-assoc, append-nil}
-use Prim.Native.Nat.{ℕ, zero, suc, _+_, _*_, _/_, _%_, _^_, _≤_, _<_}
+use Prim.Native.Nat.{ℕ, zero, suc, _+_, _/_, _%_, _^_, _≤_, _<_}
 use native.Mathlib.Nat.{zero-add}
 use native.Mathlib.Numerals.{add-one}
 use native.Mathlib.Omega.{arith}
@@ -59,9 +59,9 @@ span-both (f ∷ fs) gs = omega (arith, span-both fs gs)
 pub none-put : (d : List ℕ) (at : ℕ) → Puts d at [] d at
 none-put d at = record { bytes = sym (over-none d at); place = omega arith }
 
-pub puts-on : (d : List ℕ) (at : ℕ) (fs gs : List Field) (d′ d″ : List ℕ) (n m : ℕ) → at ≤ length d → Puts d at fs d′ n → Puts d′ n gs d″ m
+pub puts-on : {d : List ℕ} {at : ℕ} {fs gs : List Field} {d′ d″ : List ℕ} {n m : ℕ} → at ≤ length d → Puts d at fs d′ n → Puts d′ n gs d″ m
     → Puts d at (fs ++ gs) d″ m
-puts-on d at fs gs d′ d″ n m h p q =
+puts-on {d} {at} {fs} {gs} {d′} {d″} {n} {m} h p q =
     record {
       bytes =
           q .bytes
@@ -76,14 +76,10 @@ pub answer-put : (d : List ℕ) (at i : ℕ) (ss ls : List ℕ) (d′ d″ d‴ 
     → Puts d at (answers i 0 ss ls) d′ n → Puts d′ n ((2, s) ∷ []) d″ m → Puts d″ m ((16, l) ∷ []) d‴ o
     → (2, s) ∷ (16, l) ∷ [] ≡ pair i ss ls → Puts d at (answers (i + 1) 0 ss ls) d‴ o
 answer-put d at i ss ls d′ d″ d‴ n m o s l h p q r e =
-    let a = puts-on d at (answers i 0 ss ls) ((2, s) ∷ []) d′ d″ n m h p q in
-    let b = puts-on d at (answers i 0 ss ls ++ ((2, s) ∷ [])) ((16, l) ∷ []) d″ d‴ m o h a r in
+    let a = puts-on h p q in
+    let b = puts-on h a r in
     rw (answers-more i ss ls, ← e)
     (subst (λ (fs : List Field). Puts d at fs d‴ o) (append-assoc (answers i 0 ss ls) ((2, s) ∷ []) ((16, l) ∷ [])) b)
-
-pub answers-span : (k i : ℕ) (ss ls : List ℕ) → span (answers k i ss ls) ≡ 20 * k
-answers-span zero i ss ls = refl
-answers-span (suc k) i ss ls = omega (arith, answers-span k (suc i) ss ls)
 
 fields-spread : (fs : List Field) → spread fs ++ (10 ∷ []) ≡ fields fs
 fields-spread [] = refl
@@ -92,9 +88,9 @@ fields-spread (f ∷ fs) =
     ∙ ap (λ (l : List ℕ). (32 ∷ digits (f .0) (f .1)) ++ l) (fields-spread fs)
 
 -- the kind's digits, its fields and LF are the whole line
-pub line-put : (d : List ℕ) (k : ℕ) (fs : List Field) (d′ d″ : List ℕ) (n : ℕ) → d′ ≡ over d 0 (digits 2 k) → Puts d′ 2 fs d″ n → n < length d″
+pub line-put : (d : List ℕ) (k : ℕ) {fs : List Field} {d′ d″ : List ℕ} {n : ℕ} → d′ ≡ over d 0 (digits 2 k) → Puts d′ 2 fs d″ n → n < length d″
     → set d″ n 10 ≡ laid (digits 2 k ++ fields fs) d
-line-put d k fs d′ d″ n e p h =
+line-put d k {fs} {d′} {d″} {n} e p h =
     let s = digits 2 k in
     let l : length s ≡ 2 = length-digits 2 k in
     let two : 2 ≡ 0 + length s = omega arith in

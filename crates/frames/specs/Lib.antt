@@ -2,10 +2,14 @@ pub mod Answers
 pub mod Back
 pub mod Digits
 pub mod Examples
+pub mod Find
+pub mod Finds
 pub mod Hex
+pub mod Lengths
 pub mod Line
 pub mod Order
 pub mod Over
 pub mod Parts
+pub mod Text
 pub mod Times
 pub mod Undo

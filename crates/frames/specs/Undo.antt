@@ -90,7 +90,7 @@ body-answers (Said num status time visits used extra) a b a′ b′ e = refl
 body-answers (WasReset num) a b a′ b′ e = refl
 body-answers (Malformed number) a b a′ b′ e = refl
 
-body-agree : (f : Frame) (a b a′ b′ : List ℕ) → answers (answersOf f) 0 a b ≡ answers (answersOf f) 0 a′ b′ → body f a b ≡ body f a′ b′
+pub body-agree : (f : Frame) (a b a′ b′ : List ℕ) → answers (answersOf f) 0 a b ≡ answers (answersOf f) 0 a′ b′ → body f a b ≡ body f a′ b′
 body-agree (Node kind n limit) a b a′ b′ e = refl
 body-agree (Tick event fuel count) a b a′ b′ e =
     ap (λ (fs : List Field). (2, eventNo event) ∷ (16, eventTime event) ∷ (8, fuel) ∷ (4, count) ∷ fs) e

@@ -5,6 +5,7 @@ mod value;
 use bound::finish_bound;
 pub use numbers::Bound;
 use numbers::bound_of;
+use rules::Kind;
 use rules::Record;
 use rules::Said;
 use value::reset_said;
@@ -35,7 +36,16 @@ pub extern "C" fn lemboraw_tick(
     statuses: &[u8],
     leftovers: &[f64],
 ) -> Said
-    ensures { λ r. ⌜ hostTick (given (now («record» .entry)) (now (kinds .entry)) (now (ns .entry)) (now (limits .entry)) (run (now (times .entry)) (now (places .entry)) (now (marks .entry))) (run (now («spare_times» .entry)) (now («spare_places» .entry)) (now («spare_marks» .entry))) (now (board .entry)) (eventOf update dt) fuel (now (statuses .entry)) (now (leftovers .entry))) ≡ hostLeft r (now («record» .exit)) (run (now (times .exit)) (now (places .exit)) (now (marks .exit))) (run (now («spare_times» .exit)) (now («spare_places» .exit)) (now («spare_marks» .exit))) (now (board .exit)) ⌝ }
+    ensures { λ r. ⌜
+        hostTick (given (now («record» .entry)) (now (kinds .entry)) (now (ns .entry)) (now (limits .entry))
+        (run (now (times .entry)) (now (places .entry)) (now (marks .entry)))
+        (run (now («spare_times» .entry)) (now («spare_places» .entry)) (now («spare_marks» .entry)))
+        (now (board .entry)) (eventOf update dt) fuel (now (statuses .entry)) (now (leftovers .entry)))
+        ≡ hostLeft r (now («record» .exit))
+        (run (now (times .exit)) (now (places .exit)) (now (marks .exit)))
+        (run (now («spare_times» .exit)) (now («spare_places» .exit)) (now («spare_marks» .exit)))
+        (now (board .exit))
+        ⌝ }
 {
     let told = tick_said(
         *record,
@@ -70,7 +80,11 @@ pub extern "C" fn lemboraw_reset(
     places: &mut [u16],
     marks: &mut [u8],
 ) -> Said
-    ensures { λ r. ⌜ hostReset (now (kinds .entry)) (now (ns .entry)) (now (limits .entry)) (now («record» .entry)) (run (now (times .entry)) (now (places .entry)) (now (marks .entry))) ≡ hostResetLeft r (now («record» .exit)) (run (now (times .exit)) (now (places .exit)) (now (marks .exit))) ⌝ }
+    ensures { λ r. ⌜
+        hostReset (now (kinds .entry)) (now (ns .entry)) (now (limits .entry)) (now («record» .entry))
+        (run (now (times .entry)) (now (places .entry)) (now (marks .entry)))
+        ≡ hostResetLeft r (now («record» .exit)) (run (now (times .exit)) (now (places .exit)) (now (marks .exit)))
+        ⌝ }
 {
     let told = reset_said(*record, kinds, ns, limits, times, places, marks);
     *record = told.record;
@@ -82,19 +96,10 @@ pub extern "C" fn lemboraw_reset(
 pub extern "C" fn lemboraw_memory(kind: u8, on: bool) -> u8
     ensures { λ r. ⌜ r ≡ memoryOf kind on ⌝ }
 {
-    if on {
-        match kind {
-            9 => 8,
-            10 => 6,
-            _ => kind,
-        }
-    } else {
-        match kind {
-            8 => 9,
-            6 => 10,
-            _ => kind,
-        }
+    if Kind::LAST < kind {
+        return kind;
     }
+    Kind::of(kind).memory(on).number()
 }
 
 // The finish bound of a table at a step.

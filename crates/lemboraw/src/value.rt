@@ -34,7 +34,16 @@ pub fn tick_said(
     statuses: &[u8],
     leftovers: &[f64],
 ) -> Told
-    ensures { λ r. ⌜ hostTick (given «record» (now (kinds .entry)) (now (ns .entry)) (now (limits .entry)) (run (now (times .entry)) (now (places .entry)) (now (marks .entry))) (run (now («spare_times» .entry)) (now («spare_places» .entry)) (now («spare_marks» .entry))) (now (board .entry)) (eventOf update dt) fuel (now (statuses .entry)) (now (leftovers .entry))) ≡ hostLeft (r .said) (r .«record») (run (now (times .exit)) (now (places .exit)) (now (marks .exit))) (run (now («spare_times» .exit)) (now («spare_places» .exit)) (now («spare_marks» .exit))) (now (board .exit)) ⌝ }
+    ensures { λ r. ⌜
+        hostTick (given «record» (now (kinds .entry)) (now (ns .entry)) (now (limits .entry))
+        (run (now (times .entry)) (now (places .entry)) (now (marks .entry)))
+        (run (now («spare_times» .entry)) (now («spare_places» .entry)) (now («spare_marks» .entry)))
+        (now (board .entry)) (eventOf update dt) fuel (now (statuses .entry)) (now (leftovers .entry)))
+        ≡ hostLeft (r .said) (r .«record»)
+        (run (now (times .exit)) (now (places .exit)) (now (marks .exit)))
+        (run (now («spare_times» .exit)) (now («spare_places» .exit)) (now («spare_marks» .exit)))
+        (now (board .exit))
+        ⌝ }
 {
     let event = event_of(update, dt);
     let called = tick_value(
@@ -73,7 +82,11 @@ pub fn reset_said(
     places: &mut [u16],
     marks: &mut [u8],
 ) -> Told
-    ensures { λ r. ⌜ hostReset (now (kinds .entry)) (now (ns .entry)) (now (limits .entry)) «record» (run (now (times .entry)) (now (places .entry)) (now (marks .entry))) ≡ hostResetLeft (r .said) (r .«record») (run (now (times .exit)) (now (places .exit)) (now (marks .exit))) ⌝ }
+    ensures { λ r. ⌜
+        hostReset (now (kinds .entry)) (now (ns .entry)) (now (limits .entry)) «record»
+        (run (now (times .entry)) (now (places .entry)) (now (marks .entry)))
+        ≡ hostResetLeft (r .said) (r .«record») (run (now (times .exit)) (now (places .exit)) (now (marks .exit)))
+        ⌝ }
 {
     let was = reset_value(record, kinds, ns, limits, times, places, marks);
     let kept = was.record;

@@ -6,7 +6,8 @@ use native.Mathlib.Omega.{arith}
 use borrow.Author.Tests.{ne-eqb}
 use lib.Dec.{eqb}
 use lib.Ieee.{Float, binary64}
-use Rattle.rules.specs.declared.behavior.Kind.the-variants.{Wait, WaitForever, Action, Invert, AlwaysSucceed, Timeout, Select, If, Sequence, MemorylessSequence, MemorylessSelector, While, WhileAll, WhenAll, WhenAny, After, Race}
+use Rattle.rules.specs.declared.behavior.Kind.the-variants.{Wait, WaitForever, Action, Invert, AlwaysSucceed, Timeout, Select, If, Sequence}
+use Rattle.rules.specs.declared.behavior.Kind.the-variants.{MemorylessSequence, MemorylessSelector, While, WhileAll, WhenAll, WhenAny, After, Race}
 use Rattle.rules.specs.declared.behavior.Kind.{Kind}
 use Rattle.rules.specs.Kinds.{code, is, timed}
 use Rattle.rules.specs.Bound.{Lim, wholeTime, within, sumL, maxL, minL, timesL, ownTicks, bound, sum, largest, smallest}
@@ -35,8 +36,10 @@ joined-smallest d [] = refl
 joined-smallest d (t ∷ ts) = ap (minL (bound d t)) (joined-smallest d ts)
 
 -- an operation on ticks, where x and y are a and b clipped
-over : (op : Lim → Lim → Lim) → ((a b : Lim) → clipped (op (lim (clipped a)) (lim (clipped b))) ≡ clipped (op a b)) → (x y r : Ticks) (a b : Lim)
-    → r ≡ clipped (op (lim x) (lim y)) → x ≡ clipped a → y ≡ clipped b → r ≡ clipped (op a b)
+over :
+    (op : Lim → Lim → Lim) → ((a b : Lim) → clipped (op (lim (clipped a)) (lim (clipped b))) ≡ clipped (op a b)) →
+    (x y r : Ticks) (a b : Lim) →
+    r ≡ clipped (op (lim x) (lim y)) → x ≡ clipped a → y ≡ clipped b → r ≡ clipped (op a b)
 over op law x y r a b e p q = e ∙ rw (p, q) (law a b)
 
 -- a count that the kind does not allow
@@ -48,7 +51,9 @@ module _ (own : Ticks) where
   unfolding bound
   waits d n l c b f o = o refl
 
-  pub empty : Alone MemorylessSequence own (Within 1) × Alone MemorylessSelector own (Within 1) × Alone WhenAll own (Within 1) × Alone WhenAny own (Within 1) × Alone After own (Within 1)
+  pub empty :
+      Alone MemorylessSequence own (Within 1) × Alone MemorylessSelector own (Within 1) ×
+      Alone WhenAll own (Within 1) × Alone WhenAny own (Within 1) × Alone After own (Within 1)
   unfolding bound
   empty = (λ d n l c b f o. refl, λ d n l c b f o. refl, λ d n l c b f o. refl, λ d n l c b f o. refl, λ d n l c b f o. refl)
 
@@ -56,7 +61,9 @@ module _ (own : Ticks) where
   unfolding bound
   never-ends = (λ d n l c b f o. refl, λ d n l c b f o. refl, λ d n l c b f o. refl)
 
-  pub some-child : Alone Invert own Never × Alone AlwaysSucceed own Never × Alone Timeout own Never × Alone Select own Never × Alone If own Never × Alone Sequence own Never × Alone While own Never × Alone WhileAll own Never
+  pub some-child :
+      Alone Invert own Never × Alone AlwaysSucceed own Never × Alone Timeout own Never × Alone Select own Never ×
+      Alone If own Never × Alone Sequence own Never × Alone While own Never × Alone WhileAll own Never
   some-child = (
     λ d n l c b f o. not-allowed (omega arith),
     λ d n l c b f o. not-allowed (omega arith),
@@ -100,7 +107,9 @@ module _ (own first rest : Ticks) where
     unfolding bound
     in-product e d n l c b t ts m o p q = over timesL clip-times first rest r (bound d t) (sum d ts) e p (q ∙ ap clipped (joined-sum d ts))
 
-    pub in-largest : r ≡ clipped (maxL (lim first) (lim rest)) → Together WhenAll own first rest r × Together WhenAny own first rest r × Together After own first rest r
+    pub in-largest :
+        r ≡ clipped (maxL (lim first) (lim rest)) →
+        Together WhenAll own first rest r × Together WhenAny own first rest r × Together After own first rest r
     unfolding bound
     in-largest e = (
       λ d n l c b t ts m o p q. over maxL clip-max first rest r (bound d t) (largest d ts) e p (q ∙ ap clipped (joined-largest d ts)),

@@ -65,7 +65,8 @@ module _ (x : Float) (n : ℕ) (f : T (fits binary64 x)) (e : n ≡ toUnsigned 6
   pub whole-yes : n ≤ cap binary64 → toBits binary64 (ofInt binary64 (pos n)) ≡ toBits binary64 x → Yes n ≡ wholeOf x
   unfolding wholeTime num
   whole-yes h q =
-      let same : x ≡ ofInt binary64 (pos n) = sym (ofBits-toBits binary64 x f) ∙ ap (ofBits binary64) (sym q) ∙ ofBits-toBits binary64 (ofInt binary64 (pos n)) (ofInt-fits binary64 (pos n)) in
+      let back = ofBits-toBits binary64 (ofInt binary64 (pos n)) (ofInt-fits binary64 (pos n)) in
+      let same : x ≡ ofInt binary64 (pos n) = sym (ofBits-toBits binary64 x f) ∙ ap (ofBits binary64) (sym q) ∙ back in
       let test : inUnsigned binary64 64 x ≡ true = is-true (inUnsigned binary64 64 x) (rw same (whole-back n h .0)) in
       let small : leb n (cap binary64) ≡ true = le-leb n (cap binary64) h in
       rw (test, ← e, small)
@@ -105,7 +106,9 @@ module _ (x : Float) (w : Whole) (e : w ≡ wholeOf x) where
   pub whole-known : (n : ℕ) → w ≡ Yes n → (wholeTime binary64 x ≡ true) × (n ≡ num x) × (n ≤ cap binary64)
   whole-known n q = go (wholeTime binary64 x) refl (whole-small x) (sym q ∙ e)
     where
-      go : (b : Bool) → wholeTime binary64 x ≡ b → (T b → num x ≤ cap binary64) → Yes n ≡ cond b (Yes (num x)) No → (wholeTime binary64 x ≡ true) × (n ≡ num x) × (n ≤ cap binary64)
+      go :
+          (b : Bool) → wholeTime binary64 x ≡ b → (T b → num x ≤ cap binary64) → Yes n ≡ cond b (Yes (num x)) No →
+          (wholeTime binary64 x ≡ true) × (n ≡ num x) × (n ≤ cap binary64)
       go true t h f = let q : n ≡ num x = cc in (t, q, rw q (h tt))
       go false t h f = let z : _≡_ {A = ℕ} 0 1 = cc in absurd (omega arith)
 

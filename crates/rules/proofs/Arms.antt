@@ -6,7 +6,8 @@ use Prim.Native.Nat.{ℕ}
 use types.Run.{OneOf}
 use denote.Enum.Declared.{tagOf}
 use Rattle.rules.specs.declared.behavior.Kind.{Kind}
-use Rattle.rules.specs.declared.behavior.Kind.the-variants.{Wait, WaitForever, Action, Invert, AlwaysSucceed, Timeout, Select, If, Sequence, MemorylessSequence, MemorylessSelector, While, WhileAll, WhenAll, WhenAny, After, Race}
+use Rattle.rules.specs.declared.behavior.Kind.the-variants.{Wait, WaitForever, Action, Invert, AlwaysSucceed, Timeout, Select, If, Sequence}
+use Rattle.rules.specs.declared.behavior.Kind.the-variants.{MemorylessSequence, MemorylessSelector, While, WhileAll, WhenAll, WhenAny, After, Race}
 use Rattle.rules.specs.Kinds.{kindOf}
 use Rattle.rules.proofs.behavior.Kind.{the-type}
 
@@ -45,5 +46,6 @@ module _ (Q : Kind → Type 0) where
   arm (n ∷ (m ∷ ns)) k (inr h) es = arm (m ∷ ns) k h (es .1)
 
 -- an arm that returns v
-pub gives : {A : Type 0} (f : Kind → A) {v : A} (ns : List ℕ) (k : Kind) → OneOf ns (tagOf the-type k) → Each (λ k. v ≡ f k) ns → v ≡ f k
+pub gives :
+    {A : Type 0} (f : Kind → A) {v : A} (ns : List ℕ) (k : Kind) → OneOf ns (tagOf the-type k) → Each (λ k. v ≡ f k) ns → v ≡ f k
 gives f {v} = arm (λ k. v ≡ f k)

@@ -1,7 +1,7 @@
 // The kinds of nodes and how many children each allows.
 ghost use mathlib.Core.Path.{_≡_};
 ghost use Prim.Native.Nat.{_-_};
-ghost use Rattle.rules.specs.Kinds.{kindOf, fewest, most, children, timed, marksChildren, memory};
+ghost use Rattle.rules.specs.Kinds.{code, kindOf, fewest, most, children, timed, marksChildren, memory};
 ghost use Rattle.rules.specs.Cells.{lastPlace};
 
 pub enum Kind {
@@ -60,6 +60,31 @@ impl Kind {
             14 => Kind::WhenAny,
             15 => Kind::After,
             _ => Kind::Race,
+        }
+    }
+
+    // The number of the kind.
+    pub fn number(self) -> u8
+        ensures { λ r. ⌜ r ≡ code self ⌝ }
+    {
+        match self {
+            Kind::Wait => 0,
+            Kind::WaitForever => 1,
+            Kind::Action => 2,
+            Kind::Invert => 3,
+            Kind::AlwaysSucceed => 4,
+            Kind::Timeout => 5,
+            Kind::Select => 6,
+            Kind::If => 7,
+            Kind::Sequence => 8,
+            Kind::MemorylessSequence => 9,
+            Kind::MemorylessSelector => 10,
+            Kind::While => 11,
+            Kind::WhileAll => 12,
+            Kind::WhenAll => 13,
+            Kind::WhenAny => 14,
+            Kind::After => 15,
+            Kind::Race => 16,
         }
     }
 

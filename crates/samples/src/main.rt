@@ -12,7 +12,7 @@ fn one(i: usize) {
     io::write_all(STDOUT_FILENO, &[b'#', b' ']);
     io::write_all(STDOUT_FILENO, &name[..n]);
     io::write_all(STDOUT_FILENO, &[10]);
-    serve::between(from, STDOUT_FILENO);
+    bench_lib::between(from, STDOUT_FILENO);
     libc::close(from);
 }
 

@@ -35,7 +35,9 @@ elapsed-special s true h = refl
 elapsed-special s false h = absurd h
 
 module _ (s : Bool) (x t u : ℕ) where
-  elapsed-at : (b : Bool) → T (not (isNan (cond b (cond (eqb t 0) (inf s) nan) (odd 53 s u x 1074)))) → elapsed (cond b (cond (eqb t 0) (inf s) nan) (odd 53 s u x 1074)) ≡ not s
+  elapsed-at :
+      (b : Bool) → T (not (isNan (cond b (cond (eqb t 0) (inf s) nan) (odd 53 s u x 1074)))) →
+      elapsed (cond b (cond (eqb t 0) (inf s) nan) (odd 53 s u x 1074)) ≡ not s
   elapsed-at true h = elapsed-special s (eqb t 0) h
   elapsed-at false h = elapsed-odd s u x
 
@@ -70,7 +72,8 @@ module _ (x : Float) (ok : T (fits binary64 x)) where
   elapsed-bits h =
       let b = toBits binary64 x in
       let back = ofBits-toBits binary64 x ok in
-      ap elapsed (sym back) ∙ elapsed-fields (leb signBit b) (fieldOf b) (b % 0x10000000000000) (subst (λ (y : Float). T (not (isNan y))) (sym back) h) ∙ sign-test b _ refl
+      let fields = elapsed-fields (leb signBit b) (fieldOf b) (b % 0x10000000000000) (subst (λ (y : Float). T (not (isNan y))) (sym back) h) in
+      ap elapsed (sym back) ∙ fields ∙ sign-test b _ refl
 
   zero-test : (b : Bool) → eqb (toBits binary64 x) 0 ≡ b → zeroBits x ≡ b
   unfolding ofBits
@@ -107,7 +110,9 @@ not-above nan low e = refl
 not-above (inf s) low e = refl
 not-above (fin true m d) low e = refl
 not-above (fin false zero d) low e = e
-not-above (fin false (suc m) d) low e = let f : suc m * up d * 1 ≤ 0 * 1 * down d = ltb-false (0 * 1 * down d) (suc m * up d * 1) low in absurd (omega (arith, mul-pos (zero-lt-suc m) (up-pos d), zero-mul (down d)))
+not-above (fin false (suc m) d) low e =
+    let f : suc m * up d * 1 ≤ 0 * 1 * down d = ltb-false (0 * 1 * down d) (suc m * up d * 1) low in
+    absurd (omega (arith, mul-pos (zero-lt-suc m) (up-pos d), zero-mul (down d)))
 
 pub not-below : (x : Float) → lt x endless ≡ false → number x ≡ false
 unfolding lt ofBits ofFields

@@ -25,7 +25,10 @@ module _ (d : ℕ) where
   more t h (got ts at rs) b = omega arith
   more t h (fault p) b = tt
 
-  each : (r : Read Tree) (rest : ℕ → List Row → Read Forest) → Bounded d r → ((at : ℕ) (rs : List Row) → BoundedAll d (rest at rs)) → BoundedAll d (r andThen λ t at rs. rest at rs andThen λ ts at' rs'. got (t ∷ ts) at' rs')
+  each :
+      (r : Read Tree) (rest : ℕ → List Row → Read Forest) → Bounded d r →
+      ((at : ℕ) (rs : List Row) → BoundedAll d (rest at rs)) →
+      BoundedAll d (r andThen λ t at rs. rest at rs andThen λ ts at' rs'. got (t ∷ ts) at' rs')
   each (got t at rs) rest b h = more t b (rest at rs) (h at rs)
   each (fault p) rest b h = tt
 
@@ -35,7 +38,10 @@ module _ (d : ℕ) where
     all-bounded zero at rs = omega arith
     all-bounded (suc n) at rs = each (child at rs) (readChildren child n) (bounded at rs) (λ at' rs'. all-bounded n at' rs')
 
-  made : (mk : Forest → Tree) → ((ts : Forest) → depth (mk ts) ≡ suc (depths ts)) → (r : Read Forest) → BoundedAll d r → Bounded (suc d) (r andThen λ ts at rs. got (mk ts) at rs)
+  made :
+      (mk : Forest → Tree) → ((ts : Forest) → depth (mk ts) ≡ suc (depths ts)) →
+      (r : Read Forest) → BoundedAll d r →
+      Bounded (suc d) (r andThen λ ts at rs. got (mk ts) at rs)
   made mk e (got ts at rs) b = omega (arith, e ts)
   made mk e (fault p) b = tt
 
@@ -52,8 +58,11 @@ unfolding readTree
 bounded zero at rs = tt
 bounded (suc d) at List.[] = tt
 bounded (suc d) at (List._∷_ (row k n l) rs) =
-    let r = readChildren (readTree d) (children (kindOf k) n) (suc at) rs in
-    picked d (ltb at 256 && rowAllowed k n l) (r andThen λ ts at' rs'. got (node (kindOf k) n l freshCell 0 ts) at' rs') at (made d (λ ts. node (kindOf k) n l freshCell 0 ts) (node-depth d k n l) r (all-bounded d (readTree d) (bounded d) (children (kindOf k) n) (suc at) rs))
+    let m = children (kindOf k) n in
+    let r = readChildren (readTree d) m (suc at) rs in
+    let mk : Forest → Tree = λ ts. node (kindOf k) n l freshCell 0 ts in
+    let below = made d mk (node-depth d k n l) r (all-bounded d (readTree d) (bounded d) m (suc at) rs) in
+    picked d (ltb at 256 && rowAllowed k n l) (r andThen λ ts at' rs'. got (mk ts) at' rs') at below
 
 pub read-depth : (d at : ℕ) (rs : List Row) {t : Tree} {at' : ℕ} {rs' : List Row} → readTree d at rs ≡ got t at' rs' → depth t ≤ d
 read-depth d at rs e = rw e at (bounded d at rs)

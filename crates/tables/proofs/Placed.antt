@@ -12,6 +12,10 @@ pub size-pos : (t : Tree) → 0 < size t
 unfolding size
 size-pos (node k n l c b ts) = omega arith
 
+-- the first n elements are as they were; d is read behind the end
+abbrev pub Alike : {A : Type 0} → A → List A → List A → ℕ → Type 0
+Alike d xs xs' n = (i : ℕ) → i < n → getD xs' i d ≡ getD xs i d
+
 -- the ends from q to stop are as they were
 abbrev pub Same : List ℕ → List ℕ → ℕ → ℕ → Type 0
 Same ends ends' q stop = (j : ℕ) → q ≤ j → j < stop → getD ends' j 0 ≡ getD ends j 0
@@ -32,7 +36,11 @@ module _ (kinds ns : List ℕ) (limits : List Float) where
       unfolding size
 
       pub at-keeps : (t : Tree) (q : ℕ) → At kinds ns limits ends q t → Same ends ends' q (q + size t) → At kinds ns limits ends' q t
-      at-keeps (node k n l c b ts) q h same = (h .0, subst (λ (e : ℕ). Ats kinds ns limits ends' (suc q) ts e) (sym (same q (omega arith) (omega arith))) (ats-keeps ts (suc q) (getD ends q 0) (h .1) (λ j a z. same j (omega arith) (omega (arith, ats-end ts ends (suc q) (getD ends q 0) (h .1))))))
+      at-keeps (node k n l c b ts) q h same =
+          let stop = getD ends q 0 in
+          let e = ats-end ts ends (suc q) stop (h .1) in
+          let kids = ats-keeps ts (suc q) stop (h .1) (λ j a z. same j (omega arith) (omega arith)) in
+          (h .0, subst (λ (e : ℕ). Ats kinds ns limits ends' (suc q) ts e) (sym (same q (omega arith) (omega arith))) kids)
 
       pub ats-keeps : (ts : Forest) (q stop : ℕ) → Ats kinds ns limits ends q ts stop → Same ends ends' q stop → Ats kinds ns limits ends' q ts stop
       ats-keeps [] q stop h same = h
@@ -40,4 +48,6 @@ module _ (kinds ns : List ℕ) (limits : List Float) where
           let e = at-end t ends q (h .0) in
           let f = ats-end ts ends (getD ends q 0) stop (h .1) in
           let p = size-pos t in
-          (at-keeps t q (h .0) (λ j a z. same j a (omega arith)), subst (λ (x : ℕ). Ats kinds ns limits ends' x ts stop) (sym (same q (omega arith) (omega arith))) (ats-keeps ts (getD ends q 0) stop (h .1) (λ j a z. same j (omega arith) z)))
+          let here = at-keeps t q (h .0) (λ j a z. same j a (omega arith)) in
+          let rest = ats-keeps ts (getD ends q 0) stop (h .1) (λ j a z. same j (omega arith) z) in
+          (here, subst (λ (x : ℕ). Ats kinds ns limits ends' x ts stop) (sym (same q (omega arith) (omega arith))) rest)

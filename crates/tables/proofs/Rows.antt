@@ -47,12 +47,12 @@ module _ (k n : ℕ) (l : Float) where
   unfolding rowAllowed
   no-kind h = rw (lt-leb k 16 h)
 
-  module _ (kind : Kind) (is : kind ≡ kindOf k) (low : k ≤ 16) (b : Bool) (bs : b ≡ limitAllowed kind l) where
+  module _ {kind : Kind} (is : kind ≡ kindOf k) (low : k ≤ 16) {b : Bool} (bs : b ≡ limitAllowed kind l) where
     pub no-limit : not b ≡ true → Bad ≡ rowOf k n l
     unfolding rowAllowed
     no-limit h = rw (le-leb k 16 low, ← is, ← bs, not-true b h, and-false (countAllowed kind n))
 
-    module _ (good : not b ≡ false) (c : ℕ) (cs : c ≡ children kind n) (a : Bool) (counts : a ≡ leb (fewest kind) c && leb c (most kind)) where
+    module _ (good : not b ≡ false) {c : ℕ} (cs : c ≡ children kind n) {a : Bool} (counts : a ≡ leb (fewest kind) c && leb c (most kind)) where
       pub no-count : a ≡ false → Bad ≡ rowOf k n l
       unfolding rowAllowed
       no-count h = rw (le-leb k 16 low, ← is, ← cs, ← counts, h)

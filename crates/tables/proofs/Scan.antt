@@ -17,13 +17,15 @@ use Rattle.rules.specs.Tree.{zeroTime, freshCell, Tree, node, Forest, [], _∷_
 use Rattle.rules.specs.Table.{row, rows, rowAllowed, Read, got, fault, _andThen_, readChildren, readTree}
 use Rattle.rules.specs.Table as T
 use Rattle.tables.specs.At.{Row, At, Ats}
-use Rattle.tables.proofs.Placed.{size-pos, at-end, Same, at-keeps}
+use Rattle.tables.proofs.Placed.{size-pos, at-end, Alike, Same, at-keeps}
 
 -- ---- the rows
 abbrev rowAt : List ℕ → List ℕ → List Float → ℕ → T.Row
 rowAt ks ns ls i = row (getD ks i 0) (getD ns i 0) (getD ls i zeroTime)
 
-drop-rows : (ks ns : List ℕ) (ls : List Float) (i : ℕ) → i < length (rows ks ns ls) → drop i (rows ks ns ls) ≡ List._∷_ (rowAt ks ns ls i) (drop (suc i) (rows ks ns ls))
+drop-rows :
+    (ks ns : List ℕ) (ls : List Float) (i : ℕ) → i < length (rows ks ns ls) →
+    drop i (rows ks ns ls) ≡ List._∷_ (rowAt ks ns ls i) (drop (suc i) (rows ks ns ls))
 unfolding rows
 drop-rows List.[] ns ls i h = absurd (omega arith)
 drop-rows (List._∷_ k ks) List.[] ls i h = absurd (omega arith)
@@ -43,10 +45,15 @@ count-onto : (kids ts : Forest) → count (onto kids ts) ≡ count kids + count 
 count-onto [] ts = omega arith
 count-onto (t ∷ kids) ts = omega (arith, count-onto kids (t ∷ ts))
 
+-- a node as a table makes it
+abbrev made : Kind → ℕ → Float → Forest → Tree
+made k n l ts = node k n l freshCell 0 ts
+
 -- what is read once the next tree is, d levels below
 unfoldable resume : ℕ → List Frame → Read Tree → Read Tree
 resume d List.[] r = r
-resume d (List._∷_ (frame p k n l kids m) σ) r = resume (suc d) σ (r andThen λ t at rs. readChildren (readTree d) m at rs andThen λ ts at' rs'. got (node k n l freshCell 0 (onto kids (t ∷ ts))) at' rs')
+resume d (List._∷_ (frame p k n l kids m) σ) r =
+    resume (suc d) σ (r andThen λ t at rs. readChildren (readTree d) m at rs andThen λ ts at' rs'. got (made k n l (onto kids (t ∷ ts))) at' rs')
 
 resume-fault : (d : ℕ) (σ : List Frame) (p : ℕ) → resume d σ (fault p) ≡ fault p
 unfolding resume
@@ -54,11 +61,16 @@ resume-fault d List.[] p = refl
 resume-fault d (List._∷_ (frame q k n l kids m) σ) p = resume-fault (suc d) σ p
 
 module _ (mk : Forest → Tree) where
-  one-more : (t : Tree) (r : Read Forest) → ((r andThen λ ts at rs. got (t ∷ ts) at rs) andThen λ ts at rs. got (mk ts) at rs) ≡ (r andThen λ ts at rs. got (mk (t ∷ ts)) at rs)
+  one-more :
+      (t : Tree) (r : Read Forest) →
+      ((r andThen λ ts at rs. got (t ∷ ts) at rs) andThen λ ts at rs. got (mk ts) at rs) ≡ (r andThen λ ts at rs. got (mk (t ∷ ts)) at rs)
   one-more t (got ts at rs) = refl
   one-more t (fault p) = refl
 
-  regroup : (r : Read Tree) (rest : ℕ → List T.Row → Read Forest) → ((r andThen λ t at rs. rest at rs andThen λ ts at' rs'. got (t ∷ ts) at' rs') andThen λ ts at rs. got (mk ts) at rs) ≡ (r andThen λ t at rs. rest at rs andThen λ ts at' rs'. got (mk (t ∷ ts)) at' rs')
+  regroup :
+      (r : Read Tree) (rest : ℕ → List T.Row → Read Forest) →
+      ((r andThen λ t at rs. rest at rs andThen λ ts at' rs'. got (t ∷ ts) at' rs') andThen λ ts at rs. got (mk ts) at rs) ≡
+      (r andThen λ t at rs. rest at rs andThen λ ts at' rs'. got (mk (t ∷ ts)) at' rs')
   regroup (got t at rs) rest = one-more t (rest at rs)
   regroup (fault p) rest = refl
 
@@ -69,20 +81,33 @@ module _ (d at k n : ℕ) (l : Float) (rs : List T.Row) (σ : List Frame) (low :
   refused h = rw (lt-ltb at 256 low, h)
 
   module _ (ok : rowAllowed k n l ≡ true) where
-    leaf : children (kindOf k) n ≡ 0 → readTree (suc d) at (List._∷_ (row k n l) rs) ≡ got (node (kindOf k) n l freshCell 0 []) (suc at) rs
+    leaf :
+        children (kindOf k) n ≡ 0 →
+        readTree (suc d) at (List._∷_ (row k n l) rs) ≡ got (made (kindOf k) n l []) (suc at) rs
     unfolding readTree readChildren
     leaf e = rw (lt-ltb at 256 low, ok, e)
 
-    descend : (m : ℕ) → children (kindOf k) n ≡ suc m → resume (suc d) σ (readTree (suc d) at (List._∷_ (row k n l) rs)) ≡ resume d (List._∷_ (frame at (kindOf k) n l [] m) σ) (readTree d (suc at) rs)
+    descend :
+        (m : ℕ) → children (kindOf k) n ≡ suc m →
+        resume (suc d) σ (readTree (suc d) at (List._∷_ (row k n l) rs)) ≡
+        resume d (List._∷_ (frame at (kindOf k) n l [] m) σ) (readTree d (suc at) rs)
     unfolding readTree readChildren resume
-    descend m e = rw (lt-ltb at 256 low, ok, e) (ap (resume (suc d) σ) (regroup (λ ts. node (kindOf k) n l freshCell 0 ts) (readTree d (suc at) rs) (readChildren (readTree d) m)))
+    descend m e =
+        let groups = regroup (made (kindOf k) n l) (readTree d (suc at) rs) (readChildren (readTree d) m) in
+        rw (lt-ltb at 256 low, ok, e) (ap (resume (suc d) σ) groups)
 
 module _ (d p : ℕ) (k : Kind) (n : ℕ) (l : Float) (kids : Forest) (σ : List Frame) (t : Tree) (at : ℕ) (rs : List T.Row) where
-  next : (m : ℕ) → resume d (List._∷_ (frame p k n l kids (suc m)) σ) (got t at rs) ≡ resume d (List._∷_ (frame p k n l (t ∷ kids) m) σ) (readTree d at rs)
+  next :
+      (m : ℕ) →
+      resume d (List._∷_ (frame p k n l kids (suc m)) σ) (got t at rs) ≡
+      resume d (List._∷_ (frame p k n l (t ∷ kids) m) σ) (readTree d at rs)
   unfolding readTree readChildren resume
-  next m = ap (resume (suc d) σ) (regroup (λ ts. node k n l freshCell 0 (onto kids (t ∷ ts))) (readTree d at rs) (readChildren (readTree d) m))
+  next m =
+      ap (resume (suc d) σ) (regroup (λ ts. made k n l (onto kids (t ∷ ts))) (readTree d at rs) (readChildren (readTree d) m))
 
-  close : resume d (List._∷_ (frame p k n l kids 0) σ) (got t at rs) ≡ resume (suc d) σ (got (node k n l freshCell 0 (onto kids (t ∷ []))) at rs)
+  close :
+      resume d (List._∷_ (frame p k n l kids 0) σ) (got t at rs) ≡
+      resume (suc d) σ (got (made k n l (onto kids (t ∷ []))) at rs)
   unfolding readChildren resume
   close = refl
 
@@ -90,37 +115,60 @@ module _ (d p : ℕ) (k : Kind) (n : ℕ) (l : Float) (kids : Forest) (σ : List
 module _ (kinds ns : List ℕ) (limits : List Float) where
   abbrev Behind : List ℕ → ℕ → Forest → ℕ → Type 0
   Behind ends q [] stop = q ≡ stop
-  Behind ends q (t ∷ kids) stop = (s : ℕ) × (Behind ends q kids s × (At kinds ns limits ends s t × (getD ends s 0 ≡ stop)))
+  Behind ends q (t ∷ kids) stop =
+      (s : ℕ) × (Behind ends q kids s × (At kinds ns limits ends s t × (getD ends s 0 ≡ stop)))
 
   -- the innermost owes `left` children behind the next one, and `owed` has for each node what is owed around it
   abbrev Open : List ℕ → List ℕ → List ℕ → List Frame → ℕ → ℕ → Type 0
   Open begins owed ends List.[] left at = (left ≡ 0) × (at ≡ 0)
-  Open begins owed ends (List._∷_ (frame p k n l kids m) σ) left at = Row kinds ns limits p k n l (count kids + suc m) × (Behind ends (suc p) kids at × ((left ≡ m) × ((getD begins (length σ) 0 ≡ p) × Open begins owed ends σ (getD owed (length σ) 0) p)))
+  Open begins owed ends (List._∷_ (frame p k n l kids m) σ) left at =
+      Row kinds ns limits p k n l (count kids + suc m) × (Behind ends (suc p) kids at × ((left ≡ m) ×
+      ((getD begins (length σ) 0 ≡ p) × Open begins owed ends σ (getD owed (length σ) 0) p)))
+
+  -- a node of which one more child is counted
+  recount :
+      {p : ℕ} {k : Kind} {n : ℕ} {l : Float} {m m' : ℕ} →
+      Row kinds ns limits p k n l m → m ≡ m' → Row kinds ns limits p k n l m'
+  recount r e = rw e at r
 
   behind-le : (kids : Forest) (ends : List ℕ) (q stop : ℕ) → Behind ends q kids stop → q ≤ stop
   behind-le [] ends q stop h = omega arith
-  behind-le (t ∷ kids) ends q stop (s, (b, (a, e))) = omega (arith, behind-le kids ends q s b, at-end kinds ns limits t ends s a)
+  behind-le (t ∷ kids) ends q stop (s, (b, (a, e))) =
+      omega (arith, behind-le kids ends q s b, at-end kinds ns limits t ends s a)
 
-  behind-ats : (kids ts : Forest) (ends : List ℕ) (q s stop : ℕ) → Behind ends q kids s → Ats kinds ns limits ends s ts stop → Ats kinds ns limits ends q (onto kids ts) stop
+  behind-ats :
+      (kids ts : Forest) (ends : List ℕ) (q s stop : ℕ) →
+      Behind ends q kids s → Ats kinds ns limits ends s ts stop →
+      Ats kinds ns limits ends q (onto kids ts) stop
   behind-ats [] ts ends q s stop b h = subst (λ (x : ℕ). Ats kinds ns limits ends x ts stop) (sym b) h
-  behind-ats (t ∷ kids) ts ends q s stop (s', (b, (a, e))) h = behind-ats kids (t ∷ ts) ends q s' stop b (a, subst (λ (x : ℕ). Ats kinds ns limits ends x ts stop) (sym e) h)
+  behind-ats (t ∷ kids) ts ends q s stop (s', (b, (a, e))) h =
+      behind-ats kids (t ∷ ts) ends q s' stop b (a, subst (λ (x : ℕ). Ats kinds ns limits ends x ts stop) (sym e) h)
 
   module _ (ends ends' : List ℕ) where
-    behind-keeps : (kids : Forest) (q stop : ℕ) → Behind ends q kids stop → Same ends ends' q stop → Behind ends' q kids stop
+    behind-keeps :
+        (kids : Forest) (q stop : ℕ) → Behind ends q kids stop → Same ends ends' q stop →
+        Behind ends' q kids stop
     behind-keeps [] q stop h same = h
     behind-keeps (t ∷ kids) q stop (s, (b, (a, e))) same =
         let le = behind-le kids ends q s b in
         let to = at-end kinds ns limits t ends s a in
         let pos = size-pos t in
-        (s, (behind-keeps kids q s b (λ j x y. same j x (omega arith)), (at-keeps kinds ns limits ends ends' t s a (λ j x y. same j (omega arith) (omega arith)), same s le (omega arith) ∙ e)))
+        let before = behind-keeps kids q s b (λ j x y. same j x (omega arith)) in
+        let last = at-keeps kinds ns limits ends ends' t s a (λ j x y. same j (omega arith) (omega arith)) in
+        (s, (before, (last, same s le (omega arith) ∙ e)))
 
     module _ (begins begins' owed owed' : List ℕ) where
-      open-keeps : (σ : List Frame) (left at : ℕ) → Open begins owed ends σ left at → ((i : ℕ) → i < length σ → getD begins' i 0 ≡ getD begins i 0) → ((i : ℕ) → i < length σ → getD owed' i 0 ≡ getD owed i 0) → ((j : ℕ) → j < at → getD ends' j 0 ≡ getD ends j 0) → Open begins' owed' ends' σ left at
+      open-keeps :
+          (σ : List Frame) (left at : ℕ) → Open begins owed ends σ left at →
+          Alike 0 begins begins' (length σ) → Alike 0 owed owed' (length σ) → Alike 0 ends ends' at →
+          Open begins' owed' ends' σ left at
       open-keeps List.[] left at h sb so se = h
       open-keeps (List._∷_ (frame p k n l kids m) σ) left at (r, (b, (o, (g, h)))) sb so se =
           let le = behind-le kids ends (suc p) at b in
-          let h' = open-keeps σ (getD owed (length σ) 0) p h (λ i x. sb i (omega arith)) (λ i x. so i (omega arith)) (λ j x. se j (omega arith)) in
-          (r, (behind-keeps kids (suc p) at b (λ j x y. se j y), (o, (sb (length σ) (omega arith) ∙ g, subst (λ (x : ℕ). Open begins' owed' ends' σ x p) (sym (so (length σ) (omega arith))) h'))))
+          let kids' = behind-keeps kids (suc p) at b (λ j x y. se j y) in
+          let below = open-keeps σ (getD owed (length σ) 0) p h (λ i x. sb i (omega arith)) (λ i x. so i (omega arith)) (λ j x. se j (omega arith)) in
+          let below' = subst (λ (x : ℕ). Open begins' owed' ends' σ x p) (sym (so (length σ) (omega arith))) below in
+          (r, (kids', (o, (sb (length σ) (omega arith) ∙ g, below'))))
 
   -- ---- what the loops keep
   abbrev all : List T.Row
@@ -151,7 +199,8 @@ module _ (kinds ns : List ℕ) (limits : List Float) where
 
   pub start : (begins owed ends : List ℕ) → Reading begins owed ends 0 1 0
   unfolding resume
-  start begins owed ends = record { deep = 16; frames = List.[]; level = refl; levels = refl; owes = omega arith; opened = (refl, refl); reads = refl }
+  start begins owed ends =
+      record { deep = 16; frames = List.[]; level = refl; levels = refl; owes = omega arith; opened = (refl, refl); reads = refl }
 
   module _ (begins owed ends : List ℕ) (open' left at : ℕ) (r : Reading begins owed ends open' left at) where
     ends-here : readTree (r .deep) at (drop at all) ≡ fault at → readTree 16 0 all ≡ fault at
@@ -170,14 +219,18 @@ module _ (kinds ns : List ℕ) (limits : List Float) where
 
     past-by : (b : Bool) → leb (length all) at ≡ b → min (length all) 256 ≤ at → readTree 16 0 all ≡ fault at
     past-by true e h = ends-here (fault-none (r .deep) (leb-true (length all) at e))
-    past-by false e h = let f = leb-false (length all) at e in ends-here (fault-wide (r .deep) (omega arith) (drop at all))
+    past-by false e h =
+        let f = leb-false (length all) at e in
+        ends-here (fault-wide (r .deep) (omega arith) (drop at all))
 
     pub past : min (length all) 256 ≤ at → readTree 16 0 all ≡ fault at
     past h = past-by _ refl h
 
     pub too-deep : 16 ≤ open' → readTree 16 0 all ≡ fault at
     unfolding readTree
-    too-deep h = let z : r .deep ≡ 0 = omega (arith, r .level, r .levels) in ends-here (rw z)
+    too-deep h =
+        let z : r .deep ≡ 0 = omega (arith, r .level, r .levels) in
+        ends-here (rw z)
 
     module _ (low : at < 256) (inside : at < length all) (room : open' < 16) where
       abbrev k : ℕ
@@ -192,50 +245,78 @@ module _ (kinds ns : List ℕ) (limits : List Float) where
       level-up : r .deep ≡ suc (r .deep - 1)
       level-up = omega (arith, r .level, r .levels)
 
-      reads-row : resume (suc (r .deep - 1)) (r .frames) (readTree (suc (r .deep - 1)) at (List._∷_ (row k n l) (drop (suc at) all))) ≡ readTree 16 0 all
-      reads-row = subst (λ (d : ℕ). resume d (r .frames) (readTree d at (List._∷_ (row k n l) (drop (suc at) all))) ≡ readTree 16 0 all) level-up (rw (drop-rows kinds ns limits at inside) at (r .reads))
+      abbrev from : List T.Row
+      from = List._∷_ (row k n l) (drop (suc at) all)
+
+      reads-row : resume (suc (r .deep - 1)) (r .frames) (readTree (suc (r .deep - 1)) at from) ≡ readTree 16 0 all
+      reads-row =
+          let reads = rw (drop-rows kinds ns limits at inside) at (r .reads) in
+          subst (λ (d : ℕ). resume d (r .frames) (readTree d at from) ≡ readTree 16 0 all) level-up reads
+
+      row-here : {m : ℕ} → rowAllowed k n l ≡ true → m ≡ children (kindOf k) n → Row kinds ns limits at (kindOf k) n l m
+      row-here ok e = record { kind = refl; number = refl; limit = refl; allowed = ok; kids = e }
 
       pub refuses : rowAllowed k n l ≡ false → readTree 16 0 all ≡ fault at
-      refuses h = sym reads-row ∙ ap (resume (suc (r .deep - 1)) (r .frames)) (refused (r .deep - 1) at k n l (drop (suc at) all) (r .frames) low h) ∙ resume-fault (suc (r .deep - 1)) (r .frames) at
+      refuses h =
+          let none = refused (r .deep - 1) at k n l (drop (suc at) all) (r .frames) low h in
+          sym reads-row ∙ ap (resume (suc (r .deep - 1)) (r .frames)) none ∙ resume-fault (suc (r .deep - 1)) (r .frames) at
 
       module _ (ok : rowAllowed k n l ≡ true) (c : ℕ) (e : c ≡ children (kindOf k) n) where
-        pub descends : 0 < c → length begins ≡ 16 → length owed ≡ 16 → Reading (set begins open' at) (set owed open' (left - 1)) ends (open' + 1) c (at + 1)
+        pub descends :
+            0 < c → length begins ≡ 16 → length owed ≡ 16 →
+            Reading (set begins open' at) (set owed open' (left - 1)) ends (open' + 1) c (at + 1)
         descends pos lb lo =
             let σ = r .frames in
             let lev = r .level in
             let more : children (kindOf k) n ≡ suc (c - 1) = omega arith in
-            let around : getD (set owed open' (left - 1)) (length σ) 0 ≡ left - 1 = rw (← lev) (getD-set-same owed open' (left - 1) 0 (omega arith)) in
+            let begins' = set begins open' at in
+            let owed' = set owed open' (left - 1) in
+            let here : getD begins' (length σ) 0 ≡ at = rw (← lev) (getD-set-same begins open' at 0 (omega arith)) in
+            let around : getD owed' (length σ) 0 ≡ left - 1 = rw (← lev) (getD-set-same owed open' (left - 1) 0 (omega arith)) in
+            let others : Alike 0 begins begins' (length σ) = λ i x. getD-set-other begins open' i at 0 (omega arith) in
+            let others' : Alike 0 owed owed' (length σ) = λ i x. getD-set-other owed open' i (left - 1) 0 (omega arith) in
+            let below = open-keeps ends ends begins begins' owed owed' σ (left - 1) at (r .opened) others others' (λ j x. refl) in
+            let below' = subst (λ (x : ℕ). Open begins' owed' ends σ x at) (sym around) below in
             record {
               deep = r .deep - 1;
               frames = List._∷_ (frame at (kindOf k) n l [] (c - 1)) σ;
               level = omega arith;
               levels = omega (arith, r .levels, level-up);
               owes = pos;
-              opened = (record { kind = refl; number = refl; limit = refl; allowed = ok; kids = omega arith }, (omega arith, (refl, (rw (← lev) (getD-set-same begins open' at 0 (omega arith)), subst (λ (x : ℕ). Open (set begins open' at) (set owed open' (left - 1)) ends σ x at) (sym around) (open-keeps ends ends begins (set begins open' at) owed (set owed open' (left - 1)) σ (left - 1) at (r .opened) (λ i x. getD-set-other begins open' i at 0 (omega arith)) (λ i x. getD-set-other owed open' i (left - 1) 0 (omega arith)) (λ j x. refl))))));
+              opened = (row-here ok (omega arith), (omega arith, (refl, (here, below'))));
               reads = rw (add-one at) (sym (descend (r .deep - 1) at k n l (drop (suc at) all) σ low ok (c - 1) more) ∙ reads-row);
             }
 
-        pub leaves : c ≤ 0 → length ends ≡ 256 → Closing begins owed (set ends at (at + 1)) open' (left - 1) (at + 1)
+        pub leaves :
+            c ≤ 0 → length ends ≡ 256 →
+            Closing begins owed (set ends at (at + 1)) open' (left - 1) (at + 1)
         leaves none le =
             let σ = r .frames in
-            let here : getD (set ends at (at + 1)) at 0 ≡ at + 1 = getD-set-same ends at (at + 1) 0 (omega arith) in
+            let ends' = set ends at (at + 1) in
+            let here : getD ends' at 0 ≡ at + 1 = getD-set-same ends at (at + 1) 0 (omega arith) in
+            let others : Alike 0 ends ends' at = λ j x. getD-set-other ends at j (at + 1) 0 (omega arith) in
             let zero' : children (kindOf k) n ≡ 0 = omega arith in
+            let alone = sym (leaf (r .deep - 1) at k n l (drop (suc at) all) σ low ok zero') in
             record {
               deep = r .deep;
               frames = σ;
-              tree = node (kindOf k) n l freshCell 0 [];
+              tree = made (kindOf k) n l [];
               place = at;
               level = r .level;
               levels = r .levels;
-              opened = open-keeps ends (set ends at (at + 1)) begins begins owed owed σ (left - 1) at (r .opened) (λ i x. refl) (λ i x. refl) (λ j x. getD-set-other ends at j (at + 1) 0 (omega arith));
-              placed = (record { kind = refl; number = refl; limit = refl; allowed = ok; kids = sym zero' }, omega arith);
+              opened = open-keeps ends ends' begins begins owed owed σ (left - 1) at (r .opened) (λ i x. refl) (λ i x. refl) others;
+              placed = (row-here ok (sym zero'), omega arith);
               stop = here;
-              reads = rw (level-up, add-one at) (ap (resume (suc (r .deep - 1)) σ) (sym (leaf (r .deep - 1) at k n l (drop (suc at) all) σ low ok zero')) ∙ reads-row);
+              reads = rw (level-up, add-one at) (ap (resume (suc (r .deep - 1)) σ) alone ∙ reads-row);
             }
 
   module _ (begins owed ends : List ℕ) (open' left at : ℕ) (le : length ends ≡ 256) (low : at ≤ 256) where
     module _ (d : ℕ) (t : Tree) (q : ℕ) (placed : At kinds ns limits ends q t) (stop : getD ends q 0 ≡ at) where
-      nexts-at : (σ : List Frame) → open' ≡ length σ → d + length σ ≡ 16 → Open begins owed ends σ left q → resume d σ (got t at (drop at all)) ≡ readTree 16 0 all → 0 < left → Reading begins owed ends open' left at
+      nexts-at :
+          (σ : List Frame) → open' ≡ length σ → d + length σ ≡ 16 → Open begins owed ends σ left q →
+          resume d σ (got t at (drop at all)) ≡ readTree 16 0 all →
+          0 < left →
+          Reading begins owed ends open' left at
       nexts-at List.[] lev ups (none, z) reads more = absurd (omega arith)
       nexts-at (List._∷_ (frame p k n l kids m) σ) lev ups (r, (b, (o, (g, h)))) reads more =
           let m' : m ≡ suc (left - 1) = omega arith in
@@ -245,8 +326,8 @@ module _ (kinds ns : List ℕ) (limits : List Float) where
             level = lev;
             levels = ups;
             owes = more;
-            opened = (record { kind = r .kind; number = r .number; limit = r .limit; allowed = r .allowed; kids = omega (arith, r .kids) }, ((q, (b, (placed, stop))), (refl, (g, h))));
-            reads = sym (next d p k n l kids σ t at (drop at all) (left - 1)) ∙ subst (λ (x : ℕ). resume d (List._∷_ (frame p k n l kids x) σ) (got t at (drop at all)) ≡ readTree 16 0 all) m' reads;
+            opened = (recount r (omega arith), ((q, (b, (placed, stop))), (refl, (g, h))));
+            reads = sym (next d p k n l kids σ t at (drop at all) (left - 1)) ∙ (rw m' at reads);
           }
 
       -- the top node begins before its end
@@ -257,7 +338,11 @@ module _ (kinds ns : List ℕ) (limits : List Float) where
           let g' : getD begins (open' - 1) 0 ≡ p = rw top g in
           omega (arith, behind-le kids ends (suc p) q b, at-end kinds ns limits t ends q placed)
 
-      closes-at : (σ : List Frame) → open' ≡ length σ → d + length σ ≡ 16 → Open begins owed ends σ left q → resume d σ (got t at (drop at all)) ≡ readTree 16 0 all → 0 < open' → left ≡ 0 → Closing begins owed (set ends (getD begins (open' - 1) 0) at) (open' - 1) (getD owed (open' - 1) 0) at
+      closes-at :
+          (σ : List Frame) → open' ≡ length σ → d + length σ ≡ 16 → Open begins owed ends σ left q →
+          resume d σ (got t at (drop at all)) ≡ readTree 16 0 all →
+          0 < open' → left ≡ 0 →
+          Closing begins owed (set ends (getD begins (open' - 1) 0) at) (open' - 1) (getD owed (open' - 1) 0) at
       closes-at List.[] lev ups opened reads pos none = absurd (omega arith)
       closes-at (List._∷_ (frame p k n l kids m) σ) lev ups (r, (b, (o, (g, h)))) reads pos none =
           let top : open' - 1 ≡ length σ = omega arith in
@@ -268,17 +353,22 @@ module _ (kinds ns : List ℕ) (limits : List Float) where
           let z = at-end kinds ns limits t ends q placed in
           let ends' = set ends p at in
           let here : getD ends' p 0 ≡ at = getD-set-same ends p at 0 (omega arith) in
+          let before : Alike 0 ends ends' p = λ j x. getD-set-other ends p j at 0 (omega arith) in
+          let others : Same ends ends' (suc p) at = λ j x y. getD-set-other ends p j at 0 (omega arith) in
+          let kids' = behind-keeps ends ends' kids (suc p) q b (λ j x y. others j x (omega arith)) in
+          let last = at-keeps kinds ns limits ends ends' t q placed (λ j x y. others j (omega arith) (omega arith)) in
+          let stop' = others q a (omega (arith, size-pos t)) ∙ stop ∙ sym here in
           rw g' (record {
             deep = suc d;
             frames = σ;
-            tree = node k n l freshCell 0 (onto kids (t ∷ []));
+            tree = made k n l (onto kids (t ∷ []));
             place = p;
             level = top;
             levels = omega arith;
-            opened = open-keeps ends ends' begins begins owed owed σ (getD owed (open' - 1) 0) p h' (λ i x. refl) (λ i x. refl) (λ j x. getD-set-other ends p j at 0 (omega arith));
-            placed = (record { kind = r .kind; number = r .number; limit = r .limit; allowed = r .allowed; kids = omega (arith, r .kids, count-onto kids (t ∷ [])) }, behind-ats kids (t ∷ []) ends' (suc p) q (getD ends' p 0) (behind-keeps ends ends' kids (suc p) q b (λ j x y. getD-set-other ends p j at 0 (omega arith))) (at-keeps kinds ns limits ends ends' t q placed (λ j x y. getD-set-other ends p j at 0 (omega arith)), getD-set-other ends p q at 0 (omega arith) ∙ stop ∙ sym here));
+            opened = open-keeps ends ends' begins begins owed owed σ (getD owed (open' - 1) 0) p h' (λ i x. refl) (λ i x. refl) before;
+            placed = (recount r (omega (arith, count-onto kids (t ∷ []))), behind-ats kids (t ∷ []) ends' (suc p) q (getD ends' p 0) kids' (last, stop'));
             stop = here;
-            reads = sym (close d p k n l kids σ t at (drop at all)) ∙ subst (λ (x : ℕ). resume d (List._∷_ (frame p k n l kids x) σ) (got t at (drop at all)) ≡ readTree 16 0 all) none' reads;
+            reads = sym (close d p k n l kids σ t at (drop at all)) ∙ (rw none' at reads);
           })
 
     module _ (c : Closing begins owed ends open' left at) where
@@ -288,7 +378,9 @@ module _ (kinds ns : List ℕ) (limits : List Float) where
       pub begins-before : 0 < open' → getD begins (open' - 1) 0 < at
       begins-before = begins-at (c .deep) (c .tree) (c .place) (c .placed) (c .stop) (c .frames) (c .level) (c .opened)
 
-      pub closes : 0 < open' → left ≡ 0 → Closing begins owed (set ends (getD begins (open' - 1) 0) at) (open' - 1) (getD owed (open' - 1) 0) at
+      pub closes :
+          0 < open' → left ≡ 0 →
+          Closing begins owed (set ends (getD begins (open' - 1) 0) at) (open' - 1) (getD owed (open' - 1) 0) at
       closes = closes-at (c .deep) (c .tree) (c .place) (c .placed) (c .stop) (c .frames) (c .level) (c .levels) (c .opened) (c .reads)
 
   -- ---- the root is read
@@ -298,10 +390,18 @@ module _ (kinds ns : List ℕ) (limits : List Float) where
     pub placed : At kinds ns limits ends 0 tree
     pub sized : at ≡ size tree
 
-  whole-at : (begins owed ends : List ℕ) (left at d : ℕ) (σ : List Frame) (t : Tree) (q : ℕ) → length σ ≡ 0 → Open begins owed ends σ left q → At kinds ns limits ends q t → getD ends q 0 ≡ at → resume d σ (got t at (drop at all)) ≡ readTree 16 0 all → Whole ends at
+  whole-at :
+      (begins owed ends : List ℕ) (left at d : ℕ) (σ : List Frame) (t : Tree) (q : ℕ) →
+      length σ ≡ 0 → Open begins owed ends σ left q → At kinds ns limits ends q t → getD ends q 0 ≡ at →
+      resume d σ (got t at (drop at all)) ≡ readTree 16 0 all →
+      Whole ends at
   unfolding resume
-  whole-at begins owed ends left at d List.[] t q lev (none, opened) placed stop reads = let root : At kinds ns limits ends 0 t = rw opened at placed in record { tree = t; reads = sym reads; placed = root; sized = omega (arith, at-end kinds ns limits t ends q placed) }
+  whole-at begins owed ends left at d List.[] t q lev (none, opened) placed stop reads =
+      let root : At kinds ns limits ends 0 t = rw opened at placed in
+      record { tree = t; reads = sym reads; placed = root; sized = omega (arith, at-end kinds ns limits t ends q placed) }
   whole-at begins owed ends left at d (List._∷_ f σ) t q lev opened placed stop reads = absurd (omega arith)
 
   pub whole : (begins owed ends : List ℕ) (open' left at : ℕ) → Closing begins owed ends open' left at → open' ≡ 0 → Whole ends at
-  whole begins owed ends open' left at c h = whole-at begins owed ends left at (c .deep) (c .frames) (c .tree) (c .place) (omega (arith, c .level)) (c .opened) (c .placed) (c .stop) (c .reads)
+  whole begins owed ends open' left at c h =
+      let none : length (c .frames) ≡ 0 = omega (arith, c .level) in
+      whole-at begins owed ends left at (c .deep) (c .frames) (c .tree) (c .place) none (c .opened) (c .placed) (c .stop) (c .reads)

@@ -19,8 +19,12 @@ use Rattle.tables.proofs.Rows.{length-rows, row-bad, row-allowed, row-c
 use Rattle.tables.proofs.Depth.{read-depth}
 use Rattle.tables.proofs.Scan.{Reading, Closing, start, past, too-deep, refuses, descends, leaves, nexts, begins-before, closes, Whole, whole}
 
+-- what is said of begins, owed, ends, open', left and at
+abbrev pub Stand : Type 1
+Stand = List ℕ → List ℕ → List ℕ → ℕ → ℕ → ℕ → Type 0
+
 -- with ends₀ before the loop
-pub record Kept (kinds ns : List ℕ) (limits : List Float) (State : List ℕ → List ℕ → List ℕ → ℕ → ℕ → ℕ → Type 0) (ends₀ begins owed ends : List ℕ) (open' left at : ℕ) : Type 0 where
+pub record Kept (kinds ns : List ℕ) (limits : List Float) (State : Stand) (ends₀ begins owed ends : List ℕ) (open' left at : ℕ) : Type 0 where
   pub state : State begins owed ends open' left at
   pub begins-long : length begins ≡ 16
   pub owed-long : length owed ≡ 16
@@ -30,13 +34,15 @@ pub record Kept (kinds ns : List ℕ) (limits : List Float) (State : List ℕ �
   pub room : open' < 16
   pub stays : (i : ℕ) → at ≤ i → getD ends i 0 ≡ getD ends₀ i 0
 
-abbrev pub Nodes : List ℕ → List ℕ → List Float → List ℕ → List ℕ → List ℕ → List ℕ → ℕ → ℕ → ℕ → Type 0
+abbrev pub Nodes : List ℕ → List ℕ → List Float → List ℕ → Stand
 Nodes kinds ns limits = Kept kinds ns limits (Reading kinds ns limits)
 
-abbrev pub Ended : List ℕ → List ℕ → List Float → List ℕ → List ℕ → List ℕ → List ℕ → ℕ → ℕ → ℕ → Type 0
+abbrev pub Ended : List ℕ → List ℕ → List Float → List ℕ → Stand
 Ended kinds ns limits = Kept kinds ns limits (Closing kinds ns limits)
 
-pub first : {kinds ns : List ℕ} {limits : List Float} {begins owed ends : List ℕ} → length begins ≡ 16 → length owed ≡ 16 → length ends ≡ 256 → Nodes kinds ns limits ends begins owed ends 0 1 0
+pub first :
+    {kinds ns : List ℕ} {limits : List Float} {begins owed ends : List ℕ} →
+    length begins ≡ 16 → length owed ≡ 16 → length ends ≡ 256 → Nodes kinds ns limits ends begins owed ends 0 1 0
 first {kinds = kinds} {ns = ns} {limits = limits} {begins = begins} {owed = owed} {ends = ends} lb lo le = record {
   state = start kinds ns limits begins owed ends;
   begins-long = lb;
@@ -49,7 +55,12 @@ first {kinds = kinds} {ns = ns} {limits = limits} {begins = begins} {owed = owed
 }
 
 -- seen from before the outer loop
-pub since : {kinds ns : List ℕ} {limits : List Float} {State : List ℕ → List ℕ → List ℕ → ℕ → ℕ → ℕ → Type 0} {first begins owed begins' owed' ends ends' : List ℕ} {open' open'' left left' at : ℕ} → Nodes kinds ns limits first begins owed ends open' left at → Kept kinds ns limits State (set ends at (at + 1)) begins' owed' ends' open'' left' (at + 1) → Kept kinds ns limits State first begins' owed' ends' open'' left' (at + 1)
+pub since :
+    {kinds ns : List ℕ} {limits : List Float} {State : Stand}
+    {first begins owed begins' owed' ends ends' : List ℕ} {open' open'' left left' at : ℕ} →
+    Nodes kinds ns limits first begins owed ends open' left at →
+    Kept kinds ns limits State (set ends at (at + 1)) begins' owed' ends' open'' left' (at + 1) →
+    Kept kinds ns limits State first begins' owed' ends' open'' left' (at + 1)
 since {ends = ends} {at = at} w v = record {
   state = v .state;
   begins-long = v .begins-long;
@@ -63,11 +74,15 @@ since {ends = ends} {at = at} w v = record {
 
 module _ {kinds ns : List ℕ} {limits : List Float} {ends₀ begins owed ends : List ℕ} {open' left at : ℕ} where
   -- ---- the answers
-  refused : {State : List ℕ → List ℕ → List ℕ → ℕ → ℕ → ℕ → Type 0} → Kept kinds ns limits State ends₀ begins owed ends open' left at → readTree 16 0 (rows kinds ns limits) ≡ fault at → Tabled kinds ns limits ends₀ ends (Bad at)
+  refused :
+      {State : Stand} → Kept kinds ns limits State ends₀ begins owed ends open' left at →
+      readTree 16 0 (rows kinds ns limits) ≡ fault at → Tabled kinds ns limits ends₀ ends (Bad at)
   unfolding table
   refused v e = record { said = rw e; tree = rw e tt; long = v .ends-long; stays = v .stays }
 
-  pub at-end : Nodes kinds ns limits ends₀ begins owed ends open' left at → min (length (rows kinds ns limits)) 256 ≤ at → Tabled kinds ns limits ends₀ ends (Bad at)
+  pub at-end :
+      Nodes kinds ns limits ends₀ begins owed ends open' left at →
+      min (length (rows kinds ns limits)) 256 ≤ at → Tabled kinds ns limits ends₀ ends (Bad at)
   at-end v h = refused v (past kinds ns limits begins owed ends open' left at (v .state) h)
 
   module _ (v : Ended kinds ns limits ends₀ begins owed ends open' left at) (none : open' ≡ 0) where
@@ -76,13 +91,25 @@ module _ {kinds ns : List ℕ} {limits : List Float} {ends₀ begins owed ends :
 
     pub too-long : at < length (rows kinds ns limits) → Tabled kinds ns limits ends₀ ends (Bad at)
     unfolding table
-    too-long h = let e = w .reads ∙ ap (got (w .tree) at) (drop-cons (rows kinds ns limits) at (T.row 0 0 zeroTime) h) in record { said = rw e; tree = rw e tt; long = v .ends-long; stays = v .stays }
+    too-long h =
+        let e = w .reads ∙ ap (got (w .tree) at) (drop-cons (rows kinds ns limits) at (T.row 0 0 zeroTime) h) in
+        record { said = rw e; tree = rw e tt; long = v .ends-long; stays = v .stays }
 
     pub accepted : length (rows kinds ns limits) ≤ at → Tabled kinds ns limits ends₀ ends (Good at)
     unfolding table
     accepted h =
         let e = w .reads ∙ ap (got (w .tree) at) (drop-of-length-le (rows kinds ns limits) h) in
-        record { said = rw e (ap Good (w .sized)); tree = rw e (record { nodes = omega (arith, w .sized, v .inside); few = omega (arith, w .sized, v .low); levels = read-depth 16 0 (rows kinds ns limits) (w .reads); placed = w .placed }); long = v .ends-long; stays = v .stays }
+        record {
+          said = rw e (ap Good (w .sized));
+          tree = rw e (record {
+            nodes = omega (arith, w .sized, v .inside);
+            few = omega (arith, w .sized, v .low);
+            levels = read-depth 16 0 (rows kinds ns limits) (w .reads);
+            placed = w .placed;
+          });
+          long = v .ends-long;
+          stays = v .stays;
+        }
 
   -- ---- the turns
   module _ (v : Nodes kinds ns limits ends₀ begins owed ends open' left at) (inside : at < min (length (rows kinds ns limits)) 256) where
@@ -98,10 +125,13 @@ module _ {kinds ns : List ℕ} {limits : List Float} {ends₀ begins owed ends :
       told = rowOf (getD kinds at 0) (getD ns at 0) (getD limits at d)
 
       same : rowOf (getD kinds at 0) (getD ns at 0) (getD limits at zeroTime) ≡ told
-      same = ap (rowOf (getD kinds at 0) (getD ns at 0)) (any-default limits at zeroTime d (omega (arith, in-rows, length-rows kinds ns limits)))
+      same =
+          let long = length-rows kinds ns limits in
+          ap (rowOf (getD kinds at 0) (getD ns at 0)) (any-default limits at zeroTime d (omega (arith, in-rows)))
 
       pub row-refused : told ≡ row.Bad → Tabled kinds ns limits ends₀ ends (Bad at)
-      row-refused h = refused v (refuses kinds ns limits begins owed ends open' left at (v .state) low in-rows (v .room) (row-bad _ _ _ (same ∙ h)))
+      row-refused h =
+          refused v (refuses kinds ns limits begins owed ends open' left at (v .state) low in-rows (v .room) (row-bad _ _ _ (same ∙ h)))
 
       module _ (c : ℕ) (is : told ≡ row.Children c) where
         ok : rowAllowed (getD kinds at 0) (getD ns at 0) (getD limits at zeroTime) ≡ true
@@ -112,7 +142,8 @@ module _ {kinds ns : List ℕ} {limits : List Float} {ends₀ begins owed ends :
 
         module _ (pos : 0 < c) where
           below : Reading kinds ns limits (set begins open' at) (set owed open' (left - 1)) ends (open' + 1) c (at + 1)
-          below = descends kinds ns limits begins owed ends open' left at (v .state) low in-rows (v .room) ok c e pos (v .begins-long) (v .owed-long)
+          below =
+              descends kinds ns limits begins owed ends open' left at (v .state) low in-rows (v .room) ok c e pos (v .begins-long) (v .owed-long)
 
           pub too-deep-at : 16 ≤ open' + 1 → Tabled kinds ns limits ends₀ ends (Bad (at + 1))
           unfolding table
@@ -120,7 +151,9 @@ module _ {kinds ns : List ℕ} {limits : List Float} {ends₀ begins owed ends :
               let f = too-deep kinds ns limits (set begins open' at) (set owed open' (left - 1)) ends (open' + 1) c (at + 1) below h in
               record { said = rw f; tree = rw f tt; long = v .ends-long; stays = λ i z. v .stays i (omega arith) }
 
-          pub opens : open' + 1 < 16 → Nodes kinds ns limits ends₀ (set begins open' at) (set owed open' (left - 1)) ends (open' + 1) c (at + 1)
+          pub opens :
+              open' + 1 < 16 →
+              Nodes kinds ns limits ends₀ (set begins open' at) (set owed open' (left - 1)) ends (open' + 1) c (at + 1)
           opens room = record {
             state = below;
             begins-long = length-set begins open' at ∙ v .begins-long;
@@ -132,7 +165,9 @@ module _ {kinds ns : List ℕ} {limits : List Float} {ends₀ begins owed ends :
             stays = λ i h. v .stays i (omega arith);
           }
 
-        pub ends-leaf : c ≤ 0 → Ended kinds ns limits (set ends at (at + 1)) begins owed (set ends at (at + 1)) open' (left - 1) (at + 1)
+        pub ends-leaf :
+            c ≤ 0 →
+            Ended kinds ns limits (set ends at (at + 1)) begins owed (set ends at (at + 1)) open' (left - 1) (at + 1)
         ends-leaf none = record {
           state = leaves kinds ns limits begins owed ends open' left at (v .state) low in-rows (v .room) ok c e none (v .ends-long);
           begins-long = v .begins-long;
@@ -161,7 +196,9 @@ module _ {kinds ns : List ℕ} {limits : List Float} {ends₀ begins owed ends :
       pub begin-low : getD begins (open' - 1) 0 < at
       begin-low = begins-before kinds ns limits begins owed ends open' left at (v .ends-long) (v .low) (v .state) pos
 
-      pub closes-one : left ≡ 0 → Ended kinds ns limits ends₀ begins owed (set ends (getD begins (open' - 1) 0) at) (open' - 1) (getD owed (open' - 1) 0) at
+      pub closes-one :
+          left ≡ 0 →
+          Ended kinds ns limits ends₀ begins owed (set ends (getD begins (open' - 1) 0) at) (open' - 1) (getD owed (open' - 1) 0) at
       closes-one none = record {
         state = closes kinds ns limits begins owed ends open' left at (v .ends-long) (v .low) (v .state) pos none;
         begins-long = v .begins-long;

@@ -61,6 +61,19 @@ fn cases() -> Vec<Case> {
     for kind in [WHEN_ALL, SEQUENCE, MEMORYLESS] {
         all.extend([256, 128, 64, 32, 16].map(|nodes| wide(kind, nodes)));
     }
+    // Further trees of the study.
+    let late = |kind: u8| {
+        let mut nodes = above(kind, 255, (WAIT, 0, LONG));
+        nodes[1..=200].iter_mut().for_each(|node| node.2 = 0.0);
+        nodes
+    };
+    all.push(case("deep Sequence", &chain(SEQUENCE), 1.0, false));
+    all.push(case("deep WhenAll", &chain(WHEN_ALL), 1.0, false));
+    all.push(case("deep If", &chain(IF), 1.0, false));
+    all.push(case("deep While", &chain(11), 1.0, false));
+    all.push(case("Sequence of 255 at place 200", &late(SEQUENCE), 1.0, false));
+    all.push(case("WhenAll of 255, 200 marked", &late(WHEN_ALL), 1.0, false));
+    all.push(case("Wait alone", &[(WAIT, 0, LONG)], 1.0, false));
     all
 }
 

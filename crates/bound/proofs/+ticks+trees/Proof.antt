@@ -50,9 +50,30 @@ trees-Inv-loop kinds ns limits ends step join from count all₀ at₀ left₀ al
 abbrev trees-μ-loop : trees-lts.MeasureT-loop
 trees-μ-loop kinds ns limits ends step join from count all₀ at₀ left₀ all at left = left
 
-met-ticks : {M : Type 1} (t : ℕ) → ticks-lts.Closed (kind-of.Asked, kind-of.Learnt, own-ticks.Asked, own-ticks.Learnt, children.Asked, children.Learnt, alone.Asked, alone.Learnt, ticks-below t, ticks.Post, join-of.Asked, join-of.Learnt, trees-below t, trees.Post, together.Asked, together.Learnt) (ticks-at t) ticks.Post M
+-- what `ticks` asks of its callees, and learns
+abbrev callees : ℕ → ticks-lts.Claims
+callees t = (
+  kind-of.Asked,
+  kind-of.Learnt,
+  own-ticks.Asked,
+  own-ticks.Learnt,
+  children.Asked,
+  children.Learnt,
+  alone.Asked,
+  alone.Learnt,
+  ticks-below t,
+  ticks.Post,
+  join-of.Asked,
+  join-of.Learnt,
+  trees-below t,
+  trees.Post,
+  together.Asked,
+  together.Learnt,
+)
+
+met-ticks : {M : Type 1} (t : ℕ) → ticks-lts.Closed (callees t) (ticks-at t) ticks.Post M
 met-ticks t = ticks-lts.spec
-    (kind-of.Asked, kind-of.Learnt, own-ticks.Asked, own-ticks.Learnt, children.Asked, children.Learnt, alone.Asked, alone.Learnt, ticks-below t, ticks.Post, join-of.Asked, join-of.Learnt, trees-below t, trees.Post, together.Asked, together.Learnt)
+    (callees t)
     (ticks-at t)
     ticks.Post
     -- shared-slice-read-of
@@ -64,7 +85,9 @@ met-ticks t = ticks-lts.spec
     -- shared-slice-read-own-ticks
     (λ c. inside _ _ _ _ _ (c .before .before .before .before .before .before .pre .1 .1) .in-limits)
     -- own-ticks-requires
-    (λ c κs. (c .before .before .before .before .before .before .pre .1 .0 .some, c .before .before .before .before .before .before .pre .1 .0 .most))
+    (λ c κs.
+    let step = c .before .before .before .before .before .before .pre .1 .0 in
+    (step .some, step .most))
     -- mul-children
     (λ c. omega (arith, inside _ _ _ _ _ (c .before .before .before .before .before .before .before .pre .1 .1) .in-ends))
     -- shared-slice-read-children
@@ -74,37 +97,61 @@ met-ticks t = ticks-lts.spec
     -- alone-requires
     (λ c κs. tt)
     -- returns
-    (λ c. alone-bound _ _ _ _ _ _ _ _ _ (inside _ _ _ _ _ (c .before .before .before .before .before .before .before .before .before .before .before .pre .1 .1) .in-limits) (c .before .before .before .before .before .before .of .ensures) (c .before .before .before .before .own-ticks .ensures) (c .before .before .children .ensures) _ (c .alone .ensures) (c .before .if1 .taken))
+    (λ c.
+    let own = c .before .before .before .before in
+    let kind = own .before .before in
+    let p = kind .before .before .before .before .before .pre in
+    alone-bound _ _ _ _ _ _ _ _ _ (inside _ _ _ _ _ (p .1 .1) .in-limits) (kind .of .ensures) (own .own-ticks .ensures)
+    (c .before .before .children .ensures) _ (c .alone .ensures) (c .before .if1 .taken))
     -- add-ticks
     (λ c. omega (arith, inside _ _ _ _ _ (c .before .before .before .before .before .before .before .before .before .before .pre .1 .1) .in-ends))
     -- ticks-requires
     (λ c κs.
-    let k = children-ready _ _ _ _ _ _ _ (c .before .before .before .before .before .before .before .before .before .before .pre .1 .1) (c .before .before .before .before .before .of .ensures) (c .before .children .ensures) (c .if1 .left) in
-    (omega (arith, k .inside, k .first-inside, k .first-after, c .before .before .before .before .before .before .before .before .before .before .pre .0), (c .before .before .before .before .before .before .before .before .before .before .pre .1 .0, k .first)))
+    let kind = c .before .before .before .before .before in
+    let p = kind .before .before .before .before .before .pre in
+    let k = children-ready _ _ _ _ _ _ _ (p .1 .1) (kind .of .ensures) (c .before .children .ensures) (c .if1 .left) in
+    (omega (arith, k .inside, k .first-inside, k .first-after, p .0), (p .1 .0, k .first)))
     -- add-next
     (λ c. omega (arith, inside _ _ _ _ _ (c .before .before .before .before .before .before .before .before .before .before .before .pre .1 .1) .in-ends))
     -- mul-next
     (λ c. omega (arith, inside _ _ _ _ _ (c .before .before .before .before .before .before .before .before .before .before .before .pre .1 .1) .in-ends))
     -- element-copy-out-next
     (λ c.
-    let k = children-ready _ _ _ _ _ _ _ (c .before .before .before .before .before .before .before .before .before .before .before .pre .1 .1) (c .before .before .before .before .before .before .of .ensures) (c .before .before .children .ensures) (c .before .if1 .left) in
-    omega (arith, k .inside, c .before .before .before .before .before .before .before .before .before .before .before .pre .1 .1 .room .in-ends))
+    let some = c .before in
+    let kind = some .before .before .before .before .before in
+    let p = kind .before .before .before .before .before .pre in
+    let k = children-ready _ _ _ _ _ _ _ (p .1 .1) (kind .of .ensures) (some .before .children .ensures) (some .if1 .left) in
+    omega (arith, k .inside, p .1 .1 .room .in-ends))
     -- cast-next
     (λ c.
-    let k = children-ready _ _ _ _ _ _ _ (c .before .before .before .before .before .before .before .before .before .before .before .before .pre .1 .1) (c .before .before .before .before .before .before .before .of .ensures) (c .before .before .before .children .ensures) (c .before .before .if1 .left) in
-    omega (arith, k .first-inside, c .before .before .before .before .before .before .before .before .before .before .before .before .pre .1 .1 .room .in-ends))
+    let some = c .before .before in
+    let kind = some .before .before .before .before .before in
+    let p = kind .before .before .before .before .before .pre in
+    let k = children-ready _ _ _ _ _ _ _ (p .1 .1) (kind .of .ensures) (some .before .children .ensures) (some .if1 .left) in
+    omega (arith, k .first-inside, p .1 .1 .room .in-ends))
     -- of-requires-2
     (λ c κs. tt)
     -- sub-trees
     (λ c. omega (arith, c .before .before .before .if1 .left))
     -- trees-requires
     (λ c κs.
-    let k = children-ready _ _ _ _ _ _ _ (c .before .before .before .before .before .before .before .before .before .before .before .before .before .pre .1 .1) (c .before .before .before .before .before .before .before .before .of .ensures) (c .before .before .before .before .children .ensures) (c .before .before .before .if1 .left) in
-    (omega (arith, k .inside, k .first-inside, k .first-after, k .rest-inside, c .before .before .before .before .before .before .before .before .before .before .before .before .before .pre .0), (c .before .before .before .before .before .before .before .before .before .before .before .before .before .pre .1 .0, k .rest)))
+    let some = c .before .before .before in
+    let kind = some .before .before .before .before .before in
+    let p = kind .before .before .before .before .before .pre in
+    let k = children-ready _ _ _ _ _ _ _ (p .1 .1) (kind .of .ensures) (some .before .children .ensures) (some .if1 .left) in
+    (omega (arith, k .inside, k .first-inside, k .first-after, k .rest-inside, p .0), (p .1 .0, k .rest)))
     -- together-requires
     (λ c κs. tt)
     -- returns-2
-    (λ c. together-bound _ _ _ _ _ _ _ _ _ (inside _ _ _ _ _ (c .before .before .before .before .before .before .before .before .before .before .before .before .before .before .before .pre .1 .1) .in-limits) (c .before .before .before .before .before .before .before .before .before .before .of .ensures) (c .before .before .before .before .before .before .before .before .own-ticks .ensures) (c .before .before .before .before .before .before .children .ensures) _ _ _ _ (c .together .ensures) (c .before .before .before .before .before .if1 .left) (c .before .before .of2 .ensures) (c .before .before .before .before .ticks .ensures) (c .before .trees .ensures))
+    (λ c.
+    let first = c .before .before .before .before in
+    let some = first .before in
+    let own = some .before .before .before in
+    let kind = own .before .before in
+    let p = kind .before .before .before .before .before .pre in
+    together-bound _ _ _ _ _ _ _ _ _ (inside _ _ _ _ _ (p .1 .1) .in-limits) (kind .of .ensures) (own .own-ticks .ensures)
+    (some .before .children .ensures) _ _ _ _ (c .together .ensures) (some .if1 .left)
+    (c .before .before .of2 .ensures) (first .ticks .ensures) (c .before .trees .ensures))
 
 met-trees : {M : Type 1} (t : ℕ) → trees-lts.Closed (none.Asked, none.Learnt, ticks-below t, ticks.Post, with.Asked, with.Learnt) (trees-at t) trees.Post M
 met-trees t = trees-lts.spec
@@ -119,32 +166,38 @@ met-trees t = trees-lts.spec
     (λ c. left-start _ _ _ _ _ _ _ _ _ (c .none .ensures))
     -- ticks-requires
     (λ c κs.
-    let r = c .before .before .before .before .before .before .pre .1 .1 in
+    let p = c .before .before .before .before .before .before .pre in
+    let r = p .1 .1 in
     let x = left-ready _ _ _ _ _ _ _ _ _ _ _ (c .loop-test .taken) r (c .before .loop .inv (r .trees) (r .stop) (r .stand)) in
-    (omega (arith, x .inside, x .later, c .before .before .before .before .before .before .pre .0), (c .before .before .before .before .before .before .pre .1 .0, x .ready)))
+    (omega (arith, x .inside, x .later, p .0), (p .1 .0, x .ready)))
     -- with-requires
     (λ c κs. tt)
     -- mul-at
     (λ c.
-    let r = c .before .before .before .before .before .before .before .before .pre .1 .1 in
-    let x = left-ready _ _ _ _ _ _ _ _ _ _ _ (c .before .before .loop-test .taken) r (c .before .before .before .loop .inv (r .trees) (r .stop) (r .stand)) in
+    let turn = c .before .before in
+    let r = turn .before .before .before .before .before .before .pre .1 .1 in
+    let x = left-ready _ _ _ _ _ _ _ _ _ _ _ (turn .loop-test .taken) r (turn .before .loop .inv (r .trees) (r .stop) (r .stand)) in
     omega (arith, inside _ _ _ _ _ (x .ready) .in-ends))
     -- element-copy-out-at
     (λ c.
-    let r = c .before .before .before .before .before .before .before .before .pre .1 .1 in
-    let x = left-ready _ _ _ _ _ _ _ _ _ _ _ (c .before .before .loop-test .taken) r (c .before .before .before .loop .inv (r .trees) (r .stop) (r .stand)) in
+    let turn = c .before .before in
+    let r = turn .before .before .before .before .before .before .pre .1 .1 in
+    let x = left-ready _ _ _ _ _ _ _ _ _ _ _ (turn .loop-test .taken) r (turn .before .loop .inv (r .trees) (r .stop) (r .stand)) in
     inside _ _ _ _ _ (x .ready) .in-ends)
     -- cast-at
     (λ c.
-    let r = c .before .before .before .before .before .before .before .before .before .pre .1 .1 in
-    let x = left-ready _ _ _ _ _ _ _ _ _ _ _ (c .before .before .before .loop-test .taken) r (c .before .before .before .before .loop .inv (r .trees) (r .stop) (r .stand)) in
+    let turn = c .before .before .before in
+    let r = turn .before .before .before .before .before .before .pre .1 .1 in
+    let x = left-ready _ _ _ _ _ _ _ _ _ _ _ (turn .loop-test .taken) r (turn .before .loop .inv (r .trees) (r .stop) (r .stand)) in
     omega (arith, x .ready .room .in-ends))
     -- sub-left
     (λ c. omega (arith, c .before .before .before .loop-test .taken))
     -- loop-less
     (λ c. omega (arith, c .before .before .before .loop-test .taken))
     -- loop-again
-    (λ c ts stop h. left-next _ _ _ _ _ _ _ _ _ _ _ _ _ _ _ (c .before .before .before .loop-test .taken) (c .before .before .ticks .ensures) (c .before .with .ensures) (c .before .before .before .before .loop .inv ts stop h))
+    (λ c ts stop h.
+    let turn = c .before .before .before in
+    left-next _ _ _ _ _ _ _ _ _ _ _ _ _ _ _ (turn .loop-test .taken) (c .before .before .ticks .ensures) (c .before .with .ensures) (turn .before .loop .inv ts stop h))
     -- returns
     (λ c ts stop h. left-done _ _ _ _ _ _ _ _ _ _ _ _ _ (omega (arith, c .loop-test .left)) (c .before .loop .inv ts stop h))
 

@@ -17,50 +17,46 @@ abbrev μ-loop : tie.MeasureT-loop
 μ-loop kinds ns limits count i₀ i = count - i
 
 -- the answer on the row
-row : (c : tie.After-bounded Inv-loop μ-loop) → c .bounded .result ≡ rowAt (c .before .before .before .before .before .before .before .before .before .before .before .args .kinds .now) (c .before .before .before .before .before .before .before .before .before .before .before .args .ns .now) (c .before .before .before .before .before .before .before .before .before .before .before .args .limits .now) (c .before .before .before .before .before .before .before .loop .i)
+row :
+    (c : tie.After-bounded Inv-loop μ-loop) →
+    let loop = c .before .before .before .before .before .before .before in
+    let a = loop .before .before .before .before .args in
+    c .bounded .result ≡ rowAt (a .kinds .now) (a .ns .now) (a .limits .now) (loop .loop .i)
 row c = c .bounded .ensures ∙ rw (c .before .before .children .ensures, c .before .before .before .before .of .ensures)
 
-loop-holds : tie.Need-loop-holds Inv-loop μ-loop
-loop-holds c = (omega arith, λ j h. absurd (not-suc-le-zero h))
-
-shared-slice-read-of : tie.Need-shared-slice-read-of Inv-loop μ-loop
-shared-slice-read-of c = omega arith
-
-of-requires : tie.Need-of-requires Inv-loop μ-loop
-of-requires c κs = tt
-
-mul-children : tie.Need-mul-children Inv-loop μ-loop
-mul-children c = omega arith
-
-shared-slice-read-children : tie.Need-shared-slice-read-children Inv-loop μ-loop
-shared-slice-read-children c = omega arith
-
-children-requires : tie.Need-children-requires Inv-loop μ-loop
-children-requires c κs = tt
-
-mul-bounded : tie.Need-mul-bounded Inv-loop μ-loop
-mul-bounded c = omega arith
-
-shared-slice-read-bounded : tie.Need-shared-slice-read-bounded Inv-loop μ-loop
-shared-slice-read-bounded c = omega arith
-
-bounded-requires : tie.Need-bounded-requires Inv-loop μ-loop
-bounded-requires c κs = tt
-
-returns : tie.Need-returns Inv-loop μ-loop
-returns c = λ ends t h e. sym (a-row _ _ _ ends _ (c .before .before .before .before .before .before .before .before .before .before .before .before .pre .in-limits) 0 t h (omega arith) (c .before .before .before .before .before .before .before .before .loop .i) (omega arith) (omega arith) (sym (row (c .before)) ∙ not-true _ (c .if1 .taken)))
-
-add-i : tie.Need-add-i Inv-loop μ-loop
-add-i c = omega arith
-
-loop-less : tie.Need-loop-less Inv-loop μ-loop
-loop-less c = omega arith
+refused : tie.Need-returns Inv-loop μ-loop
+refused c ends t h e =
+    let loop = c .before .before .before .before .before .before .before .before in
+    let none = sym (row (c .before)) ∙ not-true _ (c .if1 .taken) in
+    sym (a-row _ _ _ ends _ (loop .before .before .before .before .pre .in-limits) 0 t h (omega arith) (loop .loop .i) (omega arith) (omega arith) none)
 
 loop-again : tie.Need-loop-again Inv-loop μ-loop
-loop-again c = (omega arith, below-more _ _ (c .before .before .before .before .before .before .before .before .loop .inv .1) (sym (row (c .before)) ∙ not-false _ (c .if1 .left)))
+loop-again c =
+    let loop = c .before .before .before .before .before .before .before .before .loop in
+    (omega arith, below-more _ _ (loop .inv .1) (sym (row (c .before)) ∙ not-false _ (c .if1 .left)))
 
-returns-2 : tie.Need-returns-2 Inv-loop μ-loop
-returns-2 c = λ ends t h e. sym (all-rows _ _ _ ends _ (c .before .before .before .before .before .pre .in-limits) 0 t h (omega arith) (λ j p q. c .before .loop .inv .1 j (omega arith)))
+all : tie.Need-returns-2 Inv-loop μ-loop
+all c ends t h e =
+    let loop = c .before in
+    sym (all-rows _ _ _ ends _ (loop .before .before .before .before .pre .in-limits) 0 t h (omega arith) (λ j p q. loop .loop .inv .1 j (omega arith)))
 
 pub all-bounded-spec : {M : Type 1} → statement M
-all-bounded-spec = tie.close (tie.spec Inv-loop μ-loop loop-holds shared-slice-read-of of-requires mul-children shared-slice-read-children children-requires mul-bounded shared-slice-read-bounded bounded-requires returns add-i loop-less loop-again returns-2)
+all-bounded-spec =
+    tie.close
+    (tie.spec
+    Inv-loop
+    μ-loop
+    (λ c. (omega arith, λ j h. absurd (not-suc-le-zero h)))
+    (λ c. omega arith)
+    (λ c κs. tt)
+    (λ c. omega arith)
+    (λ c. omega arith)
+    (λ c κs. tt)
+    (λ c. omega arith)
+    (λ c. omega arith)
+    (λ c κs. tt)
+    refused
+    (λ c. omega arith)
+    (λ c. omega arith)
+    loop-again
+    all)

@@ -15,62 +15,78 @@ use Rattle.bound.proofs.finish_bound.Tie as tie
 abbrev start : tie.After-count → tie.Start
 start c = c .before .before .before .before .before .before .before
 
-found : (c : tie.After-count) → Good (start c .args .kinds .now) (start c .args .ns .now) (start c .args .limits .now) (c .before .before .check-table .last .1 .1 .1 .0) (c .count .given .0 .0)
+abbrev counted : tie.After-d → tie.After-count
+counted c = c .before .before .before .before
+
+abbrev stepped : tie.After-all-bounded → tie.After-d
+stepped c = c .before .before .before
+
+found :
+    (c : tie.After-count) →
+    let a = start c .args in
+    Good (a .kinds .now) (a .ns .now) (a .limits .now) (c .before .before .check-table .last .1 .1 .1 .0) (c .count .given .0 .0)
 found c = found-good _ _ _ _ _ _ (c .before .before .check-table .ensures) _ (c .count .given .1)
 
-whole : (c : tie.After-d) → (wholeTime binary64 (start (c .before .before .before .before) .args .step) ≡ true) × (c .d .given .0 .0 ≡ num (start (c .before .before .before .before) .args .step)) × (c .d .given .0 .0 ≤ cap binary64)
+whole :
+    (c : tie.After-d) →
+    let x = start (counted c) .args .step in
+    (wholeTime binary64 x ≡ true) × (c .d .given .0 .0 ≡ num x) × (c .d .given .0 .0 ≤ cap binary64)
 whole c = whole-known _ _ (c .before .before .of .ensures) _ (c .d .given .1)
 
-bounded : (c : tie.After-all-bounded) → c .all-bounded .result ≡ boundable binary64 (found (c .before .before .before .before .before .before .before) .tree)
-bounded c = c .all-bounded .ensures (c .before .before .before .before .before .before .before .before .before .check-table .last .1 .1 .1 .0) _ (found (c .before .before .before .before .before .before .before) .held) (found (c .before .before .before .before .before .before .before) .ends-at)
+bounded : (c : tie.After-all-bounded) → c .all-bounded .result ≡ boundable binary64 (found (counted (stepped c)) .tree)
+bounded c =
+    let table = counted (stepped c) in
+    c .all-bounded .ensures (table .before .before .check-table .last .1 .1 .1 .0) _ (found table .held) (found table .ends-at)
 
-has-bound : (c : tie.Else2) → boundable binary64 (found (c .before .before .before .before .before .before .before .before) .tree) ≡ true
+has-bound : (c : tie.Else2) → boundable binary64 (found (counted (stepped (c .before))) .tree) ≡ true
 has-bound c = sym (bounded (c .before)) ∙ not-false _ (c .if2 .left)
 
 -- ---- the needs
-check-table-requires : tie.Need-check-table-requires
-check-table-requires c κs = refl
+no-step : tie.Need-returns
+no-step c =
+    let d = c .before .before in
+    step-zero _ _ _ _ _ (found (counted d)) _ _ (whole d .0) (whole d .1) (c .if1 .taken)
 
-enum-known-place : tie.Need-enum-known-place
-enum-known-place c = search needs
-
-enum-known-count : tie.Need-enum-known-count
-enum-known-count c = search needs
-
-of-requires : tie.Need-of-requires
-of-requires c κs = tt
-
-enum-told : tie.Need-enum-told
-enum-told c = search needs
-
-enum-known-d : tie.Need-enum-known-d
-enum-known-d c = search needs
-
-returns : tie.Need-returns
-returns c = step-zero _ _ _ _ _ (found (c .before .before .before .before .before .before)) _ _ (whole (c .before .before) .0) (whole (c .before .before) .1) (c .if1 .taken)
-
-all-bounded-requires : tie.Need-all-bounded-requires
-all-bounded-requires c κs = found (c .before .before .before .before .before .before) .room
-
-returns-2 : tie.Need-returns-2
-returns-2 c = not-bounded _ _ _ _ _ (found (c .before .before .before .before .before .before .before .before)) _ _ (whole (c .before .before .before .before) .0) (whole (c .before .before .before .before) .1) (c .before .before .if1 .left) (sym (bounded (c .before)) ∙ not-true _ (c .if2 .taken))
+unbounded : tie.Need-returns-2
+unbounded c =
+    let d = stepped (c .before) in
+    let none = sym (bounded (c .before)) ∙ not-true _ (c .if2 .taken) in
+    not-bounded _ _ _ _ _ (found (counted d)) _ _ (whole d .0) (whole d .1) (c .before .before .if1 .left) none
 
 ticks-requires : tie.Need-ticks-requires
-ticks-requires c κs = (step-allowed _ (c .before .before .before .if1 .left) (whole (c .before .before .before .before .before) .2), good-ready _ _ _ _ _ (found (c .before .before .before .before .before .before .before .before .before)) (has-bound (c .before)))
+ticks-requires c κs =
+    let d = stepped (c .before .before) in
+    (step-allowed _ (c .before .before .before .if1 .left) (whole d .2), good-ready _ _ _ _ _ (found (counted d)) (has-bound (c .before)))
 
-told-requires : tie.Need-told-requires
-told-requires c κs = tt
+not-whole : tie.Need-returns-4
+not-whole c =
+    let none = whole-none _ _ (c .before .before .of .ensures) (c .enum-told .given .1) in
+    step-not-whole _ _ _ _ _ (found (c .before .before .before .before)) _ none
 
-returns-3 : tie.Need-returns-3
-returns-3 c = found-bad _ _ _ _ _ _ (c .before .before .before .check-table .ensures) _ (c .before .place .given .1) _
-
-returns-4 : tie.Need-returns-4
-returns-4 c = step-not-whole _ _ _ _ _ (found (c .before .before .before .before)) _ (whole-none _ _ (c .before .before .of .ensures) (c .enum-told .given .1))
-
-returns-5 : tie.Need-returns-5
-returns-5 c =
-    let t = has-bound (c .before .before .before) in
-    bounded-told _ _ _ _ _ (found (c .before .before .before .before .before .before .before .before .before .before .before)) _ _ (whole (c .before .before .before .before .before .before .before) .0) (whole (c .before .before .before .before .before .before .before) .1) (c .before .before .before .before .before .if1 .left) t _ _ (c .before .ticks .ensures _ (record { held = found (c .before .before .before .before .before .before .before .before .before .before .before) .held; whole = t })) (c .told .ensures)
+told : tie.Need-returns-5
+told c =
+    let some = c .before .before .before in
+    let d = stepped (some .before) in
+    let table = found (counted d) in
+    let b = has-bound some in
+    let t = c .before .ticks .ensures _ (record { held = table .held; whole = b }) in
+    bounded-told _ _ _ _ _ table _ _ (whole d .0) (whole d .1) (some .before .before .if1 .left) b _ _ t (c .told .ensures)
 
 pub finish-bound-spec : {M : Type 1} → statement M
-finish-bound-spec = tie.close (tie.spec check-table-requires enum-known-place enum-known-count of-requires enum-told enum-known-d returns all-bounded-requires returns-2 ticks-requires told-requires returns-3 returns-4 returns-5)
+finish-bound-spec =
+    tie.close
+    (tie.spec
+    (λ c κs. refl)
+    (λ c. search needs)
+    (λ c. search needs)
+    (λ c κs. tt)
+    (λ c. search needs)
+    (λ c. search needs)
+    no-step
+    (λ c κs. found (counted (c .before .before)) .room)
+    unbounded
+    ticks-requires
+    (λ c κs. tt)
+    (λ c. found-bad _ _ _ _ _ _ (c .before .before .before .check-table .ensures) _ (c .before .place .given .1) _)
+    not-whole
+    told)

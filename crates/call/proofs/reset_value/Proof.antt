@@ -61,7 +61,8 @@ returns-3 : tie.Need-returns-3
 returns-3 c =
     let cleared = c .before .before .before .before .before .before .fresh in
     let test = c .before .before .before .before .before .before .before .before .before .before in
-    was-reset _ _ _ _ _ _ _ (table (test .before .before .before .before .before .before)) _ _ _ (sym (test .before .long-enough .ensures) ∙ not-false _ (test .if1 .left)) (cleared .ensures .0) (cleared .ensures .1 .0) (cleared .ensures .1 .1)
+    was-reset _ _ _ _ _ _ _ (table (test .before .before .before .before .before .before)) _ _ _
+    (sym (test .before .long-enough .ensures) ∙ not-false _ (test .if1 .left)) (cleared .ensures .0) (cleared .ensures .1 .0) (cleared .ensures .1 .1)
 
 pub reset-value-spec : {M : Type 1} → statement M
 reset-value-spec =

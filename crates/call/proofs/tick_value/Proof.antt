@@ -18,7 +18,10 @@ slice-aggregate-carry-out : tie.Need-slice-aggregate-carry-out
 slice-aggregate-carry-out c = sym (passed-open _ _ _ (c .before .before .before .before .checks .ensures 0) _ (c .before .before .n .given .1) .ends-long)
 
 carry-out-requires : tie.Need-carry-out-requires
-carry-out-requires c κs = passed-open _ _ _ (c .before .before .before .before .before .before .before .before .before .before .before .checks .ensures (c .before .before .before .before .before .before .before .before .before .before .before .before .before .before .before .before .before .before .before .before .before .before .before .before .before .before .before .before .before .before .before .before .args .fuel)) _ (c .before .before .before .before .before .before .before .before .before .n .given .1)
+carry-out-requires c κs = passed-open _ _ _ (c .before .before .before .before .before .before .before .before .before .before .before .checks .ensures (c .before
+    .before .before .before .before .before .before .before .before .before .before .before .before .before .before .before .before .before .before .before .before
+    .before .before .before .before .before .before .before .before .before .before .before .args .fuel)) _ (c .before .before .before .before .before .before .before
+    .before .before .n .given .1)
 
 same-length : tie.Need-same-length
 same-length c = search needs
@@ -42,7 +45,8 @@ same-length-7 : tie.Need-same-length-7
 same-length-7 c = search needs
 
 returns : tie.Need-returns
-returns c = passed-refused _ _ _ (c .before .before .before .checks .ensures (c .before .before .before .before .before .before .before .before .before .before .before .before .before .before .before .before .before .before .before .before .before .before .before .before .args .fuel)) _ (c .before .answer .given .1)
+returns c = passed-refused _ _ _ (c .before .before .before .checks .ensures (c .before .before .before .before .before .before .before .before .before .before
+    .before .before .before .before .before .before .before .before .before .before .before .before .before .before .args .fuel)) _ (c .before .answer .given .1)
 
 same-length-8 : tie.Need-same-length-8
 same-length-8 c = search needs

@@ -1,4 +1,5 @@
--- `lemboraw_reset` meets its contract: a walk of its MIR. The record is read, `reset_said` is called with it and the rest, and the record that it returns is written back.
+-- `lemboraw_reset` meets its contract: a walk of its MIR. The record is read, `reset_said` is called with it and the rest, and the
+-- record that it returns is written back.
 -- Assumes nothing.
 use mathlib.Core.Path.{refl}
 use mathlib.Core.List.{[], _∷_}
@@ -18,7 +19,7 @@ use types.Run.{look, init, store, stop, hop, fld, from, load, no-more, land, of-
 use types.Part.{whole, sub, look-in}
 use sound.WpLaws.{FmC, fmOf, WpFn-mono}
 use denote.RattleType.{owns, flat}
-use denote.Laws.{Are, Ises, Spells, valss}
+use denote.Laws.{Are, Ises, Spells, Tellss, valss}
 use denote.Builtin.{u8, u16, f64}
 use denote.Ref.{ptr-vals, mut-tells}
 use denote.Slice.{slice-vals, shr-slice-tells, mut-slice-tells}
@@ -32,7 +33,8 @@ use denote.Triple.Spec.{Meets, tripleOf}
 use denote.Triple.Table.{entered, cited}
 use denote.Triple.Walked.{Stays, stay-ref, goes-ref, walkOf, Walks, ends-at, walked, walk-meets}
 use Rattle.lemboraw.specs.declared.value.Told.{Told}
-use Rattle.lemboraw.proofs.Lend.{R, RecordS, mach, owed-record, owed-said, typed-record, typed-said, typed-told, upFrom, allocated, paired, rest, said-of, said-fits, said-goes, locals, free, arg, lent, borrowed, given-back, asked, returned, ends}
+use Rattle.lemboraw.proofs.Lend.{R, RecordS, mach, owed-record, owed-said, typed-record, typed-said, typed-told, slice-fits}
+use Rattle.lemboraw.proofs.Lend.{upFrom, allocated, paired, rest, said-of, said-fits, said-goes, locals, free, arg, lent, borrowed, given-back, asked, returned, ends}
 use Rattle.lemboraw.proofs.value.reset_said as core
 use Rattle.lemboraw.proofs.value.reset_said.Symbol as core-def
 use Rattle.lemboraw.proofs.value.reset_said.Symbol.{name as #core}
@@ -48,6 +50,28 @@ stayed = (stay-ref (0 ∷ []) tt RecordS, said-of (rest (outer.ended .signature 
 
 abbrev spelled : (κs : Lfts 7) → Spells (typesAt (outer.signature .params) κs)
 spelled κs = (ptr-vals, (slice-vals, (slice-vals, (slice-vals, (slice-vals, (slice-vals, (slice-vals, tt)))))))
+
+-- the machine values tell each parameter
+tells : (κs : Lfts 7) → Tellss (typesAt (outer.signature .params) κs) (Ises (typesAt (outer.signature .params) κs)) (spelled κs)
+tells κs = (
+  mut-tells (named 0) (κs .0) R,
+  (
+    shr-slice-tells (named 1) (κs .1 .0) u8,
+    (
+      shr-slice-tells (named 2) (κs .1 .1 .0) u16,
+      (
+        shr-slice-tells (named 3) (κs .1 .1 .1 .0) f64,
+        (
+          mut-slice-tells (named 4) (κs .1 .1 .1 .1 .0) f64,
+          (
+            mut-slice-tells (named 5) (κs .1 .1 .1 .1 .1 .0) u16,
+            (mut-slice-tells (named 6) (κs .1 .1 .1 .1 .1 .1 .0) u8, tt),
+          ),
+        ),
+      ),
+    ),
+  ),
+)
 
 abbrev vals : (κs : Lfts 7) → Args outer.signature κs → Vals outer.signature κs
 vals κs a = valss (typesAt (outer.signature .params) κs) (spelled κs) a
@@ -75,43 +99,72 @@ module _ {M : Type 1} (𝓤 : URA M) (H : Heap 𝓤) (A : Atoms 𝓤) (W : Given
     abbrev Ensured : Told → Lasts core.ended (κs .1) b → SProp 𝓤
     Ensured r ws = core.clauses 𝓤 H A at-mem run (κs .1) b .ensures tt r (atExit core.ended (κs .1) b ws)
 
-    module _ (C : Calls 𝓤 H) (Λ : Loops 𝓤 H) (fm : FmC 𝓤 H (W .laws) C) (known : Triple 𝓤 (C #core) Core) (are : Are (typesAt (outer.signature .params) κs) (Ises (typesAt (outer.signature .params) κs)) a (vals κs a)) where
-      walk : ent 𝓤 (onEntry 𝓤 H A outer.signature κs qs a (vals κs a)) (WpFn 𝓤 H C Λ code.function (flat (typesAt (outer.signature .params) κs) (vals κs a)) (walkOf 𝓤 H A outer.ended stayed (outer.clauses 𝓤 H A at-mem run) .post y))
+    module _
+        (C : Calls 𝓤 H) (Λ : Loops 𝓤 H) (fm : FmC 𝓤 H (W .laws) C) (known : Triple 𝓤 (C #core) Core)
+        (are : Are (typesAt (outer.signature .params) κs) (Ises (typesAt (outer.signature .params) κs)) a (vals κs a)) where
+      walk :
+          ent 𝓤 (onEntry 𝓤 H A outer.signature κs qs a (vals κs a))
+          (WpFn 𝓤 H C Λ code.function (flat (typesAt (outer.signature .params) κs) (vals κs a))
+          (walkOf 𝓤 H A outer.ended stayed (outer.clauses 𝓤 H A at-mem run) .post y))
       walk =
+          -- what is known of each parameter and of those behind it
+          let kinds = are .1 in
+          let ns = kinds .1 in
+          let limits = ns .1 in
+          let times = limits .1 in
+          let places = times .1 in
+          let marks = places .1 in
           qed W ((‵ (flft (κs .0) (qs .0)) ⊛ raw (toks 𝓤 A 6 (κs .1) (qs .1))) ∷ ‵ (owns (typesAt (outer.signature .params) κs) a (vals κs a)) ∷ []) ∵
           split ! $ move ! (2 ∷ []) $ fsplit ! $ fsplit3 ! $ drop ! $ move ! (0 ∷ 1 ∷ 3 ∷ 4 ∷ 2 ∷ []) $
           enter ! C Λ code.function (flat (typesAt (outer.signature .params) κs) (vals κs a)) _ $ locals ! (λ bs. move ! (allocated 16) $ params1 ! $
-          pass1 ! (init ! 1 refl (tt, tt)) $ pass1 ! (init ! 2 refl (tt, (tt, (record { fits = are .1 .0 .0 .1 .0 }, tt)))) $ pass1 ! (init ! 3 refl (tt, (tt, (record { fits = are .1 .1 .0 .0 .1 .0 }, tt)))) $ pass1 ! (init ! 4 refl (tt, (tt, (record { fits = are .1 .1 .1 .0 .0 .1 .0 }, tt)))) $
-          pass1 ! (init ! 5 refl (tt, (tt, (record { fits = are .1 .1 .1 .1 .0 .0 .1 .0 }, tt)))) $ pass1 ! (init ! 6 refl (tt, (tt, (record { fits = are .1 .1 .1 .1 .1 .0 .0 .1 .0 }, tt)))) $ pass1 ! (init ! 7 refl (tt, (tt, (record { fits = are .1 .1 .1 .1 .1 .1 .0 .0 .1 .0 }, tt)))) $
+          pass1 ! (init ! 1 refl (tt, tt)) $
+          pass1 ! (init ! 2 refl (tt, slice-fits (kinds .0 .0 .1 .0))) $
+          pass1 ! (init ! 3 refl (tt, slice-fits (ns .0 .0 .1 .0))) $
+          pass1 ! (init ! 4 refl (tt, slice-fits (limits .0 .0 .1 .0))) $
+          pass1 ! (init ! 5 refl (tt, slice-fits (times .0 .0 .1 .0))) $
+          pass1 ! (init ! 6 refl (tt, slice-fits (places .0 .0 .1 .0))) $
+          pass1 ! (init ! 7 refl (tt, slice-fits (marks .0 .0 .1 .0))) $
           pass0 ! $
           move ! (32 ∷ 33 ∷ 34 ∷ []) $ borrowed ! tt (a .0 .now) (a .0 .ptr .0) (a .0 .ptr .1) (λ is. move ! (upFrom 4 16) $
           -- [the locals; the record; its open borrow and two names; what frees the locals; tokens; what the rest owns]
           assigns ! (of-opd ! (load ! (from ! (hop ! (look ! 1 refl) (stop !))) (look ! 16 refl))) (from ! (stop !)) (init ! 9 refl (typed-record W (a .0 .now) is)) $
-          lent ! 5 10 refl refl refl refl refl refl refl refl tt tt (are .1 .1 .1 .1 .0 .0 .1 .0) $
-          lent ! 6 12 refl refl refl refl refl refl refl refl tt tt (are .1 .1 .1 .1 .1 .0 .0 .1 .0) $
-          lent ! 7 14 refl refl refl refl refl refl refl refl tt tt (are .1 .1 .1 .1 .1 .1 .0 .0 .1 .0) $
-          move ! (36 ∷ 37 ∷ []) $ asked ! (a .0 .now) is $ calls-at ! fm Core known to-core (arg ! 9 refl (arg ! 2 refl (arg ! 3 refl (arg ! 4 refl (arg ! 11 refl (arg ! 13 refl (arg ! 15 refl (no-more !)))))))) (λ w.
+          lent ! 5 10 refl refl refl refl refl refl refl refl tt tt (times .0 .0 .1 .0) $
+          lent ! 6 12 refl refl refl refl refl refl refl refl tt tt (places .0 .0 .1 .0) $
+          lent ! 7 14 refl refl refl refl refl refl refl refl tt tt (marks .0 .0 .1 .0) $
+          move ! (36 ∷ 37 ∷ []) $ asked ! (a .0 .now) is $
+          calls-at ! fm Core known to-core
+          (arg ! 9 refl (arg ! 2 refl (arg ! 3 refl (arg ! 4 refl (arg ! 11 refl (arg ! 13 refl (arg ! 15 refl (no-more !))))))))
+          (λ w.
           returned ! (toks 𝓤 A 6 (κs .1) (qs .1)) said Ensured (λ r ws is′. move ! (upFrom 3 16) $
           -- [the locals; tokens; what is said of the rest; what is ensured; the record, its open borrow and two names; what frees the locals]
           land ! (from ! (stop !)) (init ! 8 refl (typed-told W r is′)) $
-          assigns ! (of-opd ! (load ! (from ! (fld ! refl (stop !))) (look-in ! 8 (sub ! 1 refl (whole !))))) (from ! (hop ! (look ! 1 refl) (stop !))) (store ! 19 refl (typed-record W (r .«record») (owed-record r is′))) $
+          assigns ! (of-opd ! (load ! (from ! (fld ! refl (stop !))) (look-in ! 8 (sub ! 1 refl (whole !))))) (from ! (hop ! (look ! 1 refl) (stop !)))
+          (store ! 19 refl (typed-record W (r .«record») (owed-record r is′))) $
           assigns ! (of-opd ! (load ! (from ! (fld ! refl (stop !))) (look-in ! 8 (sub ! 0 refl (whole !))))) (from ! (stop !)) (init ! 0 refl (typed-said W (r .said) (owed-said r is′))) $
           move ! (19 ∷ 20 ∷ 21 ∷ 22 ∷ []) $ given-back ! tt (r .«record») (a .0 .ptr .0) (a .0 .ptr .1) (owed-record r is′) $
           returns ! (look ! 3 refl) $ move ! (paired 3 37 16) $
           free ! $ free ! $ free ! $ free ! $ free ! $ free ! $ free ! $ free ! $ free ! $ free ! $ free ! $ free ! $ free ! $ free ! $ free ! $ free ! $ free0 ! $
           -- [the record's reference: its name, its borrow, its token; tokens; what is said of the rest; what is ensured]
-          suffices ! _ (ends-at 𝓤 H A outer.ended stayed (outer.clauses 𝓤 H A at-mem run) W y _ (r .said) (r .«record», ws .1) (tt, said-fits κs (rest (outer.ended .signature .params)) (outer.ended .kept .1) (a .1) (ws .1))) $
+          suffices ! _
+          (ends-at 𝓤 H A outer.ended stayed (outer.clauses 𝓤 H A at-mem run) W y _ (r .said) (r .«record», ws .1)
+          (tt, said-fits κs (rest (outer.ended .signature .params)) (outer.ended .kept .1) (a .1) (ws .1))) $
           ends ! (r .«record») (a .0 .ptr .0) (a .0 .ptr .1) (r .said) _ (owed-said r is′)))))
 
-  walks : (C : Calls 𝓤 H) (Λ : Loops 𝓤 H) → FmC 𝓤 H (W .laws) C → Triple 𝓤 (C #core) Core → Walks 𝓤 H A outer.ended stayed (WpFn 𝓤 H C Λ code.function) (outer.clauses 𝓤 H A at-mem run)
-  walks C Λ fm known = walked 𝓤 H A outer.ended stayed (outer.clauses 𝓤 H A at-mem run) (WpFn 𝓤 H C Λ code.function) spelled
-      (λ κs. (mut-tells (named 0) (κs .0) R, (shr-slice-tells (named 1) (κs .1 .0) u8, (shr-slice-tells (named 2) (κs .1 .1 .0) u16, (shr-slice-tells (named 3) (κs .1 .1 .1 .0) f64, (mut-slice-tells (named 4) (κs .1 .1 .1 .1 .0) f64, (mut-slice-tells (named 5) (κs .1 .1 .1 .1 .1 .0) u16, (mut-slice-tells (named 6) (κs .1 .1 .1 .1 .1 .1 .0) u8, tt))))))))
+  walks :
+      (C : Calls 𝓤 H) (Λ : Loops 𝓤 H) → FmC 𝓤 H (W .laws) C → Triple 𝓤 (C #core) Core →
+      Walks 𝓤 H A outer.ended stayed (WpFn 𝓤 H C Λ code.function) (outer.clauses 𝓤 H A at-mem run)
+  walks C Λ fm known =
+      walked 𝓤 H A outer.ended stayed (outer.clauses 𝓤 H A at-mem run) (WpFn 𝓤 H C Λ code.function) spelled
+      tells
       (λ κs qs bounds a g are. via 𝓤 _ (fst∗ 𝓤 _ (emp 𝓤)) (walk κs qs bounds a C Λ fm known are))
 
-  meets : (𝓣 : Tables 𝓤 H) → Triple 𝓤 (𝓣 .C #core) Core → Meets 𝓤 H A outer.signature (WpFn 𝓤 H (𝓣 .C) (𝓣 .Λ) code.function) (outer.spec 𝓤 H A at-mem run)
+  meets :
+      (𝓣 : Tables 𝓤 H) → Triple 𝓤 (𝓣 .C #core) Core →
+      Meets 𝓤 H A outer.signature (WpFn 𝓤 H (𝓣 .C) (𝓣 .Λ) code.function) (outer.spec 𝓤 H A at-mem run)
   meets 𝓣 known =
-      walk-meets 𝓤 H A outer.ended stayed W (goes-ref 𝓤 H A W 7 0 tt RecordS, said-goes 𝓤 H A W (rest (outer.ended .signature .params)) (outer.ended .kept .1)) (outer.clauses 𝓤 H A at-mem run)
-      (WpFn 𝓤 H (𝓣 .C) (𝓣 .Λ) code.function) (WpFn-mono 𝓤 H (W .laws) 𝓣 code.function) (walks (𝓣 .C) (𝓣 .Λ) (fmOf 𝓤 H (W .laws) 𝓣) known)
+      walk-meets 𝓤 H A outer.ended stayed W
+      (goes-ref 𝓤 H A W 7 0 tt RecordS, said-goes 𝓤 H A W (rest (outer.ended .signature .params)) (outer.ended .kept .1))
+      (outer.clauses 𝓤 H A at-mem run) (WpFn 𝓤 H (𝓣 .C) (𝓣 .Λ) code.function) (WpFn-mono 𝓤 H (W .laws) 𝓣 code.function) (walks (𝓣 .C) (𝓣 .Λ) (fmOf 𝓤 H (W .laws) 𝓣) known)
 
 pub lemboraw-reset-spec : {M : Type 1} → stated.statement M
 unfolding code.routine tablesOf
@@ -119,4 +172,5 @@ lemboraw-reset-spec 𝓤 H 𝓜 𝓖 𝓡 =
     entered 𝓤 H (tripleOf 𝓤 H (𝓖 .A) outer.signature (outer.spec 𝓤 H (𝓖 .A) (𝓜 .mem) (𝓡 .run)))
     (tables 𝓤 H 𝓜 𝓡 code.env .C) (tables 𝓤 H 𝓜 𝓡 code.env .Λ) #outer code.function (code.unfolded 𝓤 H 𝓜 𝓡)
     (meets 𝓤 H (𝓖 .A) (givenOf 𝓤 H 𝓜 𝓖) (𝓜 .mem) (𝓡 .run) (tablesOf 𝓤 H 𝓜 (tables 𝓤 H 𝓜 𝓡 code.env))
-    (cited 𝓤 H (Core 𝓤 H (𝓖 .A) (givenOf 𝓤 H 𝓜 𝓖) (𝓜 .mem) (𝓡 .run)) 𝓜 𝓡 code.env #core core-def.routine code.calls-lemboraw·value·reset-said (core-thm.met 𝓤 H 𝓜 𝓖 𝓡)))
+    (cited 𝓤 H (Core 𝓤 H (𝓖 .A) (givenOf 𝓤 H 𝓜 𝓖) (𝓜 .mem) (𝓡 .run)) 𝓜 𝓡 code.env
+    #core core-def.routine code.calls-lemboraw·value·reset-said (core-thm.met 𝓤 H 𝓜 𝓖 𝓡)))

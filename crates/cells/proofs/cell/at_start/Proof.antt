@@ -5,9 +5,6 @@ use borrow.Author.Tests.{not-true, not-false}
 use Rattle.cells.proofs.cell.at_start.Statement.{statement}
 use Rattle.cells.proofs.cell.at_start.Tie as tie
 
-zero-bits-requires : tie.Need-zero-bits-requires
-zero-bits-requires c κs = search needs
-
 returns : tie.Need-returns
 returns c = rw (sym (c .before .zero-bits .ensures) ∙ not-true (c .before .zero-bits .result) (c .if1 .taken))
 
@@ -15,4 +12,4 @@ returns-2 : tie.Need-returns-2
 returns-2 c = rw (sym (c .before .zero-bits .ensures) ∙ not-false (c .before .zero-bits .result) (c .if1 .left))
 
 pub at-start-spec : {M : Type 1} → statement M
-at-start-spec = tie.close (tie.spec zero-bits-requires returns returns-2)
+at-start-spec = tie.close (tie.spec (λ c κs. search needs) returns returns-2)

@@ -17,26 +17,24 @@ abbrev μ-loop : tie.MeasureT-loop
 loop-holds : tie.Need-loop-holds Inv-loop μ-loop
 loop-holds c = (c .pre, refl)
 
-sub-top : tie.Need-sub-top Inv-loop μ-loop
-sub-top c = search needs
-
-mul-if1 : tie.Need-mul-if1 Inv-loop μ-loop
-mul-if1 c = search needs
-
-element-copy-out-if1 : tie.Need-element-copy-out-if1 Inv-loop μ-loop
-element-copy-out-if1 c = search needs
-
 returns : tie.Need-returns Inv-loop μ-loop
-returns c = sym (all-stay (c .before .before .before .before .args .stops .now) (c .before .before .before .before .args .at) (c .before .before .before .loop .left) (omega arith) (c .if1 .taken)) ∙ c .before .before .before .loop .inv .1
-
-loop-less : tie.Need-loop-less Inv-loop μ-loop
-loop-less c = search needs
+returns c =
+    let loop = c .before .before .before in
+    let a = loop .before .args in
+    sym (all-stay (a .stops .now) (a .at) (loop .loop .left) (omega arith) (c .if1 .taken)) ∙ loop .loop .inv .1
 
 loop-again : tie.Need-loop-again Inv-loop μ-loop
-loop-again c = (omega arith, sym (drops (c .before .before .before .before .args .stops .now) (c .before .before .before .before .args .at) (c .before .before .before .loop .left) (c .before .before .loop-test .taken) (c .if1 .left)) ∙ c .before .before .before .loop .inv .1)
+loop-again c =
+    let loop = c .before .before .before in
+    let a = loop .before .args in
+    let dropped = drops (a .stops .now) (a .at) (loop .loop .left) (c .before .before .loop-test .taken) (c .if1 .left) in
+    (omega arith, sym dropped ∙ loop .loop .inv .1)
 
 returns-2 : tie.Need-returns-2 Inv-loop μ-loop
-returns-2 c = sym (ends (c .before .before .args .stops .now) (c .before .before .args .at) (c .before .loop .left) (c .loop-test .left)) ∙ c .before .loop .inv .1
+returns-2 c =
+    let loop = c .before in
+    let a = loop .before .args in
+    sym (ends (a .stops .now) (a .at) (loop .loop .left) (c .loop-test .left)) ∙ loop .loop .inv .1
 
 pub still-open-spec : {M : Type 1} → statement M
 still-open-spec =
@@ -45,10 +43,10 @@ still-open-spec =
     Inv-loop
     μ-loop
     loop-holds
-    sub-top
-    mul-if1
-    element-copy-out-if1
+    (λ c. search needs)
+    (λ c. search needs)
+    (λ c. search needs)
     returns
-    loop-less
+    (λ c. search needs)
     loop-again
     returns-2)

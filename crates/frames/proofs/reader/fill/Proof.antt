@@ -9,7 +9,9 @@ use Rattle.frames.proofs.reader.fill.Statement.{statement}
 use Rattle.frames.proofs.reader.fill.Tie as tie
 
 abbrev Inv-loop : tie.InvT-loop
-Inv-loop line count statuses₀ leftovers₀ at₀ i₀ statuses leftovers at i = (i ≤ count) × (length statuses ≡ length statuses₀) × (length leftovers ≡ length leftovers₀) × Taken line i at statuses₀ statuses leftovers₀ leftovers
+Inv-loop line count statuses₀ leftovers₀ at₀ i₀ statuses leftovers at i =
+    (i ≤ count) × (length statuses ≡ length statuses₀) × (length leftovers ≡ length leftovers₀)
+    × Taken line i at statuses₀ statuses leftovers₀ leftovers
 
 abbrev μ-loop : tie.MeasureT-loop
 μ-loop line count statuses₀ leftovers₀ at₀ i₀ statuses leftovers at i = count - i

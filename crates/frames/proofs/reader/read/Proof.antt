@@ -47,15 +47,20 @@ same-length-2 c = search needs
 
 returns-4 : tie.Need-returns-4
 returns-4 c =
-    let a = c .before .before .before .before .before .before .before .before .before .before .before .before .before .before .before .before .before .args in
-    let f = c .before .before .before .before .fill in
-    reads-is (a .line .now) (c .before .before .before .before .before .before .before .before .before .before .before .frame .given .0 .0) (c .before .before .before .before .before .before .before .before .before .count .result) (a .statuses .now) (f .last .1 .1 .0) (a .leftovers .now) (f .last .1 .1 .1 .0)
-    (c .before .before .before .before .before .before .before .before .before .count .ensures)
-    (c .before .before .before .before .before .before .before .before .if1 .left)
-    (c .before .before .before .before .before .before .before .if2 .left)
+    let filled = c .before .before .before .before in
+    let test = filled .before .before .before in
+    let counted = test .before .before in
+    let known = counted .before .before in
+    let head = known .before .before in
+    let a = head .before .before .before .before .args in
+    let f = filled .fill in
+    reads-is (a .line .now) (known .frame .given .0 .0) (counted .count .result) (a .statuses .now) (f .last .1 .1 .0) (a .leftovers .now) (f .last .1 .1 .1 .0)
+    (counted .count .ensures)
+    (test .before .if1 .left)
+    (test .if2 .left)
     (f .kept .1 .1 .0)
     (f .kept .1 .1 .1 .0)
-    (subst (Whole (a .line .now)) (c .before .before .before .before .before .before .before .before .before .before .before .frame .given .1) (c .before .before .before .before .before .before .before .before .before .before .before .before .before .head .ensures))
+    (subst (Whole (a .line .now)) (known .frame .given .1) (head .head .ensures))
     (f .ensures)
 
 pub read-spec : {M : Type 1} → statement M

@@ -10,7 +10,8 @@ use Rattle.frames.proofs.writer.answers.Statement.{statement}
 use Rattle.frames.proofs.writer.answers.Tie as tie
 
 abbrev Inv-loop : tie.InvT-loop
-Inv-loop room₀ from count statuses leftovers at₀ i₀ room at i = (i ≤ count) × (length room ≡ length room₀) × (at ≡ from + 20 * i) × Puts room₀ from (answers i 0 statuses leftovers) room at
+Inv-loop room₀ from count statuses leftovers at₀ i₀ room at i =
+    (i ≤ count) × (length room ≡ length room₀) × (at ≡ from + 20 * i) × Puts room₀ from (answers i 0 statuses leftovers) room at
 
 abbrev μ-loop : tie.MeasureT-loop
 μ-loop room₀ from count statuses leftovers at₀ i₀ room at i = count - i

@@ -1,5 +1,4 @@
 -- `reset` meets its contract: its fields are put one after another.
-use mathlib.Core.List.{[]}
 use native.Mathlib.Omega.{arith}
 use Prim.Native.Nat.{_≤_}
 use lib.ListN.{length}
@@ -22,7 +21,7 @@ returns c =
     let a = c .before .before .before .before .before .args in
     let d₀ = c .before .before .put-number in
     let two : 2 ≤ length (d₀ .last .0) = omega (arith, d₀ .kept .0, c .before .before .before .before .before .pre) in
-    line-put (a .room .now) 0x03 [] (d₀ .last .0) (d₀ .last .0) 2 (d₀ .ensures)
+    line-put (a .room .now) 0x03 (d₀ .ensures)
     (none-put (d₀ .last .0) 2)
     (slice-write-room c)
 

@@ -1,115 +1,113 @@
 -- `tick` meets its contract: its fields and its answers are put one after another.
 use mathlib.Core.Path.{_≡_, ap, _∙_}
-use mathlib.Core.List.{[], _∷_, _++_}
+use mathlib.Core.List.{_∷_, _++_}
 use Prim.Native.Nat.{ℕ, _≤_}
 use native.Mathlib.Omega.{arith}
 use lib.ListN.{length, set, length-set}
 use Rattle.frames.specs.Hex.{digits}
 use Rattle.frames.specs.Line.{fields, line, laid, answers, eventNo}
 use Rattle.frames.specs.declared.Frame.the-variants.{Tick}
-use Rattle.frames.proofs.Puts.{puts-on, line-put, answers-span, answers-fit, event-small}
+use Rattle.frames.specs.Lengths.{answers-span}
+use Rattle.frames.proofs.Puts.{puts-on, line-put, answers-fit, event-small}
 use borrow.Author.Needs.{needs}
 use Rattle.frames.proofs.writer.tick.Statement.{statement}
 use Rattle.frames.proofs.writer.tick.Tie as tie
 
-put-number-requires : tie.Need-put-number-requires
-put-number-requires c κs = search needs
+-- ---- what is known on the way: the room after each field, the last one first
+abbrev room4 : tie.After-answers → tie.After-put4
+room4 c = c .before .before .before .before
 
-event-no-requires : tie.Need-event-no-requires
-event-no-requires c κs = search needs
+abbrev room3 : tie.After-answers → tie.After-put3
+room3 c = room4 c .before .before .before .before
 
-put-requires : tie.Need-put-requires
-put-requires c κs = search needs
+abbrev room2 : tie.After-answers → tie.After-put2
+room2 c = room3 c .before .before .before .before
 
-event-time-requires : tie.Need-event-time-requires
-event-time-requires c κs = search needs
+abbrev time : tie.After-answers → tie.After-event-time
+time c = room2 c .before
 
-put-requires-2 : tie.Need-put-requires-2
-put-requires-2 c κs = search needs
+abbrev room1 : tie.After-answers → tie.After-put
+room1 c = time c .before .before .before .before
 
-put-requires-3 : tie.Need-put-requires-3
-put-requires-3 c κs = search needs
+abbrev event : tie.After-answers → tie.After-event-no
+event c = room1 c .before
 
-put-requires-4 : tie.Need-put-requires-4
-put-requires-4 c κs = search needs
+abbrev room0 : tie.After-answers → tie.After-put-number
+room0 c = event c .before .before .before .before
 
-answers-requires : tie.Need-answers-requires
-answers-requires c κs = search needs
+abbrev start : tie.After-answers → tie.Start
+start c = room0 c .before .before .before .before .before
 
 slice-write-room : tie.Need-slice-write-room
 slice-write-room c =
-    let a = c .before .before .before .before .before .before .before .before .before .before .before .before .before .before .before .before .before .before .before .before .before .before .before .before .before .before .before .before .before .args in
-    let d₀ = c .before .before .before .before .before .before .before .before .before .before .before .before .before .before .before .before .before .before .before .before .before .before .before .before .put-number in
-    let d₁ = c .before .before .before .before .before .before .before .before .before .before .before .before .before .before .before .before .before .before .before .put in
-    let d₂ = c .before .before .before .before .before .before .before .before .before .before .before .before .before .before .put2 in
-    let d₃ = c .before .before .before .before .before .before .before .before .before .before .put3 in
-    let d₄ = c .before .before .before .before .before .before .put4 in
-    let d₅ = c .before .before .answers in
+    let d = c .before .before in
+    let a = start d .args in
     omega (
       arith,
-      d₅ .ensures .place,
+      d .answers .ensures .place,
       answers-span (a .count) 0 (a .statuses .now) (a .leftovers .now),
-      d₄ .ensures .place,
-      d₃ .ensures .place,
-      d₂ .ensures .place,
-      d₁ .ensures .place,
-      d₅ .kept .0,
-      d₄ .kept .0,
-      d₃ .kept .0,
-      d₂ .kept .0,
-      d₁ .kept .0,
-      d₀ .kept .0,
-      c .before .before .before .before .before .before .before .before .before .before .before .before .before .before .before .before .before .before .before .before .before .before .before .before .before .before .before .before .before .pre .0,
+      room4 d .put4 .ensures .place,
+      room3 d .put3 .ensures .place,
+      room2 d .put2 .ensures .place,
+      room1 d .put .ensures .place,
+      d .answers .kept .0,
+      room4 d .put4 .kept .0,
+      room3 d .put3 .kept .0,
+      room2 d .put2 .kept .0,
+      room1 d .put .kept .0,
+      room0 d .put-number .kept .0,
+      start d .pre .0,
     )
 
 same-length : tie.Need-same-length
 same-length c =
-    length-set (c .before .before .answers .last .0) (c .before .before .answers .result) 10 ∙ c .before .before .answers .kept .0 ∙ c .before .before .before .before .before .before .put4 .kept .0 ∙ c .before .before .before .before .before .before .before .before .before .before .put3 .kept .0 ∙ c .before .before .before .before .before .before .before .before .before .before .before .before .before .before .put2 .kept .0 ∙ c .before .before .before .before .before .before .before .before .before .before .before .before .before .before .before .before .before .before .before .put .kept .0 ∙ c .before .before .before .before .before .before .before .before .before .before .before .before .before .before .before .before .before .before .before .before .before .before .before .before .put-number .kept .0
+    let d = c .before .before in
+    length-set (d .answers .last .0) (d .answers .result) 10
+    ∙ d .answers .kept .0
+    ∙ room4 d .put4 .kept .0
+    ∙ room3 d .put3 .kept .0
+    ∙ room2 d .put2 .kept .0
+    ∙ room1 d .put .kept .0
+    ∙ room0 d .put-number .kept .0
 
 put-right : (c : tie.After-slice-known7)
-    → set (c .before .before .answers .last .0) (c .before .before .answers .result) 10
-    ≡ laid (line (Tick (c .before .before .before .before .before .before .before .before .before .before .before .before .before .before .before .before .before .before .before .before .before .before .before .before .before .before .before .before .before .args .event) (c .before .before .before .before .before .before .before .before .before .before .before .before .before .before .before .before .before .before .before .before .before .before .before .before .before .before .before .before .before .args .fuel) (c .before .before .before .before .before .before .before .before .before .before .before .before .before .before .before .before .before .before .before .before .before .before .before .before .before .before .before .before .before .args .count)) (c .before .before .before .before .before .before .before .before .before .before .before .before .before .before .before .before .before .before .before .before .before .before .before .before .before .before .before .before .before .args .statuses .now) (c .before .before .before .before .before .before .before .before .before .before .before .before .before .before .before .before .before .before .before .before .before .before .before .before .before .before .before .before .before .args .leftovers .now)) (c .before .before .before .before .before .before .before .before .before .before .before .before .before .before .before .before .before .before .before .before .before .before .before .before .before .before .before .before .before .args .room .now)
+    → let d = c .before .before in
+    let a = start d .args in
+    set (d .answers .last .0) (d .answers .result) 10
+    ≡ laid (line (Tick (a .event) (a .fuel) (a .count)) (a .statuses .now) (a .leftovers .now)) (a .room .now)
 put-right c =
-    let a = c .before .before .before .before .before .before .before .before .before .before .before .before .before .before .before .before .before .before .before .before .before .before .before .before .before .before .before .before .before .args in
-    let d₀ = c .before .before .before .before .before .before .before .before .before .before .before .before .before .before .before .before .before .before .before .before .before .before .before .before .put-number in
-    let d₁ = c .before .before .before .before .before .before .before .before .before .before .before .before .before .before .before .before .before .before .before .put in
-    let d₂ = c .before .before .before .before .before .before .before .before .before .before .before .before .before .before .put2 in
-    let d₃ = c .before .before .before .before .before .before .before .before .before .before .put3 in
-    let d₄ = c .before .before .before .before .before .before .put4 in
-    let d₅ = c .before .before .answers in
-    let n = c .before .before .before .before .before .before .before .before .before .before .before .before .before .before .before .before .before .before .before .before .event-no .result in
-    let t = c .before .before .before .before .before .before .before .before .before .before .before .before .before .before .before .event-time .result in
+    let d = c .before .before in
+    let a = start d .args in
+    let room = a .room .now in
+    let t = time d .event-time in
     let run = answers (a .count) 0 (a .statuses .now) (a .leftovers .now) in
-    let two : 2 ≤ length (d₀ .last .0) = omega (arith, d₀ .kept .0, c .before .before .before .before .before .before .before .before .before .before .before .before .before .before .before .before .before .before .before .before .before .before .before .before .before .before .before .before .before .pre .0) in
-    let p₂ = puts-on (d₀ .last .0) 2 ((2, n) ∷ []) ((16, t) ∷ []) (d₁ .last .0) (d₂ .last .0) (d₁ .result) (d₂ .result) two (d₁ .ensures) (d₂ .ensures) in
-    let p₃ =
-    puts-on (d₀ .last .0) 2 ((2, n) ∷ (16, t) ∷ []) ((8, a .fuel) ∷ []) (d₂ .last .0) (d₃ .last .0) (d₂ .result) (d₃ .result) two p₂ (d₃ .ensures) in
-    let p₄ =
-    puts-on (d₀ .last .0) 2 ((2, n) ∷ (16, t) ∷ (8, a .fuel) ∷ []) ((4, a .count) ∷ []) (d₃ .last .0) (d₄ .last .0) (d₃ .result) (d₄ .result) two p₃
-    (d₄ .ensures) in
-    let p₅ =
-    puts-on (d₀ .last .0) 2 ((2, n) ∷ (16, t) ∷ (8, a .fuel) ∷ (4, a .count) ∷ []) run (d₄ .last .0) (d₅ .last .0) (d₄ .result) (d₅ .result) two p₄
-    (d₅ .ensures) in
-    line-put (a .room .now) 0x02 ((2, n) ∷ (16, t) ∷ (8, a .fuel) ∷ (4, a .count) ∷ run) (d₀ .last .0) (d₅ .last .0) (d₅ .result) (d₀ .ensures) p₅
-    (slice-write-room c)
-    ∙ ap (λ (x : ℕ). laid (digits 2 0x02 ++ fields ((2, x) ∷ (16, t) ∷ (8, a .fuel) ∷ (4, a .count) ∷ run)) (a .room .now)) (c .before .before .before .before .before .before .before .before .before .before .before .before .before .before .before .before .before .before .before .before .event-no .ensures)
-    ∙ ap (λ (x : ℕ). laid (digits 2 0x02 ++ fields ((2, eventNo (a .event)) ∷ (16, x) ∷ (8, a .fuel) ∷ (4, a .count) ∷ run)) (a .room .now))
-    (c .before .before .before .before .before .before .before .before .before .before .before .before .before .before .before .event-time .ensures)
+    let two : 2 ≤ length (room0 d .put-number .last .0) = omega (arith, room0 d .put-number .kept .0, start d .pre .0) in
+    let p2 = puts-on two (room1 d .put .ensures) (room2 d .put2 .ensures) in
+    let p3 = puts-on two p2 (room3 d .put3 .ensures) in
+    let p4 = puts-on two p3 (room4 d .put4 .ensures) in
+    let p5 = puts-on two p4 (d .answers .ensures) in
+    line-put room 0x02 (room0 d .put-number .ensures) p5 (slice-write-room c)
+    ∙ ap (λ (x : ℕ). laid (digits 2 0x02 ++ fields ((2, x) ∷ (16, t .result) ∷ (8, a .fuel) ∷ (4, a .count) ∷ run)) room) (event d .event-no .ensures)
+    ∙ ap (λ (x : ℕ). laid (digits 2 0x02 ++ fields ((2, eventNo (a .event)) ∷ (16, x) ∷ (8, a .fuel) ∷ (4, a .count) ∷ run)) room) (t .ensures)
 
 returns : tie.Need-returns
 returns c =
-    let a = c .before .before .before .before .before .before .before .before .before .before .before .before .before .before .before .before .before .before .before .before .before .before .before .before .before .before .before .before .before .args in (
+    let d = c .before .before in
+    let a = start d .args in
+    let t = time d .event-time in
+    let leftover = room0 d .before .before in (
       put-right c,
       (
         event-small (a .event),
         (
-          rw (← c .before .before .before .before .before .before .before .before .before .before .before .before .before .before .before .event-time .ensures) (omega (arith, c .before .before .before .before .before .before .before .before .before .before .before .before .before .before .before .event-time .ok)),
+          rw (← t .ensures) (omega (arith, t .ok)),
           (
-            omega (arith, c .before .before .before .before .before .before .before .before .before .before .before .before .before .before .before .before .before .before .before .before .before .before .before .before .before .before .before .before .before .fits .fuel),
+            omega (arith, start d .fits .fuel),
             (
-              omega (arith, c .before .before .before .before .before .before .before .before .before .before .before .before .before .before .before .before .before .before .before .before .before .before .before .before .before .before .before .before .before .fits .count),
-              answers-fit (a .count) 0 (a .statuses .now) (a .leftovers .now) (λ j. omega (arith, c .before .before .before .before .before .before .before .before .before .before .before .before .before .before .before .before .before .before .before .before .before .before .before .before .before .before .before .shared-slice-known .given j))
-                  (λ j. omega (arith, c .before .before .before .before .before .before .before .before .before .before .before .before .before .before .before .before .before .before .before .before .before .before .before .before .before .before .shared-slice-known2 .given j)),
+              omega (arith, start d .fits .count),
+              answers-fit (a .count) 0 (a .statuses .now) (a .leftovers .now)
+                  (λ j. omega (arith, leftover .before .shared-slice-known .given j))
+                  (λ j. omega (arith, leftover .shared-slice-known2 .given j)),
             ),
           ),
         ),
@@ -120,14 +118,14 @@ pub tick-spec : {M : Type 1} → statement M
 tick-spec =
     tie.close
     (tie.spec
-    put-number-requires
-    event-no-requires
-    put-requires
-    event-time-requires
-    put-requires-2
-    put-requires-3
-    put-requires-4
-    answers-requires
+    (λ c κs. search needs)
+    (λ c κs. search needs)
+    (λ c κs. search needs)
+    (λ c κs. search needs)
+    (λ c κs. search needs)
+    (λ c κs. search needs)
+    (λ c κs. search needs)
+    (λ c κs. search needs)
     slice-write-room
     same-length
     returns)

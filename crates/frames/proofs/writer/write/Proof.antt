@@ -34,8 +34,10 @@ size-requires c κs = search needs
 
 returns-4 : tie.Need-returns-4
 returns-4 c =
-    let a = c .before .before .before .before .before .before .before .before .before .args in (
-      too-short (a .frame) (a .statuses .now) (a .leftovers .now) (a .room .now) _ (c .before .before .before .before .before .count .ensures) _ (c .before .size .ensures) (omega arith) (c .if4 .taken),
+    let counted = c .before .before .before .before .before in
+    let a = counted .before .before .before .before .args in (
+      too-short (a .frame) (a .statuses .now) (a .leftovers .now) (a .room .now) _ (counted .count .ensures) _ (c .before .size .ensures)
+          (omega arith) (c .if4 .taken),
       λ n e. absurd (short-written e),
     )
 
@@ -47,9 +49,20 @@ same-length c = search needs
 
 returns-5 : tie.Need-returns-5
 returns-5 c =
-    let a = c .before .before .before .before .before .before .before .before .before .before .before .before .before .args in (
-      bytes (a .frame) (a .statuses .now) (a .leftovers .now) (a .room .now) _ (c .before .before .before .before .before .before .before .before .before .count .ensures) _ (c .before .before .before .before .before .size .ensures) (omega arith) _ (omega arith) (c .before .before .lay .ensures .0),
-      λ n e. record { few = omega (arith, c .before .before .before .before .before .before .before .before .before .count .ensures); statuses = omega (arith, c .before .before .before .before .before .before .before .before .before .count .ensures); leftovers = omega (arith, c .before .before .before .before .before .before .before .before .before .count .ensures); fit = c .before .before .lay .ensures .1 },
+    let laid = c .before .before in
+    let sized = laid .before .before .before in
+    let counted = sized .before .before .before .before in
+    let k = counted .count .ensures in
+    let a = counted .before .before .before .before .args in (
+      bytes (a .frame) (a .statuses .now) (a .leftovers .now) (a .room .now) _ k _ (sized .size .ensures) (omega arith) _ (omega arith)
+          (laid .lay .ensures .0),
+      λ n e.
+          record {
+            few = omega (arith, k);
+            statuses = omega (arith, k);
+            leftovers = omega (arith, k);
+            fit = laid .lay .ensures .1;
+          },
     )
 
 pub write-spec : {M : Type 1} → statement M

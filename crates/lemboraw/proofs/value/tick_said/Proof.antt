@@ -8,9 +8,9 @@ use Rattle.lemboraw.proofs.value.tick_said.Tie as tie
 returns : tie.Need-returns
 unfolding hostTick
 returns c =
-    tick-told
-    (rw (c .before .before .before .before .before .before .before .before .before .before .before .before .before .before .before .before .before .before .before .before .before .before .before .before .event-of .ensures) at (c .before .before .before .before .before .before .before .before .before .before .before .before .before .before .before .before .tick-value .ensures))
-    (c .said .ensures)
+    let called = c .before .before .before .before .before .before .before .before .before .before .before .before .before .before .before .before in
+    let event = called .before .before .before .before .before .before .before .before .event-of in
+    tick-told (rw (event .ensures) at (called .tick-value .ensures)) (c .said .ensures)
 
 pub tick-said-spec : {M : Type 1} → statement M
 tick-said-spec =

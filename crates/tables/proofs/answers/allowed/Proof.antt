@@ -12,22 +12,21 @@ returns c = rw (lt-leb _ _ (c .if1 .taken))
 returns-2 : tie.Need-returns-2
 returns-2 c = rw (le-leb _ _ (c .before .if1 .left), lt-leb _ _ (c .if2 .taken))
 
-number-of-requires : tie.Need-number-of-requires
-number-of-requires c κs = search needs
-
-enum-told : tie.Need-enum-told
-enum-told c = search needs
-
-enum-told-2 : tie.Need-enum-told-2
-enum-told-2 c = search needs
-
 returns-3 : tie.Need-returns-3
-returns-3 c = rw (le-leb _ _ (c .before .before .before .before .if1 .left), le-leb _ _ (c .before .before .before .if2 .left), is-good (c .before .before .before .before .before .args .leftover) (c .enum-told .given .0 .0) (sym (c .before .before .number-of .ensures) ∙ c .enum-told .given .1))
+returns-3 c =
+    let number = c .before .before in
+    let status = number .before in
+    let good = is-good (status .before .before .args .leftover) _ (sym (number .number-of .ensures) ∙ c .enum-told .given .1) in
+    rw (le-leb _ _ (status .before .if1 .left), le-leb _ _ (status .if2 .left), good)
 
 returns-4 : tie.Need-returns-4
-returns-4 c = rw (le-leb _ _ (c .before .before .before .before .if1 .left), le-leb _ _ (c .before .before .before .if2 .left), is-bad (c .before .before .before .before .before .args .leftover) (sym (c .before .before .number-of .ensures) ∙ c .enum-told2 .given .1))
+returns-4 c =
+    let number = c .before .before in
+    let status = number .before in
+    let bad = is-bad (status .before .before .args .leftover) (sym (number .number-of .ensures) ∙ c .enum-told2 .given .1) in
+    rw (le-leb _ _ (status .before .if1 .left), le-leb _ _ (status .if2 .left), bad)
 
 pub allowed-spec : {M : Type 1} → statement M
 allowed-spec =
     tie.close
-    (tie.spec returns returns-2 number-of-requires enum-told enum-told-2 returns-3 returns-4)
+    (tie.spec returns returns-2 (λ c κs. search needs) (λ c. search needs) (λ c. search needs) returns-3 returns-4)

@@ -10,7 +10,8 @@ use Rattle.tables.proofs.answers.bad_answer.Statement.{statement}
 use Rattle.tables.proofs.answers.bad_answer.Tie as tie
 
 abbrev Inv-loop : tie.InvT-loop
-Inv-loop statuses leftovers i₀ i = (i ≤ length statuses) × ((i ≤ length leftovers) × (badAnswer i (drop i statuses) (drop i leftovers) ≡ badAnswer 0 statuses leftovers))
+Inv-loop statuses leftovers i₀ i =
+    (i ≤ length statuses) × ((i ≤ length leftovers) × (badAnswer i (drop i statuses) (drop i leftovers) ≡ badAnswer 0 statuses leftovers))
 
 abbrev μ-loop : tie.MeasureT-loop
 μ-loop statuses leftovers i₀ i = length statuses - i
@@ -19,34 +20,33 @@ loop-holds : tie.Need-loop-holds Inv-loop μ-loop
 loop-holds c = (search needs, (search needs, refl))
 
 returns : tie.Need-returns Inv-loop μ-loop
-returns c = ends-second (c .before .before .before .before .before .args .statuses .now) (c .before .before .before .before .before .args .leftovers .now) (c .before .before .loop .i) (c .before .before .loop .inv .1 .1) (c .before .loop-test .taken) (c .if1 .taken)
-
-shared-slice-read-allowed : tie.Need-shared-slice-read-allowed Inv-loop μ-loop
-shared-slice-read-allowed c = search needs
-
-mul-allowed : tie.Need-mul-allowed Inv-loop μ-loop
-mul-allowed c = search needs
-
-shared-slice-read-allowed-2 : tie.Need-shared-slice-read-allowed-2 Inv-loop μ-loop
-shared-slice-read-allowed-2 c = search needs
-
-allowed-requires : tie.Need-allowed-requires Inv-loop μ-loop
-allowed-requires c κs = search needs
+returns c =
+    let loop = c .before .before in
+    let a = loop .before .before .before .args in
+    ends-second (a .statuses .now) (a .leftovers .now) (loop .loop .i) (loop .loop .inv .1 .1) (c .before .loop-test .taken) (c .if1 .taken)
 
 returns-2 : tie.Need-returns-2 Inv-loop μ-loop
-returns-2 c = refuses (c .before .before .before .before .before .before .before .before .before .args .statuses .now) (c .before .before .before .before .before .before .before .before .before .args .leftovers .now) (c .before .before .before .before .before .before .loop .i) (c .before .before .before .before .before .before .loop .inv .1 .1) _ (c .before .allowed .result) (c .before .before .before .before .before .loop-test .taken) (c .before .before .before .before .if1 .left) (c .before .allowed .ensures) (c .if2 .taken)
-
-add-i : tie.Need-add-i Inv-loop μ-loop
-add-i c = search needs
-
-loop-less : tie.Need-loop-less Inv-loop μ-loop
-loop-less c = search needs
+returns-2 c =
+    let first = c .before .before .before .before in
+    let loop = first .before .before in
+    let a = loop .before .before .before .args in
+    refuses (a .statuses .now) (a .leftovers .now) (loop .loop .i) (loop .loop .inv .1 .1) _ _
+    (first .before .loop-test .taken) (first .if1 .left) (c .before .allowed .ensures) (c .if2 .taken)
 
 loop-again : tie.Need-loop-again Inv-loop μ-loop
-loop-again c = (omega arith, (omega arith, goes-on (c .before .before .before .before .before .before .before .before .before .args .statuses .now) (c .before .before .before .before .before .before .before .before .before .args .leftovers .now) (c .before .before .before .before .before .before .loop .i) (c .before .before .before .before .before .before .loop .inv .1 .1) _ (c .before .allowed .result) (c .before .before .before .before .before .loop-test .taken) (c .before .before .before .before .if1 .left) (c .before .allowed .ensures) (c .if2 .left)))
+loop-again c =
+    let first = c .before .before .before .before in
+    let loop = first .before .before in
+    let a = loop .before .before .before .args in
+    let on = goes-on (a .statuses .now) (a .leftovers .now) (loop .loop .i) (loop .loop .inv .1 .1) _ _
+    (first .before .loop-test .taken) (first .if1 .left) (c .before .allowed .ensures) (c .if2 .left) in
+    (omega arith, (omega arith, on))
 
 returns-3 : tie.Need-returns-3 Inv-loop μ-loop
-returns-3 c = ends-first (c .before .before .before .before .args .statuses .now) (c .before .before .before .before .args .leftovers .now) (c .before .loop .i) (c .before .loop .inv .1 .1) (c .loop-test .left)
+returns-3 c =
+    let loop = c .before in
+    let a = loop .before .before .before .args in
+    ends-first (a .statuses .now) (a .leftovers .now) (loop .loop .i) (loop .loop .inv .1 .1) (c .loop-test .left)
 
 pub bad-answer-spec : {M : Type 1} → statement M
 bad-answer-spec =
@@ -56,12 +56,12 @@ bad-answer-spec =
     μ-loop
     loop-holds
     returns
-    shared-slice-read-allowed
-    mul-allowed
-    shared-slice-read-allowed-2
-    allowed-requires
+    (λ c. search needs)
+    (λ c. search needs)
+    (λ c. search needs)
+    (λ c κs. search needs)
     returns-2
-    add-i
-    loop-less
+    (λ c. search needs)
+    (λ c. search needs)
     loop-again
     returns-3)

@@ -14,15 +14,15 @@ float-from-bits-if1 c = search needs
 returns : tie.Need-returns
 returns c = rw (is-number (c .before .before .args .x) (c .before .if1 .taken) (c .if2 .taken))
 
-zero-bits-requires : tie.Need-zero-bits-requires
-zero-bits-requires c κs = search needs
-
 returns-2 : tie.Need-returns-2
 returns-2 c = rw (zero-number (c .before .before .before .args .x) (sym (c .before .zero-bits .ensures) ∙ c .if3 .taken))
 
 returns-3 : tie.Need-returns-3
-returns-3 c = let x = c .before .before .before .args .x in rw (⊎-elim (λ w. not-above x (w .1 .left) (sym (c .before .zero-bits .ensures) ∙ c .if3 .left)) (λ w. not-below x (w .left)) (c .before .before .if1 .came))
+returns-3 c =
+    let x = c .before .before .before .args .x in
+    let bits = sym (c .before .zero-bits .ensures) ∙ c .if3 .left in
+    rw (⊎-elim (λ w. not-above x (w .1 .left) bits) (λ w. not-below x (w .left)) (c .before .before .if1 .came))
 
 pub number-of-spec : {M : Type 1} → statement M
 number-of-spec =
-    tie.close (tie.spec float-from-bits-if1 returns zero-bits-requires returns-2 returns-3)
+    tie.close (tie.spec float-from-bits-if1 returns (λ c κs. search needs) returns-2 returns-3)

@@ -7,14 +7,10 @@ use Rattle.tables.proofs.Rows.{length-rows}
 use Rattle.tables.proofs.table.rows_of.Statement.{statement}
 use Rattle.tables.proofs.table.rows_of.Tie as tie
 
-least-requires : tie.Need-least-requires
-least-requires c κs = search needs
-
-least-requires-2 : tie.Need-least-requires-2
-least-requires-2 c κs = search needs
-
 returns : tie.Need-returns
-returns c = let a = c .before .before .before .before .before .args in c .least2 .ensures ∙ ap (min (length (a .kinds .now))) (c .before .least .ensures) ∙ sym (length-rows (a .kinds .now) (a .ns .now) (a .limits .now))
+returns c =
+    let a = c .before .before .before .before .before .args in
+    c .least2 .ensures ∙ ap (min (length (a .kinds .now))) (c .before .least .ensures) ∙ sym (length-rows (a .kinds .now) (a .ns .now) (a .limits .now))
 
 pub rows-of-spec : {M : Type 1} → statement M
-rows-of-spec = tie.close (tie.spec least-requires least-requires-2 returns)
+rows-of-spec = tie.close (tie.spec (λ c κs. search needs) (λ c κs. search needs) returns)

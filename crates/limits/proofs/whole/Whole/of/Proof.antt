@@ -11,24 +11,6 @@ truncating-f64-to-u64-requires : tie.Need-truncating-f64-to-u64-requires
 unfolding ofBits neg
 truncating-f64-to-u64-requires c κs = (subst T (sym (c .before .if1 .taken)) tt, subst T (sym (c .if2 .taken)) tt)
 
-int-to-float-if4 : tie.Need-int-to-float-if4
-int-to-float-if4 c = search whole-float
-
-float-to-bits-if4 : tie.Need-float-to-bits-if4
-float-to-bits-if4 c = search whole-no-nan
-
-float-to-bits-if4-2 : tie.Need-float-to-bits-if4-2
-float-to-bits-if4-2 c = search below-no-nan
-
-returns : tie.Need-returns
-returns c = search (whole-yes, passes)
-
-returns-2 : tie.Need-returns-2
-returns-2 c = search (whole-other, passes, c .if4 .left)
-
-returns-3 : tie.Need-returns-3
-returns-3 c = search whole-large
-
 returns-4 : tie.Need-returns-4
 unfolding ofBits
 returns-4 c = whole-high _ (c .if2 .left)
@@ -42,11 +24,11 @@ of-spec =
     tie.close
     (tie.spec
     truncating-f64-to-u64-requires
-    int-to-float-if4
-    float-to-bits-if4
-    float-to-bits-if4-2
-    returns
-    returns-2
-    returns-3
+    (λ c. search whole-float)
+    (λ c. search whole-no-nan)
+    (λ c. search below-no-nan)
+    (λ c. search (whole-yes, passes))
+    (λ c. search (whole-other, passes, c .if4 .left))
+    (λ c. search whole-large)
     returns-4
     returns-5)

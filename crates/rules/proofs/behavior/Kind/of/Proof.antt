@@ -1,95 +1,52 @@
--- The kind of each number; the last gives has the numbers that no gives before it has.
-use borrow.Author.Tests.{ne-eqb}
+-- The kind of each number; the last arm has the numbers that no arm before it has.
+use mathlib.Core.Path.{_≡_}
+use mathlib.Core.Bool.{true, false}
+use Prim.Native.Nat.{ℕ, zero, suc, _≤_}
+use native.Mathlib.Omega.{arith}
+use borrow.Author.Tests.{ltb-true, ne-eqb}
+use lib.Dec.{eqb, ltb}
 use Rattle.rules.specs.Kinds.{kindOf}
 use Rattle.rules.proofs.behavior.Kind.of.Statement.{statement}
 use Rattle.rules.proofs.behavior.Kind.of.Tie as tie
 
-returns : tie.Need-returns
-unfolding kindOf
-returns c = rw (c .match .keys1)
+-- none of the numbers below n
+abbrev NoneBelow : ℕ → ℕ → Type 0
+NoneBelow zero x = Unit {0}
+NoneBelow (suc n) x = NoneBelow n x × (x ≡ n → ⊥)
 
-returns-2 : tie.Need-returns-2
-unfolding kindOf
-returns-2 c = rw (c .match .keys2)
+past : (n x : ℕ) → NoneBelow n x → n ≤ x
+past zero x h = omega arith
+past (suc n) x h = let p = past n x (h .0) in omega (arith, h .1)
 
-returns-3 : tie.Need-returns-3
-unfolding kindOf
-returns-3 c = rw (c .match .keys3)
+differs : (n x : ℕ) → NoneBelow n x → (i : ℕ) → ltb i n ≡ true → eqb x i ≡ false
+differs n x h i l =
+    let p = past n x h in
+    let q = ltb-true i n l in
+    ne-eqb x i (omega arith)
 
-returns-4 : tie.Need-returns-4
+last : tie.Need-returns-17
 unfolding kindOf
-returns-4 c = rw (c .match .keys4)
-
-returns-5 : tie.Need-returns-5
-unfolding kindOf
-returns-5 c = rw (c .match .keys5)
-
-returns-6 : tie.Need-returns-6
-unfolding kindOf
-returns-6 c = rw (c .match .keys6)
-
-returns-7 : tie.Need-returns-7
-unfolding kindOf
-returns-7 c = rw (c .match .keys7)
-
-returns-8 : tie.Need-returns-8
-unfolding kindOf
-returns-8 c = rw (c .match .keys8)
-
-returns-9 : tie.Need-returns-9
-unfolding kindOf
-returns-9 c = rw (c .match .keys9)
-
-returns-10 : tie.Need-returns-10
-unfolding kindOf
-returns-10 c = rw (c .match .keys10)
-
-returns-11 : tie.Need-returns-11
-unfolding kindOf
-returns-11 c = rw (c .match .keys11)
-
-returns-12 : tie.Need-returns-12
-unfolding kindOf
-returns-12 c = rw (c .match .keys12)
-
-returns-13 : tie.Need-returns-13
-unfolding kindOf
-returns-13 c = rw (c .match .keys13)
-
-returns-14 : tie.Need-returns-14
-unfolding kindOf
-returns-14 c = rw (c .match .keys14)
-
-returns-15 : tie.Need-returns-15
-unfolding kindOf
-returns-15 c = rw (c .match .keys15)
-
-returns-16 : tie.Need-returns-16
-unfolding kindOf
-returns-16 c = rw (c .match .keys16)
-
-returns-17 : tie.Need-returns-17
-unfolding kindOf
-returns-17 c = simp (ne-eqb _ _ (c .match .rest .1), ne-eqb _ _ (c .match .rest .0 .1), ne-eqb _ _ (c .match .rest .0 .0 .1), ne-eqb _ _ (c .match .rest .0 .0 .0 .1), ne-eqb _ _ (c .match .rest .0 .0 .0 .0 .1), ne-eqb _ _ (c .match .rest .0 .0 .0 .0 .0 .1), ne-eqb _ _ (c .match .rest .0 .0 .0 .0 .0 .0 .1), ne-eqb _ _ (c .match .rest .0 .0 .0 .0 .0 .0 .0 .1), ne-eqb _ _ (c .match .rest .0 .0 .0 .0 .0 .0 .0 .0 .1), ne-eqb _ _ (c .match .rest .0 .0 .0 .0 .0 .0 .0 .0 .0 .1), ne-eqb _ _ (c .match .rest .0 .0 .0 .0 .0 .0 .0 .0 .0 .0 .1), ne-eqb _ _ (c .match .rest .0 .0 .0 .0 .0 .0 .0 .0 .0 .0 .0 .1), ne-eqb _ _ (c .match .rest .0 .0 .0 .0 .0 .0 .0 .0 .0 .0 .0 .0 .1), ne-eqb _ _ (c .match .rest .0 .0 .0 .0 .0 .0 .0 .0 .0 .0 .0 .0 .0 .1), ne-eqb _ _ (c .match .rest .0 .0 .0 .0 .0 .0 .0 .0 .0 .0 .0 .0 .0 .0 .1), ne-eqb _ _ (c .match .rest .0 .0 .0 .0 .0 .0 .0 .0 .0 .0 .0 .0 .0 .0 .0 .1))
+last c = simp (differs 16 _ (c .match .rest))
 
 pub of-spec : {M : Type 1} → statement M
+unfolding kindOf
 of-spec =
     tie.close
     (tie.spec
-    returns
-    returns-2
-    returns-3
-    returns-4
-    returns-5
-    returns-6
-    returns-7
-    returns-8
-    returns-9
-    returns-10
-    returns-11
-    returns-12
-    returns-13
-    returns-14
-    returns-15
-    returns-16
-    returns-17)
+    (λ c. rw (c .match .keys1))
+    (λ c. rw (c .match .keys2))
+    (λ c. rw (c .match .keys3))
+    (λ c. rw (c .match .keys4))
+    (λ c. rw (c .match .keys5))
+    (λ c. rw (c .match .keys6))
+    (λ c. rw (c .match .keys7))
+    (λ c. rw (c .match .keys8))
+    (λ c. rw (c .match .keys9))
+    (λ c. rw (c .match .keys10))
+    (λ c. rw (c .match .keys11))
+    (λ c. rw (c .match .keys12))
+    (λ c. rw (c .match .keys13))
+    (λ c. rw (c .match .keys14))
+    (λ c. rw (c .match .keys15))
+    (λ c. rw (c .match .keys16))
+    last)

@@ -1,0 +1,4 @@
+mod Came
+mod Cuts
+mod Puts
+mod Serves

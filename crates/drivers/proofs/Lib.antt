@@ -1,3 +1,0 @@
-pub mod ByKind
-pub mod Laws
-pub mod StateLaws

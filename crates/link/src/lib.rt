@@ -1,1 +1,0 @@
-// Theorems only: the flat rules give what the rules of trees give.

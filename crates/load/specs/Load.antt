@@ -1,0 +1,23 @@
+-- Loading the working array from the runs that a host lends, and putting it back.
+use mathlib.Core.List.{List, map, _++_}
+use Prim.Native.Nat.{ℕ, zero, suc, _+_, _-_, _≤_}
+use lib.ListN.{getD, set, length, take, drop}
+use Rattle.refine.specs.Words.{pack}
+
+-- n words from q on, of nodes that no visit has seen
+unfoldable pub loadWords : List ℕ → List ℕ → List ℕ → List ℕ → ℕ → ℕ → List ℕ → List ℕ
+loadWords kinds ends places marks q zero ws = ws
+loadWords kinds ends places marks q (suc n) ws =
+    loadWords kinds ends places marks (q + 1) n (set ws q (pack (getD ends q 0 - (q + 1)) (getD kinds q 0) (getD places q 0) (getD marks q 0) 0))
+
+-- a field of the first n words put over a run
+abbrev pub over : (ℕ → ℕ) → ℕ → List ℕ → List ℕ → List ℕ
+over field n ws l = map field (take n ws) ++ drop n l
+
+-- the runs hold n nodes
+pub record Room (kinds ends places marks : List ℕ) (n : ℕ) : Type 0 where
+  pub nodes : n ≤ 256
+  pub kinds-long : n ≤ length kinds
+  pub ends-long : n ≤ length ends
+  pub places-long : n ≤ length places
+  pub marks-long : n ≤ length marks

@@ -1,0 +1,90 @@
+// Loading the working array from the runs that a host lends, and putting it back.
+use work::mark_of;
+use work::place_of;
+use work::seen_of;
+ghost use mathlib.Core.Path.{_≡_};
+ghost use Prim.Native.Nat.{_+_, _-_, _≤_};
+ghost use lib.ListN.{length};
+ghost use Rattle.work.specs.Word.{placeOf, markOf, seenOf};
+ghost use Rattle.refine.specs.Words.{pack};
+ghost use Rattle.load.specs.Load.{loadWords, over, Room};
+
+// The word of a node that no visit has seen.
+fn word(below: usize, kind: u8, place: u16, mark: u8) -> u32
+    ensures { λ r. ⌜ r ≡ pack below kind place mark 0 ⌝ }
+{
+    (below % 256) as u32
+        + kind as u32 * 0x100
+        + place as u32 % 256 * 0x10000
+        + mark as u32 % 2 * 0x1000000
+}
+
+fn wide(x: u16) -> usize
+    ensures { λ r. ⌜ r ≡ x ⌝ }
+{
+    x as usize
+}
+
+// How many nodes stand below the node at p, whose subtree ends at end.
+fn below(p: usize, end: usize) -> usize
+    requires { ⌜ p ≤ 256 ⌝ }
+    ensures { λ r. ⌜ r ≡ end - (p + 1) ⌝ }
+{
+    if p < end { end - p - 1 } else { 0 }
+}
+
+// The words of n nodes, of which ends says where each subtree ends.
+pub fn load(
+    work: &mut [u32; 260],
+    kinds: &[u8],
+    ends: &[u16],
+    places: &[u16],
+    marks: &[u8],
+    n: usize,
+)
+    requires { ⌜ Room (now kinds) (now ends) (now places) (now marks) n ⌝ }
+    ensures { λ _. ⌜ now (work .exit) ≡ loadWords (now (kinds .entry)) (now (ends .entry)) (now (places .entry)) (now (marks .entry)) 0 n (now (work .entry)) ⌝ }
+{
+    let mut p = 0;
+    while p < n {
+        work[p] = word(below(p, wide(ends[p])), kinds[p], places[p], marks[p]);
+        p += 1;
+    }
+}
+
+fn place(w: u32) -> u16
+    ensures { λ r. ⌜ r ≡ placeOf w ⌝ }
+{
+    place_of(w) as u16
+}
+
+fn mark(w: u32) -> u8
+    ensures { λ r. ⌜ r ≡ markOf w ⌝ }
+{
+    mark_of(w) as u8
+}
+
+fn seen(w: u32) -> u8
+    ensures { λ r. ⌜ r ≡ seenOf w ⌝ }
+{
+    seen_of(w) as u8
+}
+
+// Places, marks and statuses of the first n nodes; what stands behind stays.
+pub fn put_back(work: &[u32; 260], places: &mut [u16], marks: &mut [u8], board: &mut [u8], n: usize)
+    requires { ⌜ (n ≤ 256) × (n ≤ length (now places)) × (n ≤ length (now marks)) × (n ≤ length (now board)) ⌝ }
+    ensures { λ _. ⌜ now (places .exit) ≡ over placeOf n (now (work .entry)) (now (places .entry)) ⌝ }
+    ensures { λ _. ⌜ now (marks .exit) ≡ over markOf n (now (work .entry)) (now (marks .entry)) ⌝ }
+    ensures { λ _. ⌜ now (board .exit) ≡ over seenOf n (now (work .entry)) (now (board .entry)) ⌝ }
+{
+    // As a slice, the array tells its length.
+    let words: &[u32] = work;
+    let mut i = 0;
+    while i < n {
+        let w = words[i];
+        places[i] = place(w);
+        marks[i] = mark(w);
+        board[i] = seen(w);
+        i += 1;
+    }
+}

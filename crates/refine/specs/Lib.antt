@@ -1,0 +1,13 @@
+pub mod Words
+pub mod Packed
+pub mod Runs
+pub mod Stand
+pub mod Frame
+pub mod Sim
+pub mod Drivers
+pub mod Loops
+pub mod Answers
+pub mod Rules
+pub mod Ticks
+pub mod Start
+pub mod Whole

@@ -1,0 +1,85 @@
+-- Reads of a packed word give its parts, and writes to it pack it anew.
+use mathlib.Core.Path.{_≡_, refl}
+use Prim.Native.Nat.{ℕ, _<_}
+use native.Mathlib.Omega.{arith}
+use Rattle.rules.specs.declared.behavior.Kind.{Kind}
+use Rattle.rules.specs.declared.behavior.Kind.the-variants.{Wait, WaitForever, Action, Invert, AlwaysSucceed, Timeout, Select, If, Sequence}
+use Rattle.rules.specs.declared.behavior.Kind.the-variants.{MemorylessSequence, MemorylessSelector, While, WhileAll, WhenAll, WhenAny, After, Race}
+use Rattle.rules.specs.Kinds.{code, kindOf}
+use Rattle.work.specs.Word.{belowOf, codeOf, kindIn, placeOf, markOf, withPlace, withMark, withSeen, freshWord}
+use Rattle.refine.specs.Words.{pack}
+
+code-small : (k : Kind) → code k < 256
+code-small Wait = omega arith
+code-small WaitForever = omega arith
+code-small Action = omega arith
+code-small Invert = omega arith
+code-small AlwaysSucceed = omega arith
+code-small Timeout = omega arith
+code-small Select = omega arith
+code-small If = omega arith
+code-small Sequence = omega arith
+code-small MemorylessSequence = omega arith
+code-small MemorylessSelector = omega arith
+code-small While = omega arith
+code-small WhileAll = omega arith
+code-small WhenAll = omega arith
+code-small WhenAny = omega arith
+code-small After = omega arith
+code-small Race = omega arith
+
+kind-code : (k : Kind) → kindOf (code k) ≡ k
+unfolding kindOf
+kind-code Wait = refl
+kind-code WaitForever = refl
+kind-code Action = refl
+kind-code Invert = refl
+kind-code AlwaysSucceed = refl
+kind-code Timeout = refl
+kind-code Select = refl
+kind-code If = refl
+kind-code Sequence = refl
+kind-code MemorylessSequence = refl
+kind-code MemorylessSelector = refl
+kind-code While = refl
+kind-code WhileAll = refl
+kind-code WhenAll = refl
+kind-code WhenAny = refl
+kind-code After = refl
+kind-code Race = refl
+
+module _ (s : ℕ) (k : Kind) (p m b : ℕ) where
+  pub below-pack : s < 256 → belowOf (pack s (code k) p m b) ≡ s
+  unfolding pack belowOf
+  below-pack l = omega arith
+
+  code-pack : codeOf (pack s (code k) p m b) ≡ code k
+  unfolding pack codeOf
+  code-pack = omega (arith, code-small k)
+
+  pub kind-pack : kindIn (pack s (code k) p m b) ≡ k
+  kind-pack = rw code-pack (kind-code k)
+
+  pub place-pack : p < 256 → placeOf (pack s (code k) p m b) ≡ p
+  unfolding pack placeOf
+  place-pack l = omega (arith, code-small k)
+
+  pub mark-pack : m < 2 → markOf (pack s (code k) p m b) ≡ m
+  unfolding pack markOf
+  mark-pack l = omega (arith, code-small k)
+
+  pub put-place : (i : ℕ) → withPlace (pack s (code k) p m b) i ≡ pack s (code k) i m b
+  unfolding pack withPlace
+  put-place i = omega (arith, code-small k)
+
+  pub put-mark : withMark (pack s (code k) p m b) ≡ pack s (code k) p 1 b
+  unfolding pack withMark
+  put-mark = omega (arith, code-small k)
+
+  pub put-seen : (i : ℕ) → i < 4 → withSeen (pack s (code k) p m b) i ≡ pack s (code k) p m i
+  unfolding pack withSeen
+  put-seen i l = omega (arith, code-small k)
+
+  pub put-fresh : freshWord (pack s (code k) p m b) ≡ pack s (code k) 0 0 b
+  unfolding pack freshWord
+  put-fresh = omega (arith, code-small k)

@@ -1,9 +1,0 @@
-pub mod Resume
-pub mod Sequence
-pub mod Node
-pub mod Loops
-pub mod WhenAll
-pub mod After
-pub mod Drive
-pub mod ByKind
-pub mod Visit

@@ -1,1 +1,0 @@
-// Theorems only.

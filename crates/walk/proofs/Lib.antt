@@ -1,0 +1,5 @@
+mod VisitLaws
+mod SequenceLaws
+mod WhenAllLaws
+mod LoopLaws
+mod NodeLaws

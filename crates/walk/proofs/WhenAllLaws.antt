@@ -1,0 +1,156 @@
+-- One law for each path of the when-all drivers.
+use mathlib.Core.Path.{_≡_, refl}
+use mathlib.Core.Bool.{Bool, true, false, _&&_}
+use mathlib.Core.List.{List}
+use Prim.Native.Nat.{ℕ, zero, suc, _+_, _-_, _≤_, _<_}
+use native.Mathlib.Omega.{arith}
+use lib.Ieee.{Float, lt}
+use borrow.Author.Tests.{lt-ltb, le-ltb, le-leb, lt-leb, eq-eqb, ne-eqb}
+use Rattle.rules.specs.declared.status.Status.the-variants as status
+use Rattle.rules.specs.Tree.{zeroTime}
+use Rattle.rules.specs.Outcome.{smaller}
+use Rattle.work.specs.declared.result.Seen.{Seen}
+use Rattle.work.specs.declared.result.Seen.the-variants.{Stopped, Running, Success, Failure}
+use Rattle.work.specs.Word.{placeOf, markOf}
+use Rattle.work.specs.Array.{wordAt, passed, endOf, setPlace, setMark, freshWords, freshTimes, childFrom}
+use Rattle.work.specs.Flat.{Out, out, Visitor}
+use Rattle.walk.proofs.VisitLaws.{NotRunning}
+use Rattle.work.specs.Flat.{whenAllGo, whenAll, raceGo, race, afterOver, afterGo, after}
+
+in-turn : (a b : Bool) → a && b ≡ true → a ≡ true
+in-turn true b e = refl
+in-turn false b e = e
+
+module _ (v : Visitor) (stop : ℕ) (dt : Float) (q : ℕ) (all : Bool) (least : Float) (ws : List ℕ) (ts : List Float) where
+  pub when-all-over : (k : ℕ) → stop ≤ q → all ≡ true → whenAllGo v stop dt k q all least ws ts ≡ out Success least ws ts
+  unfolding whenAllGo
+  when-all-over zero h e = rw e
+  when-all-over (suc k) h e = rw (le-ltb q stop h, e)
+
+  pub when-some-over : (k : ℕ) → stop ≤ q → all ≡ false → whenAllGo v stop dt k q all least ws ts ≡ out Running zeroTime ws ts
+  unfolding whenAllGo
+  when-some-over zero h e = rw e
+  when-some-over (suc k) h e = rw (le-ltb q stop h, e)
+
+  module _ (d : q < stop) (m : ℕ) (a : m ≡ markOf (wordAt ws q)) where
+    -- what stands after the turn, as the paths of the code join, and the turns that are left
+    pub when-marked : (k : ℕ) → stop - q ≤ k → (m ≡ 0 → ⊥) → (ws₂ : List ℕ) (ts₂ : List Float) (least₂ : Float) (all₂ : Bool)
+        → ws₂ ≡ ws → ts₂ ≡ ts → least₂ ≡ least → all₂ ≡ all
+        → (next : ℕ) → next ≡ endOf ws₂ q → q < next
+        → (o : Out) → ((j : ℕ) → stop - next ≤ j → whenAllGo v stop dt j next all₂ least₂ ws₂ ts₂ ≡ o) → whenAllGo v stop dt k q all least ws ts ≡ o
+    unfolding whenAllGo
+    when-marked zero h n ws₂ ts₂ least₂ all₂ w x y u next e g o r = absurd (omega arith)
+    when-marked (suc k) h n ws₂ ts₂ least₂ all₂ w x y u next e g o r = rw (lt-ltb q stop d, ← a, ne-eqb m 0 n, ← w, ← x, ← y, ← u, ← e) (r k (omega arith))
+
+    module _ (z : m ≡ 0) (l : Float) (ws₁ : List ℕ) (ts₁ : List Float) where
+      pub when-stopped : (k : ℕ) → stop - q ≤ k → v q dt ws ts ≡ out Stopped l ws₁ ts₁ → whenAllGo v stop dt k q all least ws ts ≡ out Stopped l ws₁ ts₁
+      unfolding whenAllGo
+      when-stopped zero h e = absurd (omega arith)
+      when-stopped (suc k) h e = rw (lt-ltb q stop d, ← a, eq-eqb m 0 z, e)
+
+      pub when-failed : (k : ℕ) → stop - q ≤ k → v q dt ws ts ≡ out Failure l ws₁ ts₁ → whenAllGo v stop dt k q all least ws ts ≡ out Failure l ws₁ ts₁
+      unfolding whenAllGo
+      when-failed zero h e = absurd (omega arith)
+      when-failed (suc k) h e = rw (lt-ltb q stop d, ← a, eq-eqb m 0 z, e)
+
+      pub when-running : (k : ℕ) → stop - q ≤ k → v q dt ws ts ≡ out Running l ws₁ ts₁
+          → (ws₂ : List ℕ) (ts₂ : List Float) (least₂ : Float) (all₂ : Bool) → ws₂ ≡ ws₁ → ts₂ ≡ ts₁ → least₂ ≡ least → all₂ ≡ false
+          → (next : ℕ) → next ≡ endOf ws₂ q → q < next
+          → (o : Out) → ((j : ℕ) → stop - next ≤ j → whenAllGo v stop dt j next all₂ least₂ ws₂ ts₂ ≡ o) → whenAllGo v stop dt k q all least ws ts ≡ o
+      unfolding whenAllGo
+      when-running zero h e ws₂ ts₂ least₂ all₂ w x y u next f g o r = absurd (omega arith)
+      when-running (suc k) h e ws₂ ts₂ least₂ all₂ w x y u next f g o r = rw (lt-ltb q stop d, ← a, eq-eqb m 0 z, e, ← w, ← x, ← y, ← u, ← f) (r k (omega arith))
+
+      pub when-success : (k : ℕ) → stop - q ≤ k → v q dt ws ts ≡ out Success l ws₁ ts₁ → (end : ℕ) → end ≡ endOf ws₁ q
+          → (ws₃ ws₂ : List ℕ) (ts₃ ts₂ : List Float) (least₂ : Float) (all₂ : Bool) → ws₃ ≡ freshWords q (end - q) ws₁ → ts₃ ≡ freshTimes q (end - q) ts₁
+          → ws₂ ≡ setMark ws₃ q → ts₂ ≡ ts₃ → least₂ ≡ smaller least l → all₂ ≡ all
+          → (next : ℕ) → next ≡ endOf ws₂ q → q < next
+          → (o : Out) → ((j : ℕ) → stop - next ≤ j → whenAllGo v stop dt j next all₂ least₂ ws₂ ts₂ ≡ o) → whenAllGo v stop dt k q all least ws ts ≡ o
+      unfolding whenAllGo
+      when-success zero h e end b ws₃ ws₂ ts₃ ts₂ least₂ all₂ c i w x y u next f g o r = absurd (omega arith)
+      when-success (suc k) h e end b ws₃ ws₂ ts₃ ts₂ least₂ all₂ c i w x y u next f g o r =
+          rw (lt-ltb q stop d, ← a, eq-eqb m 0 z, e, ← b, ← c, ← i, ← w, ← x, ← y, ← u, ← f) (r k (omega arith))
+
+module _ (v : Visitor) (p : ℕ) (dt : Float) (ws : List ℕ) (ts : List Float) (stop : ℕ) (a : stop ≡ endOf ws p) where
+  pub when-empty : (top : Float) → stop ≤ p + 1 → (l : Float) → l ≡ passed ws dt → whenAll v top p dt ws ts ≡ out Success l ws ts
+  unfolding whenAll
+  when-empty top h l e = rw (← a, le-leb stop (p + 1) h, ← e)
+
+  pub when-start : (top : Float) → p + 1 < stop → (o : Out) → whenAllGo v stop dt 256 (p + 1) true top ws ts ≡ o → whenAll v top p dt ws ts ≡ o
+  unfolding whenAll
+  when-start top h o g = rw (← a, lt-leb stop (p + 1) h) g
+
+  pub race-start : (o : Out) → raceGo v stop dt 256 (p + 1) ws ts ≡ o → race v p dt ws ts ≡ o
+  unfolding race
+  race-start o g = rw (← a) g
+
+  pub after-start : (top : Float) (i q : ℕ) → i ≡ placeOf (wordAt ws p) → q ≡ childFrom ws stop i (p + 1) → (o : Out)
+      → afterGo v p stop dt 256 q i true top ws ts ≡ o → after v top p dt ws ts ≡ o
+  unfolding after
+  after-start top i q b d o g = rw (← a, ← b, ← d) g
+
+module _ (v : Visitor) (stop : ℕ) (dt : Float) (q : ℕ) (ws : List ℕ) (ts : List Float) where
+  pub race-over : (k : ℕ) → stop ≤ q → raceGo v stop dt k q ws ts ≡ out Running zeroTime ws ts
+  unfolding raceGo
+  race-over zero h = refl
+  race-over (suc k) h = rw (le-ltb q stop h)
+
+  module _ (d : q < stop) (l : Float) (ws₁ : List ℕ) (ts₁ : List Float) where
+    pub race-running : (k : ℕ) → stop - q ≤ k → v q dt ws ts ≡ out Running l ws₁ ts₁ → (next : ℕ) → next ≡ endOf ws₁ q → q < next
+        → (o : Out) → ((j : ℕ) → stop - next ≤ j → raceGo v stop dt j next ws₁ ts₁ ≡ o) → raceGo v stop dt k q ws ts ≡ o
+    unfolding raceGo
+    race-running zero h e next f g o r = absurd (omega arith)
+    race-running (suc k) h e next f g o r = rw (lt-ltb q stop d, e, ← f) (r k (omega arith))
+
+    pub race-ended : (k : ℕ) → stop - q ≤ k → (s : Seen) → NotRunning s → v q dt ws ts ≡ out s l ws₁ ts₁ → raceGo v stop dt k q ws ts ≡ out s l ws₁ ts₁
+    unfolding raceGo
+    race-ended zero h s n e = absurd (omega arith)
+    race-ended (suc k) h Stopped n e = rw (lt-ltb q stop d, e)
+    race-ended (suc k) h Running n e = absurd n
+    race-ended (suc k) h Success n e = rw (lt-ltb q stop d, e)
+    race-ended (suc k) h Failure n e = rw (lt-ltb q stop d, e)
+
+module _ (v : Visitor) (p stop : ℕ) (dt : Float) (q i : ℕ) (next : Bool) (least : Float) (ws : List ℕ) (ts : List Float) where
+  pub after-all-over : (k : ℕ) → stop ≤ q → next ≡ true → (ws₁ : List ℕ) → ws₁ ≡ setPlace ws p i → afterGo v p stop dt k q i next least ws ts ≡ out Success least ws₁ ts
+  unfolding afterGo afterOver
+  after-all-over zero h e ws₁ f = rw (e, f)
+  after-all-over (suc k) h e ws₁ f = rw (le-ltb q stop h, e, f)
+
+  pub after-some-over : (k : ℕ) → stop ≤ q → next ≡ false → (ws₁ : List ℕ) → ws₁ ≡ setPlace ws p i
+      → afterGo v p stop dt k q i next least ws ts ≡ out Running zeroTime ws₁ ts
+  unfolding afterGo afterOver
+  after-some-over zero h e ws₁ f = rw (e, f)
+  after-some-over (suc k) h e ws₁ f = rw (le-ltb q stop h, e, f)
+
+  module _ (d : q < stop) (l : Float) (ws₁ : List ℕ) (ts₁ : List Float) where
+    pub after-stopped : (k : ℕ) → stop - q ≤ k → (s : Seen) → s ≡ Stopped → v q dt ws ts ≡ out s l ws₁ ts₁ → afterGo v p stop dt k q i next least ws ts ≡ out s l ws₁ ts₁
+    unfolding afterGo
+    after-stopped zero h s n e = absurd (omega arith)
+    after-stopped (suc k) h s n e = rw (lt-ltb q stop d, e, n)
+
+    pub after-failed : (k : ℕ) → stop - q ≤ k → (s : Seen) → s ≡ Failure → v q dt ws ts ≡ out s l ws₁ ts₁ → (ws₂ : List ℕ) → ws₂ ≡ setPlace ws₁ p i
+        → afterGo v p stop dt k q i next least ws ts ≡ out s l ws₂ ts₁
+    unfolding afterGo
+    after-failed zero h s n e ws₂ f = absurd (omega arith)
+    after-failed (suc k) h s n e ws₂ f = rw (lt-ltb q stop d, e, n, f)
+
+    pub after-late : (k : ℕ) → stop - q ≤ k → v q dt ws ts ≡ out Success l ws₁ ts₁ → next && lt l least ≡ false → (ws₂ : List ℕ) → ws₂ ≡ setPlace ws₁ p i
+        → (r : Float) → r ≡ smaller least l → afterGo v p stop dt k q i next least ws ts ≡ out Failure r ws₂ ts₁
+    unfolding afterGo
+    after-late zero h e n ws₂ f r c = absurd (omega arith)
+    after-late (suc k) h e n ws₂ f r c = rw (lt-ltb q stop d, e, n, f, c)
+
+    module _ (behind : ℕ) (b : behind ≡ endOf ws₁ q) (g : q < behind) (o : Out) where
+      pub after-running : (k : ℕ) → stop - q ≤ k → v q dt ws ts ≡ out Running l ws₁ ts₁ → (i₂ : ℕ) (least₂ : Float) (next₂ : Bool)
+          → i₂ ≡ i → least₂ ≡ zeroTime → next₂ ≡ false
+          → ((j : ℕ) → stop - behind ≤ j → afterGo v p stop dt j behind i₂ next₂ least₂ ws₁ ts₁ ≡ o) → afterGo v p stop dt k q i next least ws ts ≡ o
+      unfolding afterGo
+      after-running zero h e i₂ least₂ next₂ x y u r = absurd (omega arith)
+      after-running (suc k) h e i₂ least₂ next₂ x y u r = rw (lt-ltb q stop d, e, ← b) (rw (x, y, u) at (r k (omega arith)))
+
+      pub after-sooner : (k : ℕ) → stop - q ≤ k → v q dt ws ts ≡ out Success l ws₁ ts₁ → next && lt l least ≡ true
+          → (i₂ : ℕ) (least₂ : Float) (next₂ : Bool) → i₂ ≡ i + 1 → least₂ ≡ l → next₂ ≡ next
+          → ((j : ℕ) → stop - behind ≤ j → afterGo v p stop dt j behind i₂ next₂ least₂ ws₁ ts₁ ≡ o) → afterGo v p stop dt k q i next least ws ts ≡ o
+      unfolding afterGo
+      after-sooner zero h e n i₂ least₂ next₂ x y u r = absurd (omega arith)
+      after-sooner (suc k) h e n i₂ least₂ next₂ x y u r = rw (lt-ltb q stop d, e, n, ← b) (rw (x, y, u, in-turn next (lt l least) n) at (r k (omega arith)))

@@ -1,0 +1,43 @@
+// The working array of a tick, what is read and written there, and the rules of the nodes that visit
+// no other: leaves, and decorators once their child has given a result. specs/ has the tick over it.
+mod array;
+mod decorator;
+mod leaves;
+mod moves;
+mod result;
+mod word;
+
+pub use array::ASKED;
+pub use array::FUEL;
+pub use array::UPDATE;
+pub use array::USED;
+pub use array::child;
+pub use array::end_of;
+pub use array::fresh;
+pub use array::passed;
+pub use array::put_mark;
+pub use array::put_place;
+pub use array::put_seen;
+pub use array::updates;
+pub use decorator::decorated;
+pub use leaves::leaf;
+pub use leaves::visit_leaf;
+pub use moves::choice;
+pub use moves::choose;
+pub use moves::decorates;
+pub use moves::exchanges;
+pub use moves::index_after;
+pub use moves::is_leaf;
+pub use moves::move_on;
+pub use moves::sooner;
+pub use moves::up_on;
+pub use result::LARGEST;
+pub use result::Result;
+pub use result::Seen;
+pub use result::smaller;
+pub use result::stopped;
+pub use result::waiting;
+pub use word::kind_of;
+pub use word::mark_of;
+pub use word::place_of;
+pub use word::seen_of;
