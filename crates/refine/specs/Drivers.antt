@@ -155,7 +155,7 @@ module _ (G : Given) (d : ℕ) (child : Ticker) (v : Visitor) (g : Ticks G d chi
     | Running ↦ λ r t' f' u' v' e'. went u' (still e') (v', vs .1) refl refl
     | Failure ↦ λ r t' f' u' v' e'. went u' (still e') (v', vs .1) refl refl
     | Success ↦ λ r t' f' u' v' e'. rw (
-      end-at fr [] f' u' t' v',
+      end-at fr [] f u (fresh t) (at-fresh G (fr .q) t d (vs .0)),
       le-leb (fr .stop) (G .ends (fr .q)) (omega (arith, vs .1)),
       passed-in (nodesIn fr (t' ∷ [])) (full-length fr (t' ∷ []) (v', vs .1)) (G .update) f' u' r,
       rest-event G x r,
@@ -171,7 +171,7 @@ module _ (G : Given) (d : ℕ) (child : Ticker) (v : Visitor) (g : Ticks G d chi
         | Success ↦ λ r t' f' u' v' e'.
             let vt : First fr (fresh t') = at-fresh G (fr .q) t' d v' in
             rw (
-              end-at fr ws f' u' t' v',
+              end-at fr ws f u (fresh t) (at-fresh G (fr .q) t d (vs .0)),
               lt-leb (fr .stop) (G .ends (fr .q)) (ats-less G (G .ends (fr .q)) w us (fr .stop) d (vs .1)),
               fresh-words fr (t' ∷ []) ws (G .ends (fr .q)) (v', refl) f' u',
               fresh-times fr (t' ∷ []) ws (G .ends (fr .q)) (v', refl),
@@ -222,7 +222,7 @@ module _ (G : Given) (d : ℕ) (child : Ticker) (v : Visitor) (g : Ticks G d chi
       (keep-link fr t (vs .0) f f (omega arith) (whenAllFrom child (event G x) all least ts (worldAt G f u)) _
       (when-link ts (over fr t (vs .0)) x all least k f u (vs .1) e (le-of-suc-le-suc n))))
       (sim-visit G d child v g (trees fr) fr t ts x f u _ _ vs e λ s. elim s [
-        | Running ↦ λ r t' f' u' v' e'. rw (end-at fr ts f' u' t' v', ← over-words fr t' v' ts f' u', ← over-times fr t' v' ts)
+        | Running ↦ λ r t' f' u' v' e'. rw (end-at fr ts f u t (vs .0), ← over-words fr t' v' ts f' u', ← over-times fr t' v' ts)
             (keep-link fr t' v' f f' (omega (arith, e' .burnt)) (whenAllFrom child (event G x) false least ts (worldAt G f' u')) _
             (when-link ts (over fr t' v') x false least k f' u' (vs .1) (e' .few) (le-of-suc-le-suc n)))
         | Failure ↦ λ r t' f' u' v' e'. went u' (still e') (v', vs .1) refl refl
@@ -230,12 +230,11 @@ module _ (G : Given) (d : ℕ) (child : Ticker) (v : Visitor) (g : Ticks G d chi
             let t'' : Tree = mark (fresh t') in
             let v'' : First fr t'' = at-mark G (fr .q) (fresh t') d (at-fresh G (fr .q) t' d v') in
             rw (
-              end-at fr ts f' u' t' v',
+              end-at fr ts f u t (vs .0),
               fresh-words fr (t' ∷ []) ts (G .ends (fr .q)) (v', refl) f' u',
               fresh-times fr (t' ∷ []) ts (G .ends (fr .q)) (v', refl),
               marked-words fr ts f' u' (fresh t'),
               marked-times fr ts (fresh t'),
-              end-at fr ts f' u' t'' v'',
               ← over-words fr t'' v'' ts f' u',
               ← over-times fr t'' v'' ts,
             )

@@ -90,7 +90,7 @@ module _ (v : Visitor) (stop q : ℕ) (dt : Float) (ws : List ℕ) (ts : List Fl
   mem-failed zero h e = absurd (omega arith)
   mem-failed (suc k) h e = rw e
 
-  module _ (e : v q dt ws ts ≡ out Success l ws₁ ts₁) (next : ℕ) (n : next ≡ endOf ws₁ q) where
+  module _ (e : v q dt ws ts ≡ out Success l ws₁ ts₁) (next : ℕ) (n : next ≡ endOf ws q) where
     pub mem-last : (k : ℕ) → 0 < k → stop ≤ next → (r : Float) → r ≡ passed ws₁ l → memorylessGo v stop k q dt ws ts ≡ out Success r ws₁ ts₁
     unfolding memorylessGo
     mem-last zero h g r f = absurd (omega arith)

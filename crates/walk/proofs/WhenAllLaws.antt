@@ -33,14 +33,11 @@ module _ (v : Visitor) (stop : ℕ) (dt : Float) (q : ℕ) (all : Bool) (least :
   when-some-over (suc k) h e = rw (le-ltb q stop h, e)
 
   module _ (d : q < stop) (m : ℕ) (a : m ≡ markOf (wordAt ws q)) where
-    -- what stands after the turn, as the paths of the code join, and the turns that are left
-    pub when-marked : (k : ℕ) → stop - q ≤ k → (m ≡ 0 → ⊥) → (ws₂ : List ℕ) (ts₂ : List Float) (least₂ : Float) (all₂ : Bool)
-        → ws₂ ≡ ws → ts₂ ≡ ts → least₂ ≡ least → all₂ ≡ all
-        → (next : ℕ) → next ≡ endOf ws₂ q → q < next
-        → (o : Out) → ((j : ℕ) → stop - next ≤ j → whenAllGo v stop dt j next all₂ least₂ ws₂ ts₂ ≡ o) → whenAllGo v stop dt k q all least ws ts ≡ o
+    pub when-marked : (k : ℕ) → stop - q ≤ k → (m ≡ 0 → ⊥) → (next : ℕ) → next ≡ endOf ws q → q < next
+        → (o : Out) → ((j : ℕ) → stop - next ≤ j → whenAllGo v stop dt j next all least ws ts ≡ o) → whenAllGo v stop dt k q all least ws ts ≡ o
     unfolding whenAllGo
-    when-marked zero h n ws₂ ts₂ least₂ all₂ w x y u next e g o r = absurd (omega arith)
-    when-marked (suc k) h n ws₂ ts₂ least₂ all₂ w x y u next e g o r = rw (lt-ltb q stop d, ← a, ne-eqb m 0 n, ← w, ← x, ← y, ← u, ← e) (r k (omega arith))
+    when-marked zero h n next f g o r = absurd (omega arith)
+    when-marked (suc k) h n next f g o r = rw (lt-ltb q stop d, ← a, ne-eqb m 0 n, ← f) (r k (omega arith))
 
     module _ (z : m ≡ 0) (l : Float) (ws₁ : List ℕ) (ts₁ : List Float) where
       pub when-stopped : (k : ℕ) → stop - q ≤ k → v q dt ws ts ≡ out Stopped l ws₁ ts₁ → whenAllGo v stop dt k q all least ws ts ≡ out Stopped l ws₁ ts₁
@@ -53,23 +50,19 @@ module _ (v : Visitor) (stop : ℕ) (dt : Float) (q : ℕ) (all : Bool) (least :
       when-failed zero h e = absurd (omega arith)
       when-failed (suc k) h e = rw (lt-ltb q stop d, ← a, eq-eqb m 0 z, e)
 
-      pub when-running : (k : ℕ) → stop - q ≤ k → v q dt ws ts ≡ out Running l ws₁ ts₁
-          → (ws₂ : List ℕ) (ts₂ : List Float) (least₂ : Float) (all₂ : Bool) → ws₂ ≡ ws₁ → ts₂ ≡ ts₁ → least₂ ≡ least → all₂ ≡ false
-          → (next : ℕ) → next ≡ endOf ws₂ q → q < next
-          → (o : Out) → ((j : ℕ) → stop - next ≤ j → whenAllGo v stop dt j next all₂ least₂ ws₂ ts₂ ≡ o) → whenAllGo v stop dt k q all least ws ts ≡ o
+      pub when-running : (k : ℕ) → stop - q ≤ k → v q dt ws ts ≡ out Running l ws₁ ts₁ → (next : ℕ) → next ≡ endOf ws q → q < next
+          → (o : Out) → ((j : ℕ) → stop - next ≤ j → whenAllGo v stop dt j next false least ws₁ ts₁ ≡ o) → whenAllGo v stop dt k q all least ws ts ≡ o
       unfolding whenAllGo
-      when-running zero h e ws₂ ts₂ least₂ all₂ w x y u next f g o r = absurd (omega arith)
-      when-running (suc k) h e ws₂ ts₂ least₂ all₂ w x y u next f g o r = rw (lt-ltb q stop d, ← a, eq-eqb m 0 z, e, ← w, ← x, ← y, ← u, ← f) (r k (omega arith))
+      when-running zero h e next f g o r = absurd (omega arith)
+      when-running (suc k) h e next f g o r = rw (lt-ltb q stop d, ← a, eq-eqb m 0 z, e, ← f) (r k (omega arith))
 
-      pub when-success : (k : ℕ) → stop - q ≤ k → v q dt ws ts ≡ out Success l ws₁ ts₁ → (end : ℕ) → end ≡ endOf ws₁ q
-          → (ws₃ ws₂ : List ℕ) (ts₃ ts₂ : List Float) (least₂ : Float) (all₂ : Bool) → ws₃ ≡ freshWords q (end - q) ws₁ → ts₃ ≡ freshTimes q (end - q) ts₁
-          → ws₂ ≡ setMark ws₃ q → ts₂ ≡ ts₃ → least₂ ≡ smaller least l → all₂ ≡ all
-          → (next : ℕ) → next ≡ endOf ws₂ q → q < next
-          → (o : Out) → ((j : ℕ) → stop - next ≤ j → whenAllGo v stop dt j next all₂ least₂ ws₂ ts₂ ≡ o) → whenAllGo v stop dt k q all least ws ts ≡ o
+      pub when-success : (k : ℕ) → stop - q ≤ k → v q dt ws ts ≡ out Success l ws₁ ts₁ → (next : ℕ) → next ≡ endOf ws q → q < next
+          → (ws₂ : List ℕ) (ts₂ : List Float) → ws₂ ≡ freshWords q (next - q) ws₁ → ts₂ ≡ freshTimes q (next - q) ts₁
+          → (ws₃ : List ℕ) → ws₃ ≡ setMark ws₂ q → (least₃ : Float) → least₃ ≡ smaller least l
+          → (o : Out) → ((j : ℕ) → stop - next ≤ j → whenAllGo v stop dt j next all least₃ ws₃ ts₂ ≡ o) → whenAllGo v stop dt k q all least ws ts ≡ o
       unfolding whenAllGo
-      when-success zero h e end b ws₃ ws₂ ts₃ ts₂ least₂ all₂ c i w x y u next f g o r = absurd (omega arith)
-      when-success (suc k) h e end b ws₃ ws₂ ts₃ ts₂ least₂ all₂ c i w x y u next f g o r =
-          rw (lt-ltb q stop d, ← a, eq-eqb m 0 z, e, ← b, ← c, ← i, ← w, ← x, ← y, ← u, ← f) (r k (omega arith))
+      when-success zero h e next f g ws₂ ts₂ c i ws₃ w least₃ y o r = absurd (omega arith)
+      when-success (suc k) h e next f g ws₂ ts₂ c i ws₃ w least₃ y o r = rw (lt-ltb q stop d, ← a, eq-eqb m 0 z, e, ← f, ← c, ← i, ← w, ← y) (r k (omega arith))
 
 module _ (v : Visitor) (p : ℕ) (dt : Float) (ws : List ℕ) (ts : List Float) (stop : ℕ) (a : stop ≡ endOf ws p) where
   pub when-empty : (top : Float) → stop ≤ p + 1 → (l : Float) → l ≡ passed ws dt → whenAll v top p dt ws ts ≡ out Success l ws ts

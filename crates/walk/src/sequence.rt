@@ -108,6 +108,8 @@ pub fn memoryless(
     fresh(work, times, q, stop);
     let mut rest = dt;
     loop {
+        // Read before the visit, which writes the word: the next turn need not wait for this one.
+        let next = end_of(work, q);
         let result = visit(work, limits, statuses, leftovers, times, q, depth, rest);
         let seen = result.seen;
         match seen.turned(exchange) {
@@ -115,7 +117,6 @@ pub fn memoryless(
             Seen::Running => return waiting(),
             Seen::Failure => return result,
             Seen::Success => {
-                let next = end_of(work, q);
                 rest = result.left;
                 if stop <= next {
                     return Result {

@@ -52,6 +52,8 @@ pub fn when_all(
     let mut least = LARGEST;
     let mut all_marked = true;
     while q < stop {
+        // Read before the visit, which writes the word: the next turn need not wait for this one.
+        let next = end_of(work, q);
         if mark_of(work[q]) == 0 {
             let result = visit(work, limits, statuses, leftovers, times, q, depth, dt);
             let seen = result.seen;
@@ -62,14 +64,13 @@ pub fn when_all(
                     all_marked = false;
                 }
                 Seen::Success => {
-                    let next = end_of(work, q);
                     fresh(work, times, q, next);
                     put_mark(work, q);
                     least = smaller(least, result.left);
                 }
             }
         }
-        q = end_of(work, q);
+        q = next;
     }
     if all_marked {
         return Result {

@@ -179,15 +179,15 @@ module _ (v : Visitor) where
   -- memoryless, over children that are fresh
   unfoldable pub memorylessGo : ℕ → ℕ → Visitor
   memorylessGo stop zero q dt ws ts = stopped ws ts
-  memorylessGo stop (suc k) q dt ws ts = andThen (v q dt ws ts) λ s l ws ts. elim s [
-    | status.Running ↦ waiting ws ts
-    | status.Failure ↦ out Failure l ws ts
-    | status.Success ↦
-        let next = endOf ws q in
-        cond (leb stop next)
-        (out Success (passed ws l) ws ts)
-        (memorylessGo stop k next l (freshWords q (next - q) ws) (freshTimes q (next - q) ts))
-  ]
+  memorylessGo stop (suc k) q dt ws ts =
+      let next = endOf ws q in
+      andThen (v q dt ws ts) λ s l ws ts. elim s [
+        | status.Running ↦ waiting ws ts
+        | status.Failure ↦ out Failure l ws ts
+        | status.Success ↦ cond (leb stop next)
+            (out Success (passed ws l) ws ts)
+            (memorylessGo stop k next l (freshWords q (next - q) ws) (freshTimes q (next - q) ts))
+      ]
 
   unfoldable pub memoryless : Visitor
   memoryless p dt ws ts =
@@ -198,17 +198,16 @@ module _ (v : Visitor) where
   -- WhenAll: `all`: each child so far is marked; `least`: the least leftover so far
   unfoldable pub whenAllGo : ℕ → Float → ℕ → ℕ → Bool → Float → Step
   whenAllGo stop dt zero q all least ws ts = cond all (out Success least ws ts) (waiting ws ts)
-  whenAllGo stop dt (suc k) q all least ws ts = cond (ltb q stop)
+  whenAllGo stop dt (suc k) q all least ws ts =
+      let next = endOf ws q in
+      cond (ltb q stop)
       (cond (eqb (markOf (wordAt ws q)) 0)
       (andThen (v q dt ws ts) λ s l ws ts. elim s [
-        | status.Running ↦ whenAllGo stop dt k (endOf ws q) false least ws ts
+        | status.Running ↦ whenAllGo stop dt k next false least ws ts
         | status.Failure ↦ out Failure l ws ts
-        | status.Success ↦
-            let next = endOf ws q in
-            let ws' = setMark (freshWords q (next - q) ws) q in
-            whenAllGo stop dt k (endOf ws' q) all (smaller least l) ws' (freshTimes q (next - q) ts)
+        | status.Success ↦ whenAllGo stop dt k next all (smaller least l) (setMark (freshWords q (next - q) ws) q) (freshTimes q (next - q) ts)
       ])
-      (whenAllGo stop dt k (endOf ws q) all least ws ts))
+      (whenAllGo stop dt k next all least ws ts))
       (cond all (out Success least ws ts) (waiting ws ts))
 
   unfoldable pub whenAll : Float → Visitor

@@ -95,9 +95,14 @@ met-sequence·memoryless t = sequence·memoryless-lts.spec (
     (λ c.
     let if1 = c .before .before .before .before .before in
     ((λ r e k h. e k h), if1 .if1 .left, refl))
+    -- end-of-requires-2
+    (λ c κs.
+    let loop = c .before in
+    let end-of = loop .before .before .before .before .before .before .before in
+    omega (arith, loop .loop .inv .1, end-of .end-of .ensures .1))
     -- visit-requires
     (λ c κs.
-    let loop = c .before .before in
+    let loop = c .before .before .before .before in
     let end-of = loop .before .before .before .before .before .before .before in
     let start = end-of .before .before .before in
     (omega (arith, start .pre .0), omega (arith, loop .loop .inv .1, end-of .end-of .ensures .1)))
@@ -108,14 +113,14 @@ met-sequence·memoryless t = sequence·memoryless-lts.spec (
     -- same-length
     (λ c.
     let visit = c .before .before .before .before .before in
-    let loop = visit .before .before .before in
+    let loop = visit .before .before .before .before .before in
     let fresh = loop .before .before .before in
     visit .visit .kept .1 .1 .1 .1 .0 ∙ loop .loop .inv .2 ∙ fresh .fresh .kept .1 .0)
     -- returns-2
     (λ c.
     let turned2 = c .before .before in
     let visit = turned2 .before .before .before in
-    let loop = visit .before .before .before in
+    let loop = visit .before .before .before .before .before in
     let fresh = loop .before .before .before in
     let if1 = fresh .before .before .before in
     let end-of = if1 .before in
@@ -130,7 +135,7 @@ met-sequence·memoryless t = sequence·memoryless-lts.spec (
     -- same-length-2
     (λ c.
     let visit = c .before .before .before .before .before .before in
-    let loop = visit .before .before .before in
+    let loop = visit .before .before .before .before .before in
     let fresh = loop .before .before .before in
     visit .visit .kept .1 .1 .1 .1 .0 ∙ loop .loop .inv .2 ∙ fresh .fresh .kept .1 .0)
     -- returns-3
@@ -138,7 +143,7 @@ met-sequence·memoryless t = sequence·memoryless-lts.spec (
     let enum-told2 = c .before in
     let turned2 = enum-told2 .before .before in
     let visit = turned2 .before .before .before in
-    let loop = visit .before .before .before in
+    let loop = visit .before .before .before .before .before in
     let fresh = loop .before .before .before in
     let if1 = fresh .before .before .before in
     let end-of = if1 .before in
@@ -151,14 +156,14 @@ met-sequence·memoryless t = sequence·memoryless-lts.spec (
     -- same-length-3
     (λ c.
     let visit = c .before .before .before .before .before in
-    let loop = visit .before .before .before in
+    let loop = visit .before .before .before .before .before in
     let fresh = loop .before .before .before in
     visit .visit .kept .1 .1 .1 .1 .0 ∙ loop .loop .inv .2 ∙ fresh .fresh .kept .1 .0)
     -- returns-4
     (λ c.
     let turned2 = c .before .before in
     let visit = turned2 .before .before .before in
-    let loop = visit .before .before .before in
+    let loop = visit .before .before .before .before .before in
     let fresh = loop .before .before .before in
     let if1 = fresh .before .before .before in
     let end-of = if1 .before in
@@ -168,27 +173,22 @@ met-sequence·memoryless t = sequence·memoryless-lts.spec (
     (sym (turned2 .turned2 .ensures) ∙ c .enum-told3 .given .1))
     -- enum-told-4
     (λ c. search needs)
-    -- end-of-requires-2
-    (λ c κs.
-    let loop = c .before .before .before .before .before .before .before .before .before in
-    let end-of = loop .before .before .before .before .before .before .before in
-    omega (arith, loop .loop .inv .1, end-of .end-of .ensures .1))
     -- passed-requires-2
     (λ c κs. search needs)
     -- same-length-4
     (λ c.
-    let visit = c .before .before .before .before .before .before .before .before .before .before in
-    let loop = visit .before .before .before in
+    let visit = c .before .before .before .before .before .before .before .before in
+    let loop = visit .before .before .before .before .before in
     let fresh = loop .before .before .before in
     visit .visit .kept .1 .1 .1 .1 .0 ∙ loop .loop .inv .2 ∙ fresh .fresh .kept .1 .0)
     -- returns-5
     (λ c.
     let if2 = c .before .before in
-    let end-of2 = if2 .before in
-    let enum-told4 = end-of2 .before .before in
+    let enum-told4 = if2 .before in
     let turned2 = enum-told4 .before .before in
     let visit = turned2 .before .before .before in
-    let loop = visit .before .before .before in
+    let end-of2 = visit .before .before .before in
+    let loop = end-of2 .before .before in
     let fresh = loop .before .before .before in
     let if1 = fresh .before .before .before in
     let end-of = if1 .before in
@@ -199,23 +199,23 @@ met-sequence·memoryless t = sequence·memoryless-lts.spec (
     .ensures) ∙ enum-told4 .enum-told4 .given .1))
     -- fresh-requires-2
     (λ c κs.
-    let end-of2 = c .before .before .before in
+    let end-of2 = c .before .before .before .before .before .before .before .before .before .before .before in
     end-of2 .end-of2 .ensures .1)
     -- loop-less
     (λ c.
-    let end-of2 = c .before .before .before .before .before .before in
-    let loop = end-of2 .before .before .before .before .before .before .before .before .before .before in
+    let end-of2 = c .before .before .before .before .before .before .before .before .before .before .before .before .before .before in
+    let loop = end-of2 .before .before in
     let end-of = loop .before .before .before .before .before .before .before in
     omega (arith, loop .loop .inv .1, (end-of2 .end-of2 .ensures .2 (omega (arith, loop .loop .inv .1, end-of .end-of .ensures .1)))))
     -- loop-again
     (λ c.
     let fresh2 = c .before .before in
     let if2 = fresh2 .before .before .before in
-    let end-of2 = if2 .before in
-    let enum-told4 = end-of2 .before .before in
+    let enum-told4 = if2 .before in
     let turned2 = enum-told4 .before .before in
     let visit = turned2 .before .before .before in
-    let loop = visit .before .before .before in
+    let end-of2 = visit .before .before .before in
+    let loop = end-of2 .before .before in
     let end-of = loop .before .before .before .before .before .before .before in (
       (λ r e. loop .loop .inv .0 r (λ k h. seq-law.mem-again _ _ _ _ _ _ _ _ _
           (turn-visit _ _ _ _ _ _ _ (visit .visit .ensures) (sym (turned2 .turned2 .ensures) ∙ enum-told4 .enum-told4 .given .1)) _ (end-of2 .end-of2 .ensures .0) k h

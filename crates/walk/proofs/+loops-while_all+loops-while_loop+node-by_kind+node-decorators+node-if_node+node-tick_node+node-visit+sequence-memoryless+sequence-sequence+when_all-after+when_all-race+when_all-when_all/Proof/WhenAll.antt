@@ -1,6 +1,5 @@
 -- The turns that are left lead to what the driver is to give.
-use mathlib.Core.Path.{_≡_, refl, sym, ap, _∙_}
-use mathlib.Core.Logic.{⊎-elim}
+use mathlib.Core.Path.{_≡_, refl, sym, _∙_}
 use Prim.Native.Nat.{_-_, _≤_}
 use native.Mathlib.Omega.{arith}
 use borrow.Author.Needs.{needs}
@@ -105,19 +104,26 @@ met-when-all·when-all t = when-all·when-all-lts.spec (
     turn-out _ _ _ _ _ _ _ (when-law.when-empty _ _ _ _ _ _ (end-of .end-of .ensures .0) _ (if1 .if1 .taken) _ (c .passed .ensures)) (law.turned-back _ _ _ (sym (turned .turned .ensures))))
     -- loop-holds
     (λ c. ((λ r e k h. e k h), refl))
+    -- end-of-requires-2
+    (λ c κs.
+    let loop-test = c .before in
+    let end-of = loop-test .before .before .before in
+    omega (arith, loop-test .loop-test .taken, end-of .end-of .ensures .1))
     -- mul-mark-of
     (λ c.
-    let end-of = c .before .before .before in
-    omega (arith, c .loop-test .taken, end-of .end-of .ensures .1))
+    let loop-test = c .before .before in
+    let end-of = loop-test .before .before .before in
+    omega (arith, loop-test .loop-test .taken, end-of .end-of .ensures .1))
     -- element-copy-out-mark-of
     (λ c.
-    let end-of = c .before .before .before in
-    omega (arith, c .loop-test .taken, end-of .end-of .ensures .1))
+    let loop-test = c .before .before in
+    let end-of = loop-test .before .before .before in
+    omega (arith, loop-test .loop-test .taken, end-of .end-of .ensures .1))
     -- mark-of-requires
     (λ c κs. search needs)
     -- visit-requires
     (λ c κs.
-    let loop-test = c .before .before .before .before .before in
+    let loop-test = c .before .before .before .before .before .before .before in
     let end-of = loop-test .before .before .before in
     let start = end-of .before .before .before in
     (omega (arith, start .pre .0), omega (arith, loop-test .loop-test .taken, end-of .end-of .ensures .1)))
@@ -128,7 +134,7 @@ met-when-all·when-all t = when-all·when-all-lts.spec (
     -- same-length
     (λ c.
     let visit = c .before .before .before .before .before in
-    let loop = visit .before .before .before .before .before .before .before in
+    let loop = visit .before .before .before .before .before .before .before .before .before in
     visit .visit .kept .1 .1 .1 .1 .0 ∙ loop .loop .inv .1)
     -- returns-2
     (λ c.
@@ -136,7 +142,7 @@ met-when-all·when-all t = when-all·when-all-lts.spec (
     let visit = turned2 .before .before .before in
     let if2 = visit .before .before .before in
     let mark-of = if2 .before in
-    let loop-test = mark-of .before .before in
+    let loop-test = mark-of .before .before .before .before in
     let loop = loop-test .before in
     let if1 = loop .before in
     let end-of = if1 .before in
@@ -149,7 +155,7 @@ met-when-all·when-all t = when-all·when-all-lts.spec (
     -- same-length-2
     (λ c.
     let visit = c .before .before .before .before .before in
-    let loop = visit .before .before .before .before .before .before .before in
+    let loop = visit .before .before .before .before .before .before .before .before .before in
     visit .visit .kept .1 .1 .1 .1 .0 ∙ loop .loop .inv .1)
     -- returns-3
     (λ c.
@@ -157,7 +163,7 @@ met-when-all·when-all t = when-all·when-all-lts.spec (
     let visit = turned2 .before .before .before in
     let if2 = visit .before .before .before in
     let mark-of = if2 .before in
-    let loop-test = mark-of .before .before in
+    let loop-test = mark-of .before .before .before .before in
     let loop = loop-test .before in
     let if1 = loop .before in
     let end-of = if1 .before in
@@ -169,14 +175,9 @@ met-when-all·when-all t = when-all·when-all-lts.spec (
     (λ c. search needs)
     -- enum-told-4
     (λ c. search needs)
-    -- end-of-requires-2
-    (λ c κs.
-    let loop-test = c .before .before .before .before .before .before .before .before .before .before .before .before in
-    let end-of = loop-test .before .before .before in
-    omega (arith, loop-test .loop-test .taken, end-of .end-of .ensures .1))
     -- fresh-requires
     (λ c κs.
-    let end-of2 = c .before .before in
+    let end-of2 = c .before .before .before .before .before .before .before .before .before .before .before .before .before in
     end-of2 .end-of2 .ensures .1)
     -- put-mark-requires
     (λ c κs.
@@ -185,41 +186,68 @@ met-when-all·when-all t = when-all·when-all-lts.spec (
     omega (arith, loop-test .loop-test .taken, end-of .end-of .ensures .1))
     -- smaller-requires
     (λ c κs. search needs)
-    -- end-of-requires-3
-    (λ c κs.
-    let loop-test = c .before .before .before .before in
-    let end-of = loop-test .before .before .before in
-    omega (arith, loop-test .loop-test .taken, end-of .end-of .ensures .1))
     -- loop-less
     (λ c.
-    let loop-test = c .before .before .before .before .before in
+    let end-of2 = c .before .before .before .before .before .before .before .before .before .before .before in
+    let loop-test = end-of2 .before .before in
     let end-of = loop-test .before .before .before in
-    omega (arith, loop-test .loop-test .taken, c .end-of3 .ensures .2 (omega (arith, loop-test .loop-test .taken, end-of .end-of .ensures .1))))
+    omega (arith, loop-test .loop-test .taken, end-of2 .end-of2 .ensures .2 (omega (arith, loop-test .loop-test .taken, end-of .end-of .ensures .1))))
     -- loop-again
     (λ c.
-    let if2 = c .before .before in
+    let turned2 = c .before .before in
+    let visit = turned2 .before .before .before in
+    let if2 = visit .before .before .before in
     let mark-of = if2 .before in
-    let loop-test = mark-of .before .before in
+    let end-of2 = mark-of .before .before in
+    let loop-test = end-of2 .before .before in
     let loop = loop-test .before in
     let end-of = loop .before .before in (
-      (λ r e. loop .loop .inv .0 r (λ k h. ⊎-elim
-          (λ w. when-law.when-running _ _ _ _ _ _ _ _ (loop-test .loop-test .taken) _ (mark-of .mark-of .ensures .0) (w .0 .taken) _ _ _ k h
-          (turn-visit _ _ _ _ _ _ _ (w .3 .ensures) (sym (w .6 .ensures) ∙ w .8 .given .1)) _ _ _ _ (w .9) (w .10) (w .11) (w .12) _ (c .end-of3 .ensures .0)
-          (c .end-of3 .ensures .2 (omega (arith, loop-test .loop-test .taken, end-of .end-of .ensures .1))) r e)
-          (⊎-elim
-          (λ w. when-law.when-success _ _ _ _ _ _ _ _ (loop-test .loop-test .taken) _ (mark-of .mark-of .ensures .0) (w .0 .taken) _ _ _ k h
-          (turn-visit _ _ _ _ _ _ _ (w .3 .ensures) (sym (w .6 .ensures) ∙ w .8 .given .1)) _ (w .10 .ensures .0) _ _ _ _ _ _ (w .13 .ensures .0) (w .13 .ensures .1)
-          (w .19 ∙ w .17 .ensures) (w .20) (w .21 ∙ w .18 .ensures) (w .22) _ (c .end-of3 .ensures .0)
-          (c .end-of3 .ensures .2 (omega (arith, loop-test .loop-test .taken, end-of .end-of .ensures .1))) r e)
-          (λ w. when-law.when-marked _ _ _ _ _ _ _ _ (loop-test .loop-test .taken) _ (mark-of .mark-of .ensures .0) k h (w .0 .left) _ _ _ _ (w .1) (w .2) (w .3)
-          (w .4) _ (c .end-of3 .ensures .0) (c .end-of3 .ensures .2 (omega (arith, loop-test .loop-test .taken, end-of .end-of .ensures .1))) r e))
-          (if2 .if2 .came))),
-      ⊎-elim
-          (λ w. ap length (w .10) ∙ w .3 .kept .1 .1 .1 .1 .0 ∙ loop .loop .inv .1)
-          (⊎-elim
-          (λ w. ap length (w .20) ∙ w .13 .kept .1 .0 ∙ w .3 .kept .1 .1 .1 .1 .0 ∙ loop .loop .inv .1)
-          (λ w. ap length (w .2) ∙ loop .loop .inv .1))
-          (if2 .if2 .came),
+      (λ r e. loop .loop .inv .0 r (λ k h. when-law.when-running _ _ _ _ _ _ _ _ (loop-test .loop-test .taken) _ (mark-of .mark-of .ensures .0)
+          (if2 .if2 .taken) _ _ _ k h (turn-visit _ _ _ _ _ _ _ (visit .visit .ensures) (sym (turned2 .turned2 .ensures) ∙ c .enum-told3 .given .1)) _ (end-of2 .end-of2 .ensures .0)
+          (end-of2 .end-of2 .ensures .2 (omega (arith, loop-test .loop-test .taken, end-of .end-of .ensures .1))) r e)),
+      visit .visit .kept .1 .1 .1 .1 .0 ∙ loop .loop .inv .1,
+    ))
+    -- loop-less-2
+    (λ c.
+    let end-of2 = c .before .before .before .before .before .before .before .before .before .before .before .before .before .before .before .before .before .before .before in
+    let loop-test = end-of2 .before .before in
+    let end-of = loop-test .before .before .before in
+    omega (arith, loop-test .loop-test .taken, end-of2 .end-of2 .ensures .2 (omega (arith, loop-test .loop-test .taken, end-of .end-of .ensures .1))))
+    -- loop-again-2
+    (λ c.
+    let put-mark = c .before in
+    let fresh = put-mark .before .before .before .before in
+    let enum-told4 = fresh .before .before .before in
+    let turned2 = enum-told4 .before .before in
+    let visit = turned2 .before .before .before in
+    let if2 = visit .before .before .before in
+    let mark-of = if2 .before in
+    let end-of2 = mark-of .before .before in
+    let loop-test = end-of2 .before .before in
+    let loop = loop-test .before in
+    let end-of = loop .before .before in (
+      (λ r e. loop .loop .inv .0 r (λ k h. when-law.when-success _ _ _ _ _ _ _ _ (loop-test .loop-test .taken) _ (mark-of .mark-of .ensures .0)
+          (if2 .if2 .taken) _ _ _ k h (turn-visit _ _ _ _ _ _ _ (visit .visit .ensures) (sym (turned2 .turned2 .ensures) ∙ enum-told4 .enum-told4 .given .1)) _ (end-of2 .end-of2 .ensures .0)
+          (end-of2 .end-of2 .ensures .2 (omega (arith, loop-test .loop-test .taken, end-of .end-of .ensures .1)))
+          _ _ (fresh .fresh .ensures .0) (fresh .fresh .ensures .1) _ (put-mark .put-mark .ensures) _ (c .smaller .ensures) r e)),
+      fresh .fresh .kept .1 .0 ∙ visit .visit .kept .1 .1 .1 .1 .0 ∙ loop .loop .inv .1,
+    ))
+    -- loop-less-3
+    (λ c.
+    let end-of2 = c .before .before .before in
+    let loop-test = end-of2 .before .before in
+    let end-of = loop-test .before .before .before in
+    omega (arith, loop-test .loop-test .taken, end-of2 .end-of2 .ensures .2 (omega (arith, loop-test .loop-test .taken, end-of .end-of .ensures .1))))
+    -- loop-again-3
+    (λ c.
+    let mark-of = c .before in
+    let end-of2 = mark-of .before .before in
+    let loop-test = end-of2 .before .before in
+    let loop = loop-test .before in
+    let end-of = loop .before .before in (
+      (λ r e. loop .loop .inv .0 r (λ k h. when-law.when-marked _ _ _ _ _ _ _ _ (loop-test .loop-test .taken) _ (mark-of .mark-of .ensures .0) k h (c .if2 .left) _ (end-of2 .end-of2 .ensures .0)
+          (end-of2 .end-of2 .ensures .2 (omega (arith, loop-test .loop-test .taken, end-of .end-of .ensures .1))) r e)),
+      loop .loop .inv .1,
     ))
     -- turned-requires-3
     (λ c κs. search needs)
