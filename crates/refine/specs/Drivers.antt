@@ -265,7 +265,7 @@ module _ (G : Given) (d : ℕ) (child : Ticker) (v : Visitor) (g : Ticks G d chi
   race-go-link (t ∷ ts) fr x zero f u vs e n = absurd (not-suc-le-zero n)
   race-go-link (t ∷ ts) fr x (suc k) f u vs e n = rw (lt-ltb (fr .q) (fr .stop) (ats-less G (fr .q) t ts (fr .stop) d vs))
       (sim-visit G d child v g (trees fr) fr t ts x f u _ _ vs e λ s. elim s [
-        | Running ↦ λ r t' f' u' v' e'. rw (end-at fr ts f' u' t' v', ← over-words fr t' v' ts f' u', ← over-times fr t' v' ts)
+        | Running ↦ λ r t' f' u' v' e'. rw (end-at fr ts f u t (vs .0), ← over-words fr t' v' ts f' u', ← over-times fr t' v' ts)
             (keep-link fr t' v' f f' (omega (arith, e' .burnt)) (raceFrom child (event G x) ts (worldAt G f' u')) _ (race-go-link ts (over fr t' v') x k f' u' (vs .1) (e' .few) (le-of-suc-le-suc n)))
         | Success ↦ λ r t' f' u' v' e'. went u' (still e') (v', vs .1) refl refl
         | Failure ↦ λ r t' f' u' v' e'. went u' (still e') (v', vs .1) refl refl
@@ -292,7 +292,7 @@ module _ (G : Given) (d : ℕ) (child : Ticker) (v : Visitor) (g : Ticks G d chi
   late-link (t ∷ ts) fr x least p i zero f u vs e n = absurd (not-suc-le-zero n)
   late-link (t ∷ ts) fr x least p i (suc k) f u vs e n = rw (lt-ltb (fr .q) (fr .stop) (ats-less G (fr .q) t ts (fr .stop) d vs))
       (sim-visit G d child v g (held p i fr) fr t ts x f u _ _ vs e λ s. elim s [
-        | Running ↦ λ r t' f' u' v' e'. rw (end-at fr ts f' u' t' v', ← over-words fr t' v' ts f' u', ← over-times fr t' v' ts)
+        | Running ↦ λ r t' f' u' v' e'. rw (end-at fr ts f u t (vs .0), ← over-words fr t' v' ts f' u', ← over-times fr t' v' ts)
             (sim-keep (held p i (over fr t' v')) (suc f') (held p i fr) (suc f) (afterFrom child (event G x) false zeroTime ts (worldAt G f' u')) _ (λ y. (0, t' ∷ y .1))
             (late-link ts (over fr t' v') x zeroTime p i k f' u' (vs .1) (e' .few) (le-of-suc-le-suc n))
             (omega (arith, e' .burnt))
@@ -312,13 +312,13 @@ module _ (G : Given) (d : ℕ) (child : Ticker) (v : Visitor) (g : Ticks G d chi
   after-go-link (t ∷ ts) fr x least p i zero f u vs e n = absurd (not-suc-le-zero n)
   after-go-link (t ∷ ts) fr x least p i (suc k) f u vs e n = rw (lt-ltb (fr .q) (fr .stop) (ats-less G (fr .q) t ts (fr .stop) d vs))
       (sim-visit G d child v g (kids p i fr) fr t ts x f u _ _ vs e λ s. elim s [
-        | Running ↦ λ r t' f' u' v' e'. rw (end-at fr ts f' u' t' v', ← over-words fr t' v' ts f' u', ← over-times fr t' v' ts)
+        | Running ↦ λ r t' f' u' v' e'. rw (end-at fr ts f u t (vs .0), ← over-words fr t' v' ts f' u', ← over-times fr t' v' ts)
             (sim-keep (held p i (over fr t' v')) (suc f') (kids p i fr) (suc f) (afterFrom child (event G x) false zeroTime ts (worldAt G f' u')) _ (λ y. (0, t' ∷ y .1))
             (late-link ts (over fr t' v') x zeroTime p i k f' u' (vs .1) (e' .few) (le-of-suc-le-suc n))
             (omega (arith, e' .burnt))
             λ y f'' u'' vy. (((v', vy), omega arith), rw (over-words fr t' v' (y .1) f'' u'', add-zero i), over-times fr t' v' (y .1)))
         | Failure ↦ λ r t' f' u' v' e'. went u' (still e') ((v', vs .1), omega arith) (rw (add-zero i)) refl
-        | Success ↦ λ r t' f' u' v' e'. rw (end-at fr ts f' u' t' v') (sim-either (kids p i fr) (suc f) (lt r least) _ _ _ _
+        | Success ↦ λ r t' f' u' v' e'. rw (end-at fr ts f u t (vs .0)) (sim-either (kids p i fr) (suc f) (lt r least) _ _ _ _
             (rw (← over-words fr t' v' ts f' u', ← over-times fr t' v' ts)
             (pass-link fr t' v' f f' (omega (arith, e' .burnt)) p i (afterFrom child (event G x) true r ts (worldAt G f' u')) _
             (after-go-link ts (over fr t' v') x r p (i + 1) k f' u' (vs .1) (e' .few) (le-of-suc-le-suc n))))

@@ -89,7 +89,7 @@ module _ (v : Visitor) (stop : ℕ) (dt : Float) (q : ℕ) (ws : List ℕ) (ts :
   race-over (suc k) h = rw (le-ltb q stop h)
 
   module _ (d : q < stop) (l : Float) (ws₁ : List ℕ) (ts₁ : List Float) where
-    pub race-running : (k : ℕ) → stop - q ≤ k → v q dt ws ts ≡ out Running l ws₁ ts₁ → (next : ℕ) → next ≡ endOf ws₁ q → q < next
+    pub race-running : (k : ℕ) → stop - q ≤ k → v q dt ws ts ≡ out Running l ws₁ ts₁ → (next : ℕ) → next ≡ endOf ws q → q < next
         → (o : Out) → ((j : ℕ) → stop - next ≤ j → raceGo v stop dt j next ws₁ ts₁ ≡ o) → raceGo v stop dt k q ws ts ≡ o
     unfolding raceGo
     race-running zero h e next f g o r = absurd (omega arith)
@@ -103,47 +103,45 @@ module _ (v : Visitor) (stop : ℕ) (dt : Float) (q : ℕ) (ws : List ℕ) (ts :
     race-ended (suc k) h Success n e = rw (lt-ltb q stop d, e)
     race-ended (suc k) h Failure n e = rw (lt-ltb q stop d, e)
 
-module _ (v : Visitor) (p stop : ℕ) (dt : Float) (q i : ℕ) (next : Bool) (least : Float) (ws : List ℕ) (ts : List Float) where
-  pub after-all-over : (k : ℕ) → stop ≤ q → next ≡ true → (ws₁ : List ℕ) → ws₁ ≡ setPlace ws p i → afterGo v p stop dt k q i next least ws ts ≡ out Success least ws₁ ts
+module _ (v : Visitor) (p stop : ℕ) (dt : Float) (q i : ℕ) (none : Bool) (least : Float) (ws : List ℕ) (ts : List Float) where
+  pub after-all-over : (k : ℕ) → stop ≤ q → none ≡ true → (ws₁ : List ℕ) → ws₁ ≡ setPlace ws p i → afterGo v p stop dt k q i none least ws ts ≡ out Success least ws₁ ts
   unfolding afterGo afterOver
   after-all-over zero h e ws₁ f = rw (e, f)
   after-all-over (suc k) h e ws₁ f = rw (le-ltb q stop h, e, f)
 
-  pub after-some-over : (k : ℕ) → stop ≤ q → next ≡ false → (ws₁ : List ℕ) → ws₁ ≡ setPlace ws p i
-      → afterGo v p stop dt k q i next least ws ts ≡ out Running zeroTime ws₁ ts
+  pub after-some-over : (k : ℕ) → stop ≤ q → none ≡ false → (ws₁ : List ℕ) → ws₁ ≡ setPlace ws p i
+      → afterGo v p stop dt k q i none least ws ts ≡ out Running zeroTime ws₁ ts
   unfolding afterGo afterOver
   after-some-over zero h e ws₁ f = rw (e, f)
   after-some-over (suc k) h e ws₁ f = rw (le-ltb q stop h, e, f)
 
   module _ (d : q < stop) (l : Float) (ws₁ : List ℕ) (ts₁ : List Float) where
-    pub after-stopped : (k : ℕ) → stop - q ≤ k → (s : Seen) → s ≡ Stopped → v q dt ws ts ≡ out s l ws₁ ts₁ → afterGo v p stop dt k q i next least ws ts ≡ out s l ws₁ ts₁
+    pub after-stopped : (k : ℕ) → stop - q ≤ k → (s : Seen) → s ≡ Stopped → v q dt ws ts ≡ out s l ws₁ ts₁ → afterGo v p stop dt k q i none least ws ts ≡ out s l ws₁ ts₁
     unfolding afterGo
     after-stopped zero h s n e = absurd (omega arith)
     after-stopped (suc k) h s n e = rw (lt-ltb q stop d, e, n)
 
     pub after-failed : (k : ℕ) → stop - q ≤ k → (s : Seen) → s ≡ Failure → v q dt ws ts ≡ out s l ws₁ ts₁ → (ws₂ : List ℕ) → ws₂ ≡ setPlace ws₁ p i
-        → afterGo v p stop dt k q i next least ws ts ≡ out s l ws₂ ts₁
+        → afterGo v p stop dt k q i none least ws ts ≡ out s l ws₂ ts₁
     unfolding afterGo
     after-failed zero h s n e ws₂ f = absurd (omega arith)
     after-failed (suc k) h s n e ws₂ f = rw (lt-ltb q stop d, e, n, f)
 
-    pub after-late : (k : ℕ) → stop - q ≤ k → v q dt ws ts ≡ out Success l ws₁ ts₁ → next && lt l least ≡ false → (ws₂ : List ℕ) → ws₂ ≡ setPlace ws₁ p i
-        → (r : Float) → r ≡ smaller least l → afterGo v p stop dt k q i next least ws ts ≡ out Failure r ws₂ ts₁
+    pub after-late : (k : ℕ) → stop - q ≤ k → v q dt ws ts ≡ out Success l ws₁ ts₁ → none && lt l least ≡ false → (ws₂ : List ℕ) → ws₂ ≡ setPlace ws₁ p i
+        → (r : Float) → r ≡ smaller least l → afterGo v p stop dt k q i none least ws ts ≡ out Failure r ws₂ ts₁
     unfolding afterGo
     after-late zero h e n ws₂ f r c = absurd (omega arith)
     after-late (suc k) h e n ws₂ f r c = rw (lt-ltb q stop d, e, n, f, c)
 
-    module _ (behind : ℕ) (b : behind ≡ endOf ws₁ q) (g : q < behind) (o : Out) where
-      pub after-running : (k : ℕ) → stop - q ≤ k → v q dt ws ts ≡ out Running l ws₁ ts₁ → (i₂ : ℕ) (least₂ : Float) (next₂ : Bool)
-          → i₂ ≡ i → least₂ ≡ zeroTime → next₂ ≡ false
-          → ((j : ℕ) → stop - behind ≤ j → afterGo v p stop dt j behind i₂ next₂ least₂ ws₁ ts₁ ≡ o) → afterGo v p stop dt k q i next least ws ts ≡ o
+    module _ (next : ℕ) (b : next ≡ endOf ws q) (g : q < next) (o : Out) where
+      pub after-running : (k : ℕ) → stop - q ≤ k → v q dt ws ts ≡ out Running l ws₁ ts₁
+          → ((j : ℕ) → stop - next ≤ j → afterGo v p stop dt j next i false zeroTime ws₁ ts₁ ≡ o) → afterGo v p stop dt k q i none least ws ts ≡ o
       unfolding afterGo
-      after-running zero h e i₂ least₂ next₂ x y u r = absurd (omega arith)
-      after-running (suc k) h e i₂ least₂ next₂ x y u r = rw (lt-ltb q stop d, e, ← b) (rw (x, y, u) at (r k (omega arith)))
+      after-running zero h e r = absurd (omega arith)
+      after-running (suc k) h e r = rw (lt-ltb q stop d, e, ← b) (r k (omega arith))
 
-      pub after-sooner : (k : ℕ) → stop - q ≤ k → v q dt ws ts ≡ out Success l ws₁ ts₁ → next && lt l least ≡ true
-          → (i₂ : ℕ) (least₂ : Float) (next₂ : Bool) → i₂ ≡ i + 1 → least₂ ≡ l → next₂ ≡ next
-          → ((j : ℕ) → stop - behind ≤ j → afterGo v p stop dt j behind i₂ next₂ least₂ ws₁ ts₁ ≡ o) → afterGo v p stop dt k q i next least ws ts ≡ o
+      pub after-sooner : (k : ℕ) → stop - q ≤ k → v q dt ws ts ≡ out Success l ws₁ ts₁ → none && lt l least ≡ true
+          → ((j : ℕ) → stop - next ≤ j → afterGo v p stop dt j next (i + 1) none l ws₁ ts₁ ≡ o) → afterGo v p stop dt k q i none least ws ts ≡ o
       unfolding afterGo
-      after-sooner zero h e n i₂ least₂ next₂ x y u r = absurd (omega arith)
-      after-sooner (suc k) h e n i₂ least₂ next₂ x y u r = rw (lt-ltb q stop d, e, n, ← b) (rw (x, y, u, in-turn next (lt l least) n) at (r k (omega arith)))
+      after-sooner zero h e n r = absurd (omega arith)
+      after-sooner (suc k) h e n r = rw (lt-ltb q stop d, e, n, ← b) (rw (in-turn none (lt l least) n) at (r k (omega arith)))

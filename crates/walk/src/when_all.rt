@@ -101,12 +101,13 @@ pub fn race(
     let stop = end_of(work, p);
     let mut q = p + 1;
     while q < stop {
+        let next = end_of(work, q);
         let result = visit(work, limits, statuses, leftovers, times, q, depth, dt);
         let seen = result.seen;
         let Seen::Running = seen else {
             return result;
         };
-        q = end_of(work, q);
+        q = next;
     }
     waiting()
 }
@@ -134,6 +135,7 @@ pub fn after(
     let mut least = LARGEST;
     let mut none_running = true;
     while q < stop {
+        let next = end_of(work, q);
         let result = visit(work, limits, statuses, leftovers, times, q, depth, dt);
         let seen = result.seen;
         match seen {
@@ -158,7 +160,7 @@ pub fn after(
                 least = result.left;
             }
         }
-        q = end_of(work, q);
+        q = next;
     }
     put_place(work, p, place);
     if none_running {

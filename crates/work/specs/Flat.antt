@@ -217,9 +217,11 @@ module _ (v : Visitor) where
 
   unfoldable pub raceGo : ℕ → Float → ℕ → ℕ → Step
   raceGo stop dt zero q ws ts = waiting ws ts
-  raceGo stop dt (suc k) q ws ts = cond (ltb q stop)
+  raceGo stop dt (suc k) q ws ts =
+      let next = endOf ws q in
+      cond (ltb q stop)
       (andThen (v q dt ws ts) λ s l ws ts. elim s [
-        | status.Running ↦ raceGo stop dt k (endOf ws q) ws ts
+        | status.Running ↦ raceGo stop dt k next ws ts
         | status.Success ↦ out Success l ws ts
         | status.Failure ↦ out Failure l ws ts
       ])
@@ -228,21 +230,23 @@ module _ (v : Visitor) where
   unfoldable pub race : Visitor
   race p dt ws ts = raceGo (endOf ws p) dt 256 (p + 1) ws ts
 
-  -- After: `next`: no child so far is Running
+  -- After: `none`: no child so far is Running
   unfoldable pub afterOver : ℕ → ℕ → Bool → Float → Step
-  afterOver p i next least ws ts = cond next (out Success least (setPlace ws p i) ts) (waiting (setPlace ws p i) ts)
+  afterOver p i none least ws ts = cond none (out Success least (setPlace ws p i) ts) (waiting (setPlace ws p i) ts)
 
   unfoldable pub afterGo : ℕ → ℕ → Float → ℕ → ℕ → ℕ → Bool → Float → Step
-  afterGo p stop dt zero q i next least ws ts = afterOver p i next least ws ts
-  afterGo p stop dt (suc k) q i next least ws ts = cond (ltb q stop)
+  afterGo p stop dt zero q i none least ws ts = afterOver p i none least ws ts
+  afterGo p stop dt (suc k) q i none least ws ts =
+      let next = endOf ws q in
+      cond (ltb q stop)
       (andThen (v q dt ws ts) λ s l ws ts. elim s [
-        | status.Running ↦ afterGo p stop dt k (endOf ws q) i false zeroTime ws ts
+        | status.Running ↦ afterGo p stop dt k next i false zeroTime ws ts
         | status.Failure ↦ out Failure l (setPlace ws p i) ts
-        | status.Success ↦ cond (next && lt l least)
-            (afterGo p stop dt k (endOf ws q) (i + 1) true l ws ts)
+        | status.Success ↦ cond (none && lt l least)
+            (afterGo p stop dt k next (i + 1) true l ws ts)
             (out Failure (smaller least l) (setPlace ws p i) ts)
       ])
-      (afterOver p i next least ws ts)
+      (afterOver p i none least ws ts)
 
   unfoldable pub after : Float → Visitor
   after top p dt ws ts =

@@ -1,6 +1,5 @@
 -- The turns that are left lead to what the driver is to give.
 use mathlib.Core.Path.{_≡_, refl, sym, _∙_}
-use mathlib.Core.Logic.{⊎-elim}
 use Prim.Native.Nat.{_+_, _-_, _≤_}
 use native.Mathlib.Omega.{arith}
 use borrow.Author.Needs.{needs}
@@ -104,9 +103,14 @@ met-when-all·after t = when-all·after-lts.spec (
     (λ c.
     let place-of = c .before .before in
     ((λ r e k h. e k h), omega (arith, place-of .place-of .ensures .1), refl))
+    -- end-of-requires-2
+    (λ c κs.
+    let loop-test = c .before in
+    let end-of = loop-test .before .before .before .before .before .before in
+    omega (arith, loop-test .loop-test .taken, end-of .end-of .ensures .1))
     -- visit-requires
     (λ c κs.
-    let loop-test = c .before .before in
+    let loop-test = c .before .before .before .before in
     let end-of = loop-test .before .before .before .before .before .before in
     let start = end-of .before .before .before in
     (omega (arith, start .pre .0), omega (arith, loop-test .loop-test .taken, end-of .end-of .ensures .1)))
@@ -115,12 +119,12 @@ met-when-all·after t = when-all·after-lts.spec (
     -- same-length
     (λ c.
     let visit = c .before .before .before .before in
-    let loop = visit .before .before .before .before in
+    let loop = visit .before .before .before .before .before .before in
     visit .visit .kept .1 .1 .1 .1 .0 ∙ loop .loop .inv .2)
     -- returns
     (λ c.
     let visit = c .before .before .before .before in
-    let loop-test = visit .before .before .before in
+    let loop-test = visit .before .before .before .before .before in
     let loop = loop-test .before in
     let child = loop .before in
     let place-of = child .before .before in
@@ -132,18 +136,18 @@ met-when-all·after t = when-all·after-lts.spec (
     (λ c. search needs)
     -- put-place-requires
     (λ c κs.
-    let start = c .before .before .before .before .before .before .before .before .before .before .before .before .before .before .before .before .before in
+    let start = c .before .before .before .before .before .before .before .before .before .before .before .before .before .before .before .before .before .before .before in
     start .pre .1)
     -- same-length-2
     (λ c.
     let visit = c .before .before .before .before .before .before in
-    let loop = visit .before .before .before .before in
+    let loop = visit .before .before .before .before .before .before in
     visit .visit .kept .1 .1 .1 .1 .0 ∙ loop .loop .inv .2)
     -- returns-2
     (λ c.
     let enum-told2 = c .before .before in
     let visit = enum-told2 .before .before .before .before in
-    let loop-test = visit .before .before .before in
+    let loop-test = visit .before .before .before .before .before in
     let loop = loop-test .before in
     let child = loop .before in
     let place-of = child .before .before in
@@ -159,14 +163,14 @@ met-when-all·after t = when-all·after-lts.spec (
     (λ c κs. search needs)
     -- put-place-requires-2
     (λ c κs.
-    let start = c .before .before .before .before .before .before .before .before .before .before .before .before .before .before .before .before .before .before .before in
+    let start = c .before .before .before .before .before .before .before .before .before .before .before .before .before .before .before .before .before .before .before .before .before in
     start .pre .1)
     -- smaller-requires
     (λ c κs. search needs)
     -- same-length-3
     (λ c.
     let visit = c .before .before .before .before .before .before .before .before .before in
-    let loop = visit .before .before .before .before in
+    let loop = visit .before .before .before .before .before .before in
     visit .visit .kept .1 .1 .1 .1 .0 ∙ loop .loop .inv .2)
     -- returns-3
     (λ c.
@@ -175,7 +179,7 @@ met-when-all·after t = when-all·after-lts.spec (
     let sooner = if1 .before in
     let enum-told4 = sooner .before in
     let visit = enum-told4 .before .before .before .before in
-    let loop-test = visit .before .before .before in
+    let loop-test = visit .before .before .before .before .before in
     let loop = loop-test .before in
     let child = loop .before in
     let place-of = child .before .before in
@@ -186,39 +190,48 @@ met-when-all·after t = when-all·after-lts.spec (
     (arith, end-of .end-of .ensures .1))))
     -- add-place
     (λ c.
-    let loop-test = c .before .before .before .before .before .before .before .before .before in
+    let loop-test = c .before .before .before .before .before .before .before .before .before .before .before in
     let loop = loop-test .before in
     let end-of = loop .before .before .before .before .before in
     omega (arith, loop-test .loop-test .taken, loop .loop .inv .1, end-of .end-of .ensures .1))
-    -- end-of-requires-2
-    (λ c κs.
-    let loop-test = c .before .before .before .before .before .before .before in
-    let end-of = loop-test .before .before .before .before .before .before in
-    omega (arith, loop-test .loop-test .taken, end-of .end-of .ensures .1))
     -- loop-less
     (λ c.
-    let loop-test = c .before .before .before .before .before .before .before .before in
+    let end-of2 = c .before .before .before .before .before .before .before in
+    let loop-test = end-of2 .before .before in
     let end-of = loop-test .before .before .before .before .before .before in
-    omega (arith, loop-test .loop-test .taken, c .end-of2 .ensures .2 (omega (arith, loop-test .loop-test .taken, end-of .end-of .ensures .1))))
+    omega (arith, loop-test .loop-test .taken, end-of2 .end-of2 .ensures .2 (omega (arith, loop-test .loop-test .taken, end-of .end-of .ensures .1))))
     -- loop-again
     (λ c.
-    let arms = c .before .before in
-    let visit = arms .before .before .before in
-    let loop-test = visit .before .before .before in
+    let visit = c .before .before .before .before in
+    let end-of2 = visit .before .before .before in
+    let loop-test = end-of2 .before .before in
     let loop = loop-test .before in
     let end-of = loop .before .before .before .before .before in (
-      (λ r e. loop .loop .inv .0 r (λ k h. ⊎-elim
-          (λ w. when-law.after-running _ _ _ _ _ _ _ _ _ _ (loop-test .loop-test .taken) _ _ _ _ (c .end-of2 .ensures .0)
-          (c .end-of2 .ensures .2 (omega (arith, loop-test .loop-test .taken, end-of .end-of .ensures .1))) r k h (told-as (visit .visit .ensures) (w .1 .given .1)) _
-          _ _ (w .2) (w .3) (w .4) e)
-          (λ w. when-law.after-sooner _ _ _ _ _ _ _ _ _ _ (loop-test .loop-test .taken) _ _ _ _ (c .end-of2 .ensures .0)
-          (c .end-of2 .ensures .2 (omega (arith, loop-test .loop-test .taken, end-of .end-of .ensures .1))) r k h (told-as (visit .visit .ensures) (w .1 .given .1))
-          (sym (w .2 .ensures) ∙ not-false _ (w .3 .left)) _ _ _ (w .4) (w .5) (w .6) e)
-          (arms .match .came))),
-      ⊎-elim
-          (λ w. omega (arith, w .2, loop .loop .inv .1, c .end-of2 .ensures .2 (omega (arith, loop-test .loop-test .taken, end-of .end-of .ensures .1))))
-          (λ w. omega (arith, w .4, loop .loop .inv .1, c .end-of2 .ensures .2 (omega (arith, loop-test .loop-test .taken, end-of .end-of .ensures .1))))
-          (arms .match .came),
+      (λ r e. loop .loop .inv .0 r (λ k h. when-law.after-running _ _ _ _ _ _ _ _ _ _ (loop-test .loop-test .taken) _ _ _ _ (end-of2 .end-of2 .ensures .0)
+          (end-of2 .end-of2 .ensures .2 (omega (arith, loop-test .loop-test .taken, end-of .end-of .ensures .1))) r k h
+          (told-as (visit .visit .ensures) (c .enum-told3 .given .1)) e)),
+      omega (arith, loop .loop .inv .1, end-of2 .end-of2 .ensures .2 (omega (arith, loop-test .loop-test .taken, end-of .end-of .ensures .1))),
+      visit .visit .kept .1 .1 .1 .1 .0 ∙ loop .loop .inv .2,
+    ))
+    -- loop-less-2
+    (λ c.
+    let end-of2 = c .before .before .before .before .before .before .before .before .before in
+    let loop-test = end-of2 .before .before in
+    let end-of = loop-test .before .before .before .before .before .before in
+    omega (arith, loop-test .loop-test .taken, end-of2 .end-of2 .ensures .2 (omega (arith, loop-test .loop-test .taken, end-of .end-of .ensures .1))))
+    -- loop-again-2
+    (λ c.
+    let sooner = c .before in
+    let enum-told4 = sooner .before in
+    let visit = enum-told4 .before .before .before .before in
+    let end-of2 = visit .before .before .before in
+    let loop-test = end-of2 .before .before in
+    let loop = loop-test .before in
+    let end-of = loop .before .before .before .before .before in (
+      (λ r e. loop .loop .inv .0 r (λ k h. when-law.after-sooner _ _ _ _ _ _ _ _ _ _ (loop-test .loop-test .taken) _ _ _ _ (end-of2 .end-of2 .ensures .0)
+          (end-of2 .end-of2 .ensures .2 (omega (arith, loop-test .loop-test .taken, end-of .end-of .ensures .1))) r k h
+          (told-as (visit .visit .ensures) (enum-told4 .enum-told4 .given .1)) (sym (sooner .sooner .ensures) ∙ not-false _ (c .if1 .left)) e)),
+      omega (arith, loop .loop .inv .1, end-of2 .end-of2 .ensures .2 (omega (arith, loop-test .loop-test .taken, end-of .end-of .ensures .1))),
       visit .visit .kept .1 .1 .1 .1 .0 ∙ loop .loop .inv .2,
     ))
     -- put-place-requires-3

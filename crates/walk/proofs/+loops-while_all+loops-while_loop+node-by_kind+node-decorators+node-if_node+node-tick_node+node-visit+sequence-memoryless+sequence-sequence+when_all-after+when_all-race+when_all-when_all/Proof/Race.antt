@@ -47,9 +47,14 @@ met-when-all·race t = when-all·race-lts.spec
     (λ c. omega arith)
     -- loop-holds
     (λ c. ((λ r e k h. e k h), refl))
+    -- end-of-requires-2
+    (λ c κs.
+    let loop-test = c .before in
+    let end-of = loop-test .before .before in
+    omega (arith, loop-test .loop-test .taken, end-of .end-of .ensures .1))
     -- visit-requires
     (λ c κs.
-    let loop-test = c .before .before in
+    let loop-test = c .before .before .before .before in
     let end-of = loop-test .before .before in
     let start = end-of .before .before .before in
     (omega (arith, start .pre .0), omega (arith, loop-test .loop-test .taken, end-of .end-of .ensures .1)))
@@ -58,36 +63,33 @@ met-when-all·race t = when-all·race-lts.spec
     -- same-length
     (λ c.
     let visit = c .before .before .before in
-    let loop = visit .before .before .before .before in
+    let loop = visit .before .before .before .before .before .before in
     visit .visit .kept .1 .1 .1 .1 .0 ∙ loop .loop .inv .1)
     -- returns
     (λ c.
     let visit = c .before .before .before in
-    let loop-test = visit .before .before .before in
+    let loop-test = visit .before .before .before .before .before in
     let loop = loop-test .before in
     let end-of = loop .before in
     when-law.race-start _ _ _ _ _ _ (end-of .end-of .ensures .0) _ (loop .loop .inv .0 _ (λ k h. when-law.race-ended _ _ _ _ _ _ (loop-test .loop-test .taken) _ _ _ k
     h _ (not-running-told (visit .visit .result .seen) (c .match .keys2)) (visit .visit .ensures)) 256 (omega (arith, end-of .end-of .ensures .1))))
-    -- end-of-requires-2
-    (λ c κs.
-    let loop-test = c .before .before .before .before .before .before .before .before in
-    let end-of = loop-test .before .before in
-    omega (arith, loop-test .loop-test .taken, end-of .end-of .ensures .1))
     -- loop-less
     (λ c.
-    let loop-test = c .before .before .before .before .before .before .before .before .before in
+    let end-of2 = c .before .before .before .before .before .before .before in
+    let loop-test = end-of2 .before .before in
     let end-of = loop-test .before .before in
-    omega (arith, loop-test .loop-test .taken, c .end-of2 .ensures .2 (omega (arith, loop-test .loop-test .taken, end-of .end-of .ensures .1))))
+    omega (arith, loop-test .loop-test .taken, end-of2 .end-of2 .ensures .2 (omega (arith, loop-test .loop-test .taken, end-of .end-of .ensures .1))))
     -- loop-again
     (λ c.
-    let enum-told = c .before .before in
+    let enum-told = c in
     let visit = enum-told .before .before .before .before in
-    let loop-test = visit .before .before .before in
+    let end-of2 = visit .before .before .before in
+    let loop-test = end-of2 .before .before in
     let loop = loop-test .before in
     let end-of = loop .before in (
       (λ r e. loop .loop .inv .0 r (λ k h. when-law.race-running _ _ _ _ _ _ (loop-test .loop-test .taken) _ _ _ k h
-          (told-as (visit .visit .ensures) (enum-told .enum-told .given .1)) _ (c .end-of2 .ensures .0)
-          (c .end-of2 .ensures .2 (omega (arith, loop-test .loop-test .taken, end-of .end-of .ensures .1))) r e)),
+          (told-as (visit .visit .ensures) (enum-told .enum-told .given .1)) _ (end-of2 .end-of2 .ensures .0)
+          (end-of2 .end-of2 .ensures .2 (omega (arith, loop-test .loop-test .taken, end-of .end-of .ensures .1))) r e)),
       visit .visit .kept .1 .1 .1 .1 .0 ∙ loop .loop .inv .1,
     ))
     -- waiting-requires
