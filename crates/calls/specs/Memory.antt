@@ -7,7 +7,7 @@ use native.Mathlib.Nat.{zero-add, suc-add, add-zero, add-assoc}
 use lib.ListN.{take, drop}
 use lib.Seq.{take-nil}
 use lib.Ieee.{Float}
-use Rattle.rules.specs.Tree.{Cell, cell, Tree, node, Forest, [], _∷_, size, sizes, marked}
+use Rattle.rules.specs.Tree.{Cell, Tree, node, Forest, [], _∷_, size, sizes, marked}
 use Rattle.rules.specs.Cells.{cells, withCells, withCellsAll, column, columns, timeOf, placeOf, markOf}
 use Rattle.rules.specs.Call.{Run, ontoRun}
 use Rattle.calls.specs.Shape.{Shape, shp, Shapes, shape, shapes}
@@ -34,7 +34,7 @@ mutual
 
 pub clear-marked : (t : Tree) → marked (clear t) ≡ marked t
 unfolding clear
-clear-marked (node k n l (cell x p m) b ts) = refl
+clear-marked (node k n l c b ts) = refl
 
 -- the tree that a run of cells holds for a table's tree
 abbrev pub held : Tree → Run → Tree
@@ -48,7 +48,7 @@ mutual
   unfolding cells column
 
   one-column : (t : Tree) (xs : List Float) (ps ms : List ℕ) → cells (column timeOf t xs) (column placeOf t ps) (column markOf t ms) ≡ column cellOf t (cells xs ps ms)
-  one-column (node k n l (cell x p m) b ts) xs ps ms = ap (λ (z : List Cell). List._∷_ (cell x p m) z) (one-columns ts xs ps ms)
+  one-column (node k n l c b ts) xs ps ms = ap (λ (z : List Cell). List._∷_ c z) (one-columns ts xs ps ms)
 
   one-columns : (ts : Forest) (xs : List Float) (ps ms : List ℕ) → cells (columns timeOf ts xs) (columns placeOf ts ps) (columns markOf ts ms) ≡ columns cellOf ts (cells xs ps ms)
   one-columns [] xs ps ms = refl

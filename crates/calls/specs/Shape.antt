@@ -3,7 +3,7 @@ use mathlib.Core.Path.{_≡_, refl, sym, ap, _∙_}
 use Prim.Native.Nat.{ℕ, zero, suc, _+_, max}
 use lib.Ieee.{Float}
 use Rattle.rules.specs.declared.behavior.Kind.{Kind}
-use Rattle.rules.specs.Tree.{cell, Tree, node, Forest, fresh, freshAll, size, sizes, depth, depths, mark, count, marked}
+use Rattle.rules.specs.Tree.{Tree, node, Forest, fresh, freshAll, size, sizes, depth, depths, mark, count, marked}
 use Rattle.rules.specs.Tree
 use Rattle.rules.specs.Loops.{put, freshAt}
 use mathlib.Core.Bool.{true, false}
@@ -36,7 +36,7 @@ mutual
   fresh-shapes (Tree._∷_ t ts) = λ i. fresh-shape t i ∷ fresh-shapes ts i
 
 pub mark-shape : (t : Tree) → shape (mark t) ≡ shape t
-mark-shape (node k n l (cell x p m) b ts) = refl
+mark-shape (node k n l c b ts) = refl
 
 -- the marks of a tree made fresh, and of one that has ended
 pub fresh-unmarked : (t : Tree) → marked (fresh t) ≡ false
@@ -44,7 +44,7 @@ unfolding fresh
 fresh-unmarked (node k n l c b ts) = refl
 
 pub mark-marked : (t : Tree) → marked (mark t) ≡ true
-mark-marked (node k n l (cell x p m) b ts) = refl
+mark-marked (node k n l c b ts) = refl
 
 -- ---- how many nodes, how many children, how deep
 abbrev mutual

@@ -8,14 +8,14 @@ use lib.Ieee.{Float, nan}
 use lib.ListN.{length, getD, drop}
 use Rattle.rules.specs.declared.behavior.Kind.{Kind}
 use Rattle.rules.specs.Kinds.{kindOf}
-use Rattle.rules.specs.Tree.{Cell, cell, Tree, node, Forest, [], _∷_, size, depth, depths}
-use Rattle.rules.specs.Cells.{cells, withCells, withCellsAll}
+use Rattle.rules.specs.Tree.{Cell, Tree, node, Forest, [], _∷_, size, depth, depths}
+use Rattle.rules.specs.Cells.{cellOf, cells, withCells, withCellsAll}
 use Rattle.tables.specs.At.{At, Ats}
 use Rattle.tables.proofs.Placed.{ats-end}
 
 -- ---- the cells
 abbrev pub cellAt : List Float → List ℕ → List ℕ → ℕ → Cell
-cellAt times places marks i = cell (getD times i nan) (getD places i 0) (getD marks i 0)
+cellAt times places marks i = cellOf (getD times i nan) (getD places i 0) (getD marks i 0)
 
 pub length-cells : (xs : List Float) (ps ms : List ℕ) → length (cells xs ps ms) ≡ min (length xs) (min (length ps) (length ms))
 unfolding cells

@@ -13,7 +13,7 @@ use lib.ListN.{length, getD, set}
 use lib.Seq.{getD-set-same, getD-set-other}
 use Rattle.rules.specs.declared.behavior.Kind.{Kind}
 use Rattle.rules.specs.Kinds.{kindOf, marksChildren}
-use Rattle.rules.specs.Tree.{Cell, cell, Tree, node, Forest, [], _∷_}
+use Rattle.rules.specs.Tree.{Cell, Tree, node, Forest, [], _∷_}
 use Rattle.rules.specs.Table.{zeroBits}
 use Rattle.rules.specs.Cells.{cellAllowed, endedIn, Found, faulty, none, badCell, badCells}
 use Rattle.tables.proofs.Placed.{Alike}
@@ -298,8 +298,8 @@ module _ (kinds ns ends : List ℕ) (times : List Float) (places marks : List �
   -- below an ended child no cell has a mark
   unmarked : (e m : Bool) (k : Kind) (n' : ℕ) (c : Cell) → cellAllowed e m k n' c ≡ true → e ≡ true → endedIn c ≡ false
   unfolding cellAllowed
-  unmarked true m k n' (cell x p y) h t = rw (eqb-true y 0 (both-true (zeroBits x && eqb p 0) (eqb y 0) h))
-  unmarked false m k n' (cell x p y) h t = absurd (clash (sym t))
+  unmarked true m k n' c h t = rw (eqb-true (c .mark) 0 (both-true (zeroBits (c .time) && eqb (c .place) 0) (eqb (c .mark) 0) h))
+  unmarked false m k n' c h t = absurd (clash (sym t))
 
   -- ---- a turn
   module _ (stops : List ℕ) (may : List Bool) (open' until at : ℕ) (answer : Found) (r : Ready stops may open' until at answer) where

@@ -6,9 +6,8 @@ ghost use mathlib.Core.Path.{_≡_};
 ghost use mathlib.Core.Bool.{cond, _&&_};
 ghost use lib.Dec.{leb, eqb};
 ghost use Rattle.rules.specs.Kinds.{timed};
-ghost use Rattle.rules.specs.Tree.{cell};
 ghost use Rattle.rules.specs.Table.{zeroBits};
-ghost use Rattle.rules.specs.Cells.{elapsed, lastPlace, cellAllowed};
+ghost use Rattle.rules.specs.Cells.{cellOf, elapsed, lastPlace, cellAllowed};
 
 // No time and no place, as in a fresh cell.
 fn at_start(time: f64, place: u16) -> bool
@@ -51,7 +50,7 @@ pub fn cell_allowed(
     place: u16,
     mark: u8,
 ) -> bool
-    ensures { λ r. ⌜ r ≡ cellAllowed ended «may_end» kind n (cell time place mark) ⌝ }
+    ensures { λ r. ⌜ r ≡ cellAllowed ended «may_end» kind n (cellOf time place mark) ⌝ }
 {
     if ended {
         if !at_start(time, place) {

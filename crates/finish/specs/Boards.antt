@@ -6,10 +6,10 @@ use Prim.Native.Nat.{ℕ, zero, suc}
 use lib.Ieee.{Format}
 use Rattle.rules.specs.declared.behavior.Kind.the-variants.{Wait, WaitForever, Action, Invert, AlwaysSucceed, Timeout, Select, If, Sequence}
 use Rattle.rules.specs.declared.behavior.Kind.the-variants.{MemorylessSequence, MemorylessSelector, While, WhileAll, WhenAll, WhenAny, After, Race}
-use Rattle.rules.specs.Tree.{cell, Tree, node, Forest, [], _∷_, marked}
+use Rattle.rules.specs.Tree.{Tree, node, Forest, [], _∷_, marked}
 use Rattle.calls.specs.Memory.{clear, clearAll, clears-shape, clear-marked}
 use Rattle.finish.specs.Enough.{unless, Still, StillFirst, StillSum, StillAt, StillIf, StillUnmarked, StillAll, StillFrom, StillMin, StillLoop}
-use Rattle.finish.specs.Valid.{someOpen, openOrNone, Valid, ValidAt, ValidLoop, ValidAll, ValidFrom, ValidMarks}
+use Rattle.finish.specs.Valid.{inBody, someOpen, openOrNone, Valid, ValidAt, ValidLoop, ValidAll, ValidFrom, ValidMarks}
 
 unless-clear : (t : Tree) (X Y : Type 0) → (X → Y) → unless (marked t) X → unless (marked (clear t)) Y
 unless-clear t X Y f x = rw (clear-marked t) (on (marked t) x)
@@ -33,23 +33,22 @@ module _ (F : Format) where
     unfolding clear
 
     pub valid-clear : (t : Tree) → Valid F t → Valid F (clear t)
-    valid-clear (node Wait n l (cell x p m) b ts) v = v
+    valid-clear (node Wait n l c b ts) v = v
     valid-clear (node WaitForever n l c b ts) v = tt
     valid-clear (node Action n l c b ts) v = tt
     valid-clear (node Invert n l c b ts) v = at-clear ts 0 v
     valid-clear (node AlwaysSucceed n l c b ts) v = at-clear ts 0 v
-    valid-clear (node Timeout n l (cell x p m) b ts) v = (v .0, v .1, at-clear ts 0 (v .2))
-    valid-clear (node Select n l (cell x p m) b ts) v = at-clear ts p v
-    valid-clear (node If n l (cell x p m) b ts) v = at-clear ts p v
-    valid-clear (node Sequence n l (cell x p m) b ts) v = at-clear ts p v
+    valid-clear (node Timeout n l c b ts) v = (v .0, v .1, at-clear ts 0 (v .2))
+    valid-clear (node Select n l c b ts) v = at-clear ts (c .place) v
+    valid-clear (node If n l c b ts) v = at-clear ts (c .place) v
+    valid-clear (node Sequence n l c b ts) v = at-clear ts (c .place) v
     valid-clear (node MemorylessSequence n l c b ts) v = tt
     valid-clear (node MemorylessSelector n l c b ts) v = tt
-    valid-clear (node While n l (cell x p m) b ts) v = loop-clear ts p v
-    valid-clear (node WhileAll n l (cell x zero m) b ts) v = loop-clear ts 0 v
-    valid-clear (node WhileAll n l (cell x (suc p) m) b ts) v = loop-clear ts p v
+    valid-clear (node While n l c b ts) v = loop-clear ts (c .place) v
+    valid-clear (node WhileAll n l c b ts) v = loop-clear ts (inBody (c .place)) v
     valid-clear (node WhenAll n l c b ts) v = (marks-clear ts (v .0), rw (clear-none ts) (v .1))
     valid-clear (node WhenAny n l c b ts) v = (marks-clear ts (v .0), rw (clear-none ts) (v .1))
-    valid-clear (node After n l (cell x p m) b ts) v = from-clear ts p v
+    valid-clear (node After n l c b ts) v = from-clear ts (c .place) v
     valid-clear (node Race n l c b ts) v = all-clear ts v
 
     at-clear : (ts : Forest) (p : ℕ) → ValidAt F ts p → ValidAt F (clearAll ts) p
@@ -79,22 +78,22 @@ module _ (d : ℕ) where
     unfolding clear
 
     pub still-clear : (t : Tree) (k : ℕ) → Still d t k → Still d (clear t) k
-    still-clear (node Wait n l (cell x p m) b ts) k v = v
+    still-clear (node Wait n l c b ts) k v = v
     still-clear (node WaitForever n l c b ts) k v = v
     still-clear (node Action n l c b ts) k v = v
     still-clear (node Invert n l c b ts) k v = first-still ts k v
     still-clear (node AlwaysSucceed n l c b ts) k v = first-still ts k v
-    still-clear (node Timeout n l (cell x p m) b ts) k v = elim v [ inl a ↦ inl a | inr a ↦ inr (first-still ts k a) ]
-    still-clear (node Select n l (cell x p m) b ts) k v = sum-still ts p k v
-    still-clear (node If n l (cell x p m) b ts) k v = if-still ts p k v
-    still-clear (node Sequence n l (cell x p m) b ts) k v = sum-still ts p k v
+    still-clear (node Timeout n l c b ts) k v = elim v [ inl a ↦ inl a | inr a ↦ inr (first-still ts k a) ]
+    still-clear (node Select n l c b ts) k v = sum-still ts (c .place) k v
+    still-clear (node If n l c b ts) k v = if-still ts (c .place) k v
+    still-clear (node Sequence n l c b ts) k v = sum-still ts (c .place) k v
     still-clear (node MemorylessSequence n l c b ts) k v = rw (clears-shape ts) v
     still-clear (node MemorylessSelector n l c b ts) k v = rw (clears-shape ts) v
     still-clear (node While n l c b ts) k v = first-still ts k v
-    still-clear (node WhileAll n l (cell x p m) b ts) k v = loop-still ts p k v
+    still-clear (node WhileAll n l c b ts) k v = loop-still ts (c .place) k v
     still-clear (node WhenAll n l c b ts) k v = unmarked-still ts k v
     still-clear (node WhenAny n l c b ts) k v = unmarked-still ts k v
-    still-clear (node After n l (cell x p m) b ts) k v = from-still ts p k v
+    still-clear (node After n l c b ts) k v = from-still ts (c .place) k v
     still-clear (node Race n l c b ts) k v = min-still ts k v
 
     first-still : (ts : Forest) (k : ℕ) → StillFirst d ts k → StillFirst d (clearAll ts) k

@@ -5,7 +5,7 @@ use mathlib.Core.Logic.{_⊎_}
 use Prim.Native.Nat.{ℕ, zero, suc, _+_, _*_, _≤_}
 use Rattle.rules.specs.declared.behavior.Kind.the-variants.{Wait, WaitForever, Action, Invert, AlwaysSucceed, Timeout, Select, If, Sequence}
 use Rattle.rules.specs.declared.behavior.Kind.the-variants.{MemorylessSequence, MemorylessSelector, While, WhileAll, WhenAll, WhenAny, After, Race}
-use Rattle.rules.specs.Tree.{cell, Tree, node, Forest, marked}
+use Rattle.rules.specs.Tree.{Tree, node, Forest, marked}
 use Rattle.rules.specs.Tree
 use Rattle.rules.specs.Bound.{num}
 use Rattle.calls.specs.Shape.{Shape, shp, Shapes, [], _∷_, shapes}
@@ -66,22 +66,22 @@ module _ (d : ℕ) where
   -- the live tree
   abbrev mutual
     pub Still : Tree → ℕ → Type 0
-    Still (node Wait n l (cell x p m) b ts) k = (1 ≤ k) × (num l ≤ num x + k * d)
+    Still (node Wait n l c b ts) k = (1 ≤ k) × (num l ≤ num (c .time) + k * d)
     Still (node WaitForever n l c b ts) k = ⊥
     Still (node Action n l c b ts) k = ⊥
     Still (node Invert n l c b ts) k = StillFirst ts k
     Still (node AlwaysSucceed n l c b ts) k = StillFirst ts k
-    Still (node Timeout n l (cell x p m) b ts) k = ((1 ≤ k) × (num l ≤ num x + k * d)) ⊎ StillFirst ts k
-    Still (node Select n l (cell x p m) b ts) k = StillSum ts p k
-    Still (node If n l (cell x p m) b ts) k = StillIf ts p k
-    Still (node Sequence n l (cell x p m) b ts) k = StillSum ts p k
+    Still (node Timeout n l c b ts) k = ((1 ≤ k) × (num l ≤ num (c .time) + k * d)) ⊎ StillFirst ts k
+    Still (node Select n l c b ts) k = StillSum ts (c .place) k
+    Still (node If n l c b ts) k = StillIf ts (c .place) k
+    Still (node Sequence n l c b ts) k = StillSum ts (c .place) k
     Still (node MemorylessSequence n l c b ts) k = EnoughEmpty (shapes ts) k
     Still (node MemorylessSelector n l c b ts) k = EnoughEmpty (shapes ts) k
     Still (node While n l c b ts) k = StillFirst ts k
-    Still (node WhileAll n l (cell x p m) b ts) k = StillLoop ts p k
+    Still (node WhileAll n l c b ts) k = StillLoop ts (c .place) k
     Still (node WhenAll n l c b ts) k = StillUnmarked ts k
     Still (node WhenAny n l c b ts) k = StillUnmarked ts k
-    Still (node After n l (cell x p m) b ts) k = StillFrom ts p k
+    Still (node After n l c b ts) k = StillFrom ts (c .place) k
     Still (node Race n l c b ts) k = StillMin ts k
 
     pub StillFirst : Forest → ℕ → Type 0

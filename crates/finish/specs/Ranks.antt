@@ -8,11 +8,11 @@ use native.Mathlib.Omega.{arith}
 use lib.Ieee.{Format}
 use Rattle.rules.specs.declared.behavior.Kind.the-variants.{Wait, WaitForever, Action, Invert, AlwaysSucceed, Timeout, Select, If, Sequence}
 use Rattle.rules.specs.declared.behavior.Kind.the-variants.{MemorylessSequence, MemorylessSelector, While, WhileAll, WhenAll, WhenAny, After, Race}
-use Rattle.rules.specs.Tree.{cell, Tree, node, Forest, [], _∷_, marked}
+use Rattle.rules.specs.Tree.{Tree, node, Forest, [], _∷_, marked}
 use Rattle.calls.specs.Shape.{shape, shapes}
 use Rattle.finish.specs.Enough.{unless, Enough, EnoughFirst, EnoughSum, EnoughMax, EnoughMin, EnoughIf, EnoughLoop, Still}
 use Rattle.finish.specs.Enough.{StillFirst, StillSum, StillAt, StillIf, StillUnmarked, StillAll, StillFrom, StillMin, StillLoop}
-use Rattle.finish.specs.Valid.{Valid, ValidAt, ValidLoop, ValidAll, ValidFrom, ValidMarks}
+use Rattle.finish.specs.Valid.{inBody, Valid, ValidAt, ValidLoop, ValidAll, ValidFrom, ValidMarks}
 
 module _ (F : Format) (d : ℕ) where
   mul-zero : (a b : ℕ) → a * b ≤ 0 → 1 ≤ b → a ≡ 0
@@ -24,24 +24,24 @@ module _ (F : Format) (d : ℕ) where
 
   mutual
     pub still-pos : (t : Tree) → Still d t 0 → ⊥
-    still-pos (node Wait n l (cell x p m) b ts) h = not-suc-le-zero (h .0)
+    still-pos (node Wait n l c b ts) h = not-suc-le-zero (h .0)
     still-pos (node WaitForever n l c b ts) h = h
     still-pos (node Action n l c b ts) h = h
     still-pos (node Invert n l c b ts) h = first-pos ts h
     still-pos (node AlwaysSucceed n l c b ts) h = first-pos ts h
-    still-pos (node Timeout n l (cell x p m) b ts) h = elim h [ inl g ↦ not-suc-le-zero (g .0) | inr g ↦ first-pos ts g ]
-    still-pos (node Select n l (cell x p m) b ts) h = stillsum-pos ts p h
-    still-pos (node If n l (cell x p m) b ts) h = if-pos ts p h
-    still-pos (node Sequence n l (cell x p m) b ts) h = stillsum-pos ts p h
+    still-pos (node Timeout n l c b ts) h = elim h [ inl g ↦ not-suc-le-zero (g .0) | inr g ↦ first-pos ts g ]
+    still-pos (node Select n l c b ts) h = stillsum-pos ts (c .place) h
+    still-pos (node If n l c b ts) h = if-pos ts (c .place) h
+    still-pos (node Sequence n l c b ts) h = stillsum-pos ts (c .place) h
     still-pos (node MemorylessSequence n l c b []) h = not-suc-le-zero h
     still-pos (node MemorylessSequence n l c b (t ∷ ts)) h = h
     still-pos (node MemorylessSelector n l c b []) h = not-suc-le-zero h
     still-pos (node MemorylessSelector n l c b (t ∷ ts)) h = h
     still-pos (node While n l c b ts) h = first-pos ts h
-    still-pos (node WhileAll n l (cell x p m) b ts) h = loop-pos ts p h
+    still-pos (node WhileAll n l c b ts) h = loop-pos ts (c .place) h
     still-pos (node WhenAll n l c b ts) h = unmarked-pos ts h
     still-pos (node WhenAny n l c b ts) h = unmarked-pos ts h
-    still-pos (node After n l (cell x p m) b ts) h = from-pos ts p h
+    still-pos (node After n l c b ts) h = from-pos ts (c .place) h
     still-pos (node Race n l c b ts) h = min-pos ts h
 
     first-pos : (ts : Forest) → StillFirst d ts 0 → ⊥
@@ -97,23 +97,22 @@ module _ (F : Format) (d : ℕ) where
 
   mutual
     pub valid-still : (t : Tree) (k : ℕ) → Valid F t → Enough d (shape t) k → Still d t k
-    valid-still (node Wait n l (cell x p m) b ts) k v h = (h .0, omega arith)
+    valid-still (node Wait n l c b ts) k v h = (h .0, omega arith)
     valid-still (node WaitForever n l c b ts) k v h = h
     valid-still (node Action n l c b ts) k v h = h
     valid-still (node Invert n l c b ts) k v h = valid-first ts k v h
     valid-still (node AlwaysSucceed n l c b ts) k v h = valid-first ts k v h
-    valid-still (node Timeout n l (cell x p m) b ts) k v h = elim h [ inl g ↦ inl (g .0, omega arith) | inr g ↦ inr (valid-first ts k (v .2) g) ]
-    valid-still (node Select n l (cell x p m) b ts) k v h = valid-sum ts p k v h
-    valid-still (node If n l (cell x p m) b ts) k v h = valid-if ts p k v h
-    valid-still (node Sequence n l (cell x p m) b ts) k v h = valid-sum ts p k v h
+    valid-still (node Timeout n l c b ts) k v h = elim h [ inl g ↦ inl (g .0, omega arith) | inr g ↦ inr (valid-first ts k (v .2) g) ]
+    valid-still (node Select n l c b ts) k v h = valid-sum ts (c .place) k v h
+    valid-still (node If n l c b ts) k v h = valid-if ts (c .place) k v h
+    valid-still (node Sequence n l c b ts) k v h = valid-sum ts (c .place) k v h
     valid-still (node MemorylessSequence n l c b ts) k v h = h
     valid-still (node MemorylessSelector n l c b ts) k v h = h
-    valid-still (node While n l (cell x p m) b ts) k v h = valid-cond ts p k v h
-    valid-still (node WhileAll n l (cell x zero m) b ts) k v h = valid-due ts k v h
-    valid-still (node WhileAll n l (cell x (suc p) m) b ts) k v h = valid-body ts p k v h
+    valid-still (node While n l c b ts) k v h = valid-cond ts (c .place) k v h
+    valid-still (node WhileAll n l c b ts) k v h = valid-while-all ts (c .place) k v h
     valid-still (node WhenAll n l c b ts) k v h = valid-unmarked ts k (v .0) h
     valid-still (node WhenAny n l c b ts) k v h = valid-unmarked ts k (v .0) h
-    valid-still (node After n l (cell x p m) b ts) k v h = valid-from ts p k v h
+    valid-still (node After n l c b ts) k v h = valid-from ts (c .place) k v h
     valid-still (node Race n l c b ts) k v h = valid-min ts k v h
 
     pub valid-first : (ts : Forest) (k : ℕ) → ValidAt F ts 0 → EnoughFirst d (shapes ts) k → StillFirst d ts k
@@ -156,13 +155,10 @@ module _ (F : Format) (d : ℕ) where
     valid-min [] k v h = h
     valid-min (t ∷ ts) k v h = elim h [ inl g ↦ inl (valid-still t k (v .0) g) | inr g ↦ inr (valid-min ts k (v .1) g) ]
 
-    valid-due : (ts : Forest) (k : ℕ) → ValidLoop F ts 0 → EnoughLoop d (shapes ts) k → StillLoop d ts 0 k
-    valid-due [] k v h = h
-    valid-due (t ∷ ts) k v h = (h .0, h .1, h .2, h .3, valid-still t (h .0) (v .0) (h .4), h .5)
-
-    valid-body : (ts : Forest) (p k : ℕ) → ValidLoop F ts p → EnoughLoop d (shapes ts) k → StillLoop d ts (suc p) k
-    valid-body [] p k v h = h
-    valid-body (t ∷ ts) p k v h =
+    valid-while-all : (ts : Forest) (p k : ℕ) → ValidLoop F ts (inBody p) → EnoughLoop d (shapes ts) k → StillLoop d ts p k
+    valid-while-all [] p k v h = h
+    valid-while-all (t ∷ ts) zero k v h = (h .0, h .1, h .2, h .3, valid-still t (h .0) (v .0) (h .4), h .5)
+    valid-while-all (t ∷ ts) (suc p) k v h =
         pick (h .0) (h .1) (h .2) (valid-still t (h .0) (v .0) (h .4)) (h .3) (h .5) (valid-sum ts p (h .1) (v .1) (h .5))
       where
         pick : (a b : ℕ) → a * b ≤ k → Still d t a → 1 ≤ b → EnoughSum d (shapes ts) b → StillSum d ts p b → StillLoop d (t ∷ ts) (suc p) k

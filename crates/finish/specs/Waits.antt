@@ -10,7 +10,7 @@ use Rattle.rules.specs.declared.status.Status.{Status}
 use Rattle.rules.specs.declared.status.Status.the-variants.{Running, Success, Failure}
 use Rattle.rules.specs.declared.event.Event.{Event}
 use Rattle.rules.specs.declared.event.Event.the-variants.{Update, Other}
-use Rattle.rules.specs.Tree.{cell, Tree, Forest, _∷_}
+use Rattle.rules.specs.Tree.{Cell, withTime, Tree, Forest, _∷_}
 use Rattle.rules.specs.Outcome.{World, Out, done, Ticker, waiting}
 use Rattle.rules.specs.State.{rule}
 use Rattle.rules.specs.Bound.{num}
@@ -35,31 +35,31 @@ module _ (F : Format) (d : ℕ) where
   time-post R x y l ends waits false (passing h w e) f k = k h w e
 
   module _ (child : Ticker) (g : Good F d child) where
-    pub wait-good : (n : ℕ) (l x : Float) (p : ℕ) (m : ℕ) (b : ℕ) (ts : Forest) (e : Event) (w : World) → W F l → W F x → num x ≤ num l → WEvent F e → WWorld F w
-        → Post F (NodeQ F d Wait n l (cell x p m) b ts e) (rule F child Wait n l (cell x p m) e ts w)
+    pub wait-good : (n : ℕ) (l : Float) (c : Cell) (b : ℕ) (ts : Forest) (e : Event) (w : World) → W F l → W F (c .time) → num (c .time) ≤ num l → WEvent F e → WWorld F w
+        → Post F (NodeQ F d Wait n l c b ts e) (rule F child Wait n l c e ts w)
     unfolding rule
-    wait-good n l x p m b ts (Update y) w wl wx h ev wv =
-        time-post (NodeQ F d Wait n l (cell x p m) b ts (Update y)) x y l (λ r. done Success r (cell l p m, ts) w) (λ x'. waiting (cell x' p m, ts) w) (le l (add F x y)) (passed F x y l wx ev wl h)
+    wait-good n l c b ts (Update y) w wl wx h ev wv =
+        time-post (NodeQ F d Wait n l c b ts (Update y)) (c .time) y l (λ r. done Success r (withTime l c, ts) w) (λ x'. waiting (withTime x' c, ts) w) (le l (add F (c .time) y)) (passed F (c .time) y l wx ev wl h)
         (λ wr. (wv, wr))
-        (λ under w' e. (wv, ((w', omega arith), λ full j z. wait-down (num x) (num y) (num l) (num (add F x y)) j under e full (z .1))))
-    wait-good n l x p m b ts Other w wl wx h ev wv = absurd ev
+        (λ under w' e. (wv, ((w', omega arith), λ full j z. wait-down (num (c .time)) (num y) (num l) (num (add F (c .time) y)) j under e full (z .1))))
+    wait-good n l c b ts Other w wl wx h ev wv = absurd ev
 
-    pub timeout-good : (n : ℕ) (l x : Float) (p : ℕ) (m : ℕ) (b : ℕ) (t : Tree) (ts : Forest) (e : Event) (w : World) → W F l → W F x → num x ≤ num l → Shaped F (shape t) → Valid F t → WEvent F e
+    pub timeout-good : (n : ℕ) (l : Float) (c : Cell) (b : ℕ) (t : Tree) (ts : Forest) (e : Event) (w : World) → W F l → W F (c .time) → num (c .time) ≤ num l → Shaped F (shape t) → Valid F t → WEvent F e
         → WWorld F w
-        → Post F (NodeQ F d Timeout n l (cell x p m) b (t ∷ ts) e) (rule F child Timeout n l (cell x p m) e (t ∷ ts) w)
+        → Post F (NodeQ F d Timeout n l c b (t ∷ ts) e) (rule F child Timeout n l c e (t ∷ ts) w)
     unfolding rule
-    timeout-good n l x p m b t ts Other w wl wx h s v ev wv = absurd ev
-    timeout-good n l x p m b t ts (Update y) w wl wx h s v ev wv =
-        bind F (TickQ F d (Update y) t) (NodeQ F d Timeout n l (cell x p m) b (t ∷ ts) (Update y)) (child t (Update y) w) _ (g t (Update y) w s v ev wv) λ s'. elim s' [
-          | Running ↦ λ r t' w' wv' q. time-post (NodeQ F d Timeout n l (cell x p m) b (t ∷ ts) (Update y)) x y l (λ r'. done Failure r' (cell (add F x y) p m, t' ∷ ts) w')
-              (λ x'. waiting (cell x' p m, t' ∷ ts) w') (le l (add F x y)) (passed F x y l wx ev wl h)
+    timeout-good n l c b t ts Other w wl wx h s v ev wv = absurd ev
+    timeout-good n l c b t ts (Update y) w wl wx h s v ev wv =
+        bind F (TickQ F d (Update y) t) (NodeQ F d Timeout n l c b (t ∷ ts) (Update y)) (child t (Update y) w) _ (g t (Update y) w s v ev wv) λ s'. elim s' [
+          | Running ↦ λ r t' w' wv' q. time-post (NodeQ F d Timeout n l c b (t ∷ ts) (Update y)) (c .time) y l (λ r'. done Failure r' (withTime (add F (c .time) y) c, t' ∷ ts) w')
+              (λ x'. waiting (withTime x' c, t' ∷ ts) w') (le l (add F (c .time) y)) (passed F (c .time) y l wx ev wl h)
               (λ wr. (wv', wr))
               (λ under wx' e. (
                 wv',
                 (
                   (wx', omega arith, q .1 .0),
                   λ full j z. elim z [
-                    | inl a ↦ inl (wait-down (num x) (num y) (num l) (num (add F x y)) j under e full (a .1))
+                    | inl a ↦ inl (wait-down (num (c .time)) (num y) (num l) (num (add F (c .time) y)) j under e full (a .1))
                     | inr a ↦ inr (q .1 .1 full j a)
                   ],
                 ),

@@ -18,7 +18,7 @@ use Rattle.calls.specs.Shape.{Shape, Shapes, shape, shapes, moved-shapes}
 use Rattle.finish.specs.Shaped.{Shaped, Shapeds}
 use Rattle.calls.specs.Shape
 use Rattle.finish.specs.Enough.{EnoughSum, Still, StillSum, StillLoop}
-use Rattle.finish.specs.Valid.{Valid, ValidAt, ValidLoop}
+use Rattle.finish.specs.Valid.{inBody, Valid, ValidAt, ValidLoop}
 use Rattle.finish.specs.Ranks.{still-pos, valid-sum}
 use Rattle.finish.specs.Post.{WWorld, bind, Claim, Q, Holds, claim-weak, ticking, TickQ, Good}
 use Rattle.finish.specs.Places.{Within, within-valid, moved-valid, next-in, PutQ, child-at}
@@ -55,10 +55,6 @@ module _ (F : Format) (d : ℕ) where
       pick (suc a) b x y z = (b, omega arith, z)
   still-next (t ∷ ts) (suc p) k h = still-next ts p k h
 
-  abbrev pub LoopK : Forest → ℕ → Type 0
-  LoopK ts zero = ValidLoop F ts 0
-  LoopK ts (suc p) = ValidLoop F ts p
-
   -- what is known at a turn of the loop in a full tick, for the event e that the body gets
   abbrev pub Turn : Event → Tree → Forest → ℕ → ℕ → Type 0
   Turn e c ts zero j = (a : ℕ) × (b : ℕ) × (a * b ≤ j) × (1 ≤ b) × Still d c (suc a) × EnoughSum d (shapes ts) b
@@ -67,7 +63,7 @@ module _ (F : Format) (d : ℕ) where
 
   abbrev pub LoopC : Event → Event → Tree → Forest → ℕ → Claim (ℕ × Forest)
   LoopC whole e c ts p = record {
-    valid = λ x. LoopK (x .1) (x .0);
+    valid = λ x. ValidLoop F (x .1) (inBody (x .0));
     down = λ x. d ≤ num (dt whole) → (j : ℕ) → Turn e c ts p j → StillLoop d (x .1) (x .0) j;
   }
 
@@ -111,7 +107,7 @@ module _ (F : Format) (d : ℕ) where
 
     loop-next : (budget : ℕ) (y z r : Float) (c t' : Tree) (ts : Forest) (p : ℕ) (w : World) → Shapeds F (shapes ts) → Valid F c → Within F d ts p → shapes (put p t' ts) ≡ shapes ts
         → (b : Bool) → ltb (suc p) (count ts) ≡ b
-        → ((i : ℕ) (us : Forest) → Shapeds F (shapes us) → LoopK (c ∷ us) i → Holds F (LoopC (Update y) (Update r) c us i) (whileAll child budget (Update y) i (Update r) c us w))
+        → ((i : ℕ) (us : Forest) → Shapeds F (shapes us) → ValidLoop F (c ∷ us) (inBody i) → Holds F (LoopC (Update y) (Update r) c us i) (whileAll child budget (Update y) i (Update r) c us w))
         → Holds F (LoopC (Update y) (Update z) c ts (suc p)) (whileAll child budget (Update y) (cond b (suc (suc p)) 0) (Update r) c (freshAt (cond b (suc p) 0) (freshAt p (put p t' ts))) w)
     loop-next budget y z r c t' ts p w ss v inside sh true e rec =
         let us : Forest = freshAt (suc p) (freshAt p (put p t' ts)) in
@@ -130,7 +126,7 @@ module _ (F : Format) (d : ℕ) where
         (whileAll child budget (Update y) 0 (Update r) c us w)
         (rec 0 us (rw ush ss) (v, moved-valid F d ts p 0 t' ss sh n))
 
-    pub loop-good : (budget : ℕ) (y z : Float) (c : Tree) (ts : Forest) (p : ℕ) (w : World) → Shaped F (shape c) → Shapeds F (shapes ts) → LoopK (c ∷ ts) p → W F y → W F z → WWorld F w
+    pub loop-good : (budget : ℕ) (y z : Float) (c : Tree) (ts : Forest) (p : ℕ) (w : World) → Shaped F (shape c) → Shapeds F (shapes ts) → ValidLoop F (c ∷ ts) (inBody p) → W F y → W F z → WWorld F w
         → Holds F (LoopC (Update y) (Update z) c ts p) (whileAll child budget (Update y) p (Update z) c ts w)
     unfolding whileAll
     loop-good zero y z c ts p w s ss v ey ez wv = tt

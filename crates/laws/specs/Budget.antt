@@ -11,7 +11,7 @@ use Rattle.rules.specs.declared.status.Status.{Status}
 use Rattle.rules.specs.declared.status.Status.the-variants.{Running, Success, Failure}
 use Rattle.rules.specs.declared.event.Event.{Event}
 use Rattle.rules.specs.declared.event.Event.the-variants.{Update, Other}
-use Rattle.rules.specs.Tree.{Cell, cell, Tree, Forest, [], _∷_, count}
+use Rattle.rules.specs.Tree.{Cell, withPlace, Tree, Forest, [], _∷_, count}
 use Rattle.rules.specs.Outcome.{rest, World, world, Out, done, asks, short, Ticker, _▸_}
 use Rattle.rules.specs.Loops.{next, moved, childAt, whileBody, whileAll}
 use Rattle.rules.specs.State.{atPlace, rule, tick}
@@ -66,15 +66,15 @@ module _ (F : Format) (child : Ticker) (g : Spends F child) where
 
   while-budget : (b b' : ℕ) (c : Cell) (e : Event) (ts : Forest) (f : ℕ) (ans : Answers) → f < b → f < b' → whileWith b child c e ts (world f ans) ≡ whileWith b' child c e ts (world f ans)
   while-budget b b' c e [] f ans h h' = refl
-  while-budget b b' (cell x p m) e (t ∷ ts) f ans h h' = then-less F f (child t e (world f ans)) _ _ (g t e f ans) λ s. elim s [
-    | Running ↦ λ r t' f' ans' l. ap (λ (o : Out (ℕ × Forest)). o ▸ λ s'' r'' y w''. done s'' r'' (cell x (y .0) m, t' ∷ y .1) w'') (body-budget b b' p e ts f' ans' (omega arith) (omega arith))
+  while-budget b b' c e (t ∷ ts) f ans h h' = then-less F f (child t e (world f ans)) _ _ (g t e f ans) λ s. elim s [
+    | Running ↦ λ r t' f' ans' l. ap (λ (o : Out (ℕ × Forest)). o ▸ λ s'' r'' y w''. done s'' r'' (withPlace (y .0) c, t' ∷ y .1) w'') (body-budget b b' (c .place) e ts f' ans' (omega arith) (omega arith))
     | Success ↦ λ r t' f' ans' l. refl
     | Failure ↦ λ r t' f' ans' l. refl
   ]
 
   while-all-budget : (b b' : ℕ) (c : Cell) (e : Event) (ts : Forest) (f : ℕ) (ans : Answers) → f < b → f < b' → whileAllWith b child c e ts (world f ans) ≡ whileAllWith b' child c e ts (world f ans)
   while-all-budget b b' c e [] f ans h h' = refl
-  while-all-budget b b' (cell x p m) e (t ∷ ts) f ans h h' = ap (λ (o : Out (ℕ × Forest)). atPlace (cell x p m) o) (loop-budget b b' e p e t ts f ans h h')
+  while-all-budget b b' c e (t ∷ ts) f ans h h' = ap (λ (o : Out (ℕ × Forest)). atPlace c o) (loop-budget b b' e (c .place) e t ts f ans h h')
 
   -- a rule with any budget above the fuel
   with-budget : (b b' : ℕ) (k : Kind) (n : ℕ) (l : Float) (c : Cell) (e : Event) (ts : Forest) (f : ℕ) (ans : Answers) → f < b → f < b'

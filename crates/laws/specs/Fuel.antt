@@ -12,7 +12,7 @@ use Rattle.rules.specs.declared.status.Status.{Status}
 use Rattle.rules.specs.declared.status.Status.the-variants.{Running, Success, Failure}
 use Rattle.rules.specs.declared.event.Event.{Event}
 use Rattle.rules.specs.declared.event.Event.the-variants.{Update, Other}
-use Rattle.rules.specs.Tree.{zeroTime, Cell, cell, Tree, node, Forest, [], _∷_, fresh, size, sizes, depth, marked, mark, count}
+use Rattle.rules.specs.Tree.{zeroTime, Cell, withTime, withPlace, Tree, node, Forest, [], _∷_, fresh, size, sizes, depth, marked, mark, count}
 use Rattle.rules.specs.Outcome.{dt, rest, World, world, Out, done, asks, short, Ticker, _▸_, waiting, exchanged, exchange, exchanging, alwaysSucceed, largest, smaller, byte}
 use Rattle.rules.specs.Sequence.{pass, sequenceFrom, sequenceAt, memoryless}
 use Rattle.rules.specs.WhenAll.{whenAllFrom, whenAll, raceFrom, afterFrom, afterAt}
@@ -225,10 +225,10 @@ module _ (F : Format) where
     timeout-used : (n : ℕ) (l : Float) (c : Cell) (e : Event) (ts : Forest) (f : ℕ) (ans : List (Status × Float)) → 1 ≤ count ts → Each (Plain h) (shapes ts) → Lives ts → sizes ts ≤ f
         → Used f (sizes ts) (rule F child Timeout n l c e ts (world f ans))
     unfolding rule size
-    timeout-used n l (cell x p m) e [] f ans q ps v z = absurd (not-suc-le-zero q)
-    timeout-used n l (cell x p m) e (t ∷ ts) f ans q ps v z = used-bind f (size t) (size t + sizes ts) (child t e (world f ans)) _ (g t e f ans (ps .0) (v .0) (omega arith)) λ s. elim s [
-      | Running ↦ λ r t' f' ans' u. used-either f (size t + sizes ts) (le l ((add F) x (dt e)))
-          (done Failure ((sub F) ((add F) x (dt e)) l) (cell ((add F) x (dt e)) p m, t' ∷ ts) (world f' ans')) (waiting (cell ((add F) x (dt e)) p m, t' ∷ ts) (world f' ans')) (λ m'. omega arith)
+    timeout-used n l c e [] f ans q ps v z = absurd (not-suc-le-zero q)
+    timeout-used n l c e (t ∷ ts) f ans q ps v z = used-bind f (size t) (size t + sizes ts) (child t e (world f ans)) _ (g t e f ans (ps .0) (v .0) (omega arith)) λ s. elim s [
+      | Running ↦ λ r t' f' ans' u. used-either f (size t + sizes ts) (le l ((add F) (c .time) (dt e)))
+          (done Failure ((sub F) ((add F) (c .time) (dt e)) l) (withTime ((add F) (c .time) (dt e)) c, t' ∷ ts) (world f' ans')) (waiting (withTime ((add F) (c .time) (dt e)) c, t' ∷ ts) (world f' ans')) (λ m'. omega arith)
           (λ m'. omega arith)
       | Success ↦ λ r t' f' ans' u. omega arith
       | Failure ↦ λ r t' f' ans' u. omega arith
@@ -236,8 +236,8 @@ module _ (F : Format) where
 
     wait-used : (n : ℕ) (l : Float) (c : Cell) (e : Event) (ts : Forest) (f : ℕ) (ans : List (Status × Float)) → Used f (sizes ts) (rule F child Wait n l c e ts (world f ans))
     unfolding rule size
-    wait-used n l (cell x p m) (Update y) ts f ans =
-        used-either f (sizes ts) (le l ((add F) x y)) (done Success ((sub F) ((add F) x y) l) (cell l p m, ts) (world f ans)) (waiting (cell ((add F) x y) p m, ts) (world f ans)) (λ m'. omega arith)
+    wait-used n l c (Update y) ts f ans =
+        used-either f (sizes ts) (le l ((add F) (c .time) y)) (done Success ((sub F) ((add F) (c .time) y) l) (withTime l c, ts) (world f ans)) (waiting (withTime ((add F) (c .time) y) c, ts) (world f ans)) (λ m'. omega arith)
         (λ m'. omega arith)
     wait-used n l c Other ts f ans = omega arith
 
@@ -251,35 +251,35 @@ module _ (F : Format) where
       → T (noLoop k) → NodeRight k n l ts → Each (Plain h) (shapes ts) → LiveCell k n c → choose (marksChildren k) (Marks ts) (Lives ts) → sizes ts ≤ f → Used f (sizes ts)
       (rule F child k n l c e ts (world f ans))
   unfolding rule
-  rule-used child h g Action n l (cell x q m) e ts f List.[] o s ds v vs z = tt
-  rule-used child h g Action n l (cell x q m) e ts f (List._∷_ a ans) o s ds v vs z = omega arith
-  rule-used child h g Invert n l (cell x q m) e ts f ans o s ds v vs z = only-used child h g exchanged (cell x q m) e ts f ans (fewest-of Invert n ts (s .0) (s .1)) ds vs z
-  rule-used child h g AlwaysSucceed n l (cell x q m) e ts f ans o s ds v vs z = only-used child h g alwaysSucceed (cell x q m) e ts f ans (fewest-of AlwaysSucceed n ts (s .0) (s .1)) ds vs z
-  rule-used child h g Wait n l (cell x q m) e ts f ans o s ds v vs z = wait-used child h g n l (cell x q m) e ts f ans
-  rule-used child h g WaitForever n l (cell x q m) e ts f ans o s ds v vs z = omega arith
-  rule-used child h g Timeout n l (cell x q m) e ts f ans o s ds v vs z = timeout-used child h g n l (cell x q m) e ts f ans (fewest-of Timeout n ts (s .0) (s .1)) ds vs z
-  rule-used child h g If n l (cell x q m) e ts f ans o s ds v vs z =
-      to-node f (sizes ts) (ifAt child q e ts (world f ans)) (λ s r y. (cell x (y .0) m, y .1)) same (if-used child h g q e ts f ans (v .2) (fewest-of If n ts (s .0) (s .1)) ds vs z)
-  rule-used child h g Sequence n l (cell x q m) e ts f ans o s ds v vs z =
-      to-node f (sizes ts) (sequenceAt child q e ts (world f ans)) (λ s r y. (cell x (y .0) m, y .1)) same (seq-at-used child h g e ts q f ans ds vs z)
-  rule-used child h g Select n l (cell x q m) e ts f ans o s ds v vs z =
-      to-node f (sizes ts) (exchange (sequenceAt (exchanging child) q e ts (world f ans))) (λ s r y. (cell x (y .0) m, y .1)) same
-      (to-node f (sizes ts) (sequenceAt (exchanging child) q e ts (world f ans)) (λ s r y. y) exchanged (seq-at-used (exchanging child) h (exchanging-ample child h g) e ts q f ans ds vs z))
-  rule-used child h g MemorylessSequence n l (cell x q m) e ts f ans o s ds v vs z =
-      to-node f (sizes ts) (memoryless child e ts (world f ans)) (λ s r y. (cell x q m, y)) same (mem-used child h g e ts f ans ds z)
-  rule-used child h g MemorylessSelector n l (cell x q m) e ts f ans o s ds v vs z =
-      to-node f (sizes ts) (exchange (memoryless (exchanging child) e ts (world f ans))) (λ s r y. (cell x q m, y)) same
+  rule-used child h g Action n l c e ts f List.[] o s ds v vs z = tt
+  rule-used child h g Action n l c e ts f (List._∷_ a ans) o s ds v vs z = omega arith
+  rule-used child h g Invert n l c e ts f ans o s ds v vs z = only-used child h g exchanged c e ts f ans (fewest-of Invert n ts (s .0) (s .1)) ds vs z
+  rule-used child h g AlwaysSucceed n l c e ts f ans o s ds v vs z = only-used child h g alwaysSucceed c e ts f ans (fewest-of AlwaysSucceed n ts (s .0) (s .1)) ds vs z
+  rule-used child h g Wait n l c e ts f ans o s ds v vs z = wait-used child h g n l c e ts f ans
+  rule-used child h g WaitForever n l c e ts f ans o s ds v vs z = omega arith
+  rule-used child h g Timeout n l c e ts f ans o s ds v vs z = timeout-used child h g n l c e ts f ans (fewest-of Timeout n ts (s .0) (s .1)) ds vs z
+  rule-used child h g If n l c e ts f ans o s ds v vs z =
+      to-node f (sizes ts) (ifAt child (c .place) e ts (world f ans)) (λ s r y. (withPlace (y .0) c, y .1)) same (if-used child h g (c .place) e ts f ans (v .2) (fewest-of If n ts (s .0) (s .1)) ds vs z)
+  rule-used child h g Sequence n l c e ts f ans o s ds v vs z =
+      to-node f (sizes ts) (sequenceAt child (c .place) e ts (world f ans)) (λ s r y. (withPlace (y .0) c, y .1)) same (seq-at-used child h g e ts (c .place) f ans ds vs z)
+  rule-used child h g Select n l c e ts f ans o s ds v vs z =
+      to-node f (sizes ts) (exchange (sequenceAt (exchanging child) (c .place) e ts (world f ans))) (λ s r y. (withPlace (y .0) c, y .1)) same
+      (to-node f (sizes ts) (sequenceAt (exchanging child) (c .place) e ts (world f ans)) (λ s r y. y) exchanged (seq-at-used (exchanging child) h (exchanging-ample child h g) e ts (c .place) f ans ds vs z))
+  rule-used child h g MemorylessSequence n l c e ts f ans o s ds v vs z =
+      to-node f (sizes ts) (memoryless child e ts (world f ans)) (λ s r y. (c, y)) same (mem-used child h g e ts f ans ds z)
+  rule-used child h g MemorylessSelector n l c e ts f ans o s ds v vs z =
+      to-node f (sizes ts) (exchange (memoryless (exchanging child) e ts (world f ans))) (λ s r y. (c, y)) same
       (to-node f (sizes ts) (memoryless (exchanging child) e ts (world f ans)) (λ s r y. y) exchanged (mem-used (exchanging child) h (exchanging-ample child h g) e ts f ans ds z))
-  rule-used child h g While n l (cell x q m) e ts f ans o s ds v vs z = absurd o
-  rule-used child h g WhileAll n l (cell x q m) e ts f ans o s ds v vs z = absurd o
-  rule-used child h g WhenAll n l (cell x q m) e ts f ans o s ds v vs z =
-      to-node f (sizes ts) (whenAll child (largest F) e ts (world f ans)) (λ s r y. (cell x q m, y)) same (when-used child h g e ts f ans ds vs z)
-  rule-used child h g WhenAny n l (cell x q m) e ts f ans o s ds v vs z =
-      to-node f (sizes ts) (exchange (whenAll (exchanging child) (largest F) e ts (world f ans))) (λ s r y. (cell x q m, y)) same
+  rule-used child h g While n l c e ts f ans o s ds v vs z = absurd o
+  rule-used child h g WhileAll n l c e ts f ans o s ds v vs z = absurd o
+  rule-used child h g WhenAll n l c e ts f ans o s ds v vs z =
+      to-node f (sizes ts) (whenAll child (largest F) e ts (world f ans)) (λ s r y. (c, y)) same (when-used child h g e ts f ans ds vs z)
+  rule-used child h g WhenAny n l c e ts f ans o s ds v vs z =
+      to-node f (sizes ts) (exchange (whenAll (exchanging child) (largest F) e ts (world f ans))) (λ s r y. (c, y)) same
       (to-node f (sizes ts) (whenAll (exchanging child) (largest F) e ts (world f ans)) (λ s r y. y) exchanged (when-used (exchanging child) h (exchanging-ample child h g) e ts f ans ds vs z))
-  rule-used child h g After n l (cell x q m) e ts f ans o s ds v vs z =
-      to-node f (sizes ts) (afterAt child (largest F) q e ts (world f ans)) (λ s r y. (cell x (y .0) m, y .1)) same (after-at-used child h g e ts q f ans ds vs z)
-  rule-used child h g Race n l (cell x q m) e ts f ans o s ds v vs z = to-node f (sizes ts) (raceFrom child e ts (world f ans)) (λ s r y. (cell x q m, y)) same (race-used child h g e ts f ans ds vs z)
+  rule-used child h g After n l c e ts f ans o s ds v vs z =
+      to-node f (sizes ts) (afterAt child (largest F) (c .place) e ts (world f ans)) (λ s r y. (withPlace (y .0) c, y .1)) same (after-at-used child h g e ts (c .place) f ans ds vs z)
+  rule-used child h g Race n l c e ts f ans o s ds v vs z = to-node f (sizes ts) (raceFrom child e ts (world f ans)) (λ s r y. (c, y)) same (race-used child h g e ts f ans ds vs z)
 
   visited : {A B : Type 0} (f n : ℕ) (o : Out A) (k : Status → Float → A → B) → Used f n o → Used (suc f) (suc n) (o ▸ λ s r a w. done s r (k s r a) w)
   visited f n (done s r a (world f' ans)) k u = omega arith

@@ -8,7 +8,7 @@ use lib.Ieee.{Float}
 use lib.Ieee.Fits.{and-i, and-l, and-r}
 use Rattle.rules.specs.declared.behavior.Kind.{Kind}
 use Rattle.rules.specs.Kinds.{timed, marksChildren, children}
-use Rattle.rules.specs.Tree.{zeroTime, Cell, cell, Tree, node, Forest, [], _∷_, fresh, freshAll, marked, mark}
+use Rattle.rules.specs.Tree.{zeroTime, Cell, Tree, node, Forest, [], _∷_, fresh, freshAll, marked, mark}
 use Rattle.rules.specs.Table.{zeroBits, countAllowed, limitAllowed}
 use Rattle.rules.specs.Cells.{elapsed, lastPlace, freshly, cellAllowed}
 use Rattle.calls.specs.Shape.{Shape, shp, Shapes, shape, shapes, countOf, count-of, fresh-unmarked}
@@ -28,14 +28,14 @@ abbrev mutual
 
 -- a child that has ended: marked, and all else fresh
 abbrev pub Ended : Tree → Type 0
-Ended (node k n l (cell x p m) b ts) = (m ≡ 1) × T (zeroBits x) × (p ≡ 0) × Freshs ts
+Ended (node k n l c b ts) = (c .mark ≡ 1) × T (zeroBits (c .time)) × (c .place ≡ 0) × Freshs ts
 
 abbrev pub choose : Bool → Type 0 → Type 0 → Type 0
 choose true X Y = X
 choose false X Y = Y
 
 abbrev pub LiveCell : Kind → ℕ → Cell → Type 0
-LiveCell k n (cell x p m) = (m ≡ 0) × T (cond (timed k) (elapsed x) (zeroBits x)) × (p ≤ lastPlace k n)
+LiveCell k n c = (c .mark ≡ 0) × T (cond (timed k) (elapsed (c .time)) (zeroBits (c .time))) × (c .place ≤ lastPlace k n)
 
 abbrev mutual
   pub Live : Tree → Type 0
@@ -51,7 +51,7 @@ abbrev mutual
   Marks (t ∷ ts) = choose (marked t) (Ended t) (Live t) × Marks ts
 
 pub live-unmarked : (t : Tree) → Live t → marked t ≡ false
-live-unmarked (node k n l (cell x p m) b ts) h = ap (λ (z : ℕ). eqb z 1) (h .0 .0)
+live-unmarked (node k n l c b ts) h = ap (λ (z : ℕ). eqb z 1) (h .0 .0)
 
 choose-both : (b : Bool) (X Y : Type 0) → X → Y → choose b X Y
 choose-both true X Y x y = x
@@ -103,7 +103,7 @@ mutual
 
 clear-ended : (t : Tree) → Ended t → Ended (clear t)
 unfolding clear
-clear-ended (node k n l (cell x p m) b ts) h = (h .0, h .1, h .2, clear-freshs ts (h .3))
+clear-ended (node k n l c b ts) h = (h .0, h .1, h .2, clear-freshs ts (h .3))
 
 choose-map : (b : Bool) (X X' Y Y' : Type 0) → (X → X') → (Y → Y') → choose b X Y → choose b X' Y'
 choose-map true X X' Y Y' f g h = f h
@@ -134,16 +134,14 @@ mutual
   fine-freshs mayEnd [] h = tt
   fine-freshs mayEnd (t ∷ ts) h = (fine-fresh mayEnd t (h .0), fine-freshs mayEnd ts (h .1))
 
-in-use : (mayEnd : Bool) (k : Kind) (n : ℕ) (x : Float) (p m : ℕ) → LiveCell k n (cell x p m) → T (cellAllowed false mayEnd k n (cell x p m))
+in-use : (mayEnd : Bool) (k : Kind) (n : ℕ) (c : Cell) → LiveCell k n c → T (cellAllowed false mayEnd k n c)
 unfolding cellAllowed
-in-use mayEnd k n x p m h = rw (h .0) (and-i (cond (timed k) (elapsed x) (zeroBits x)) (leb p (lastPlace k n)) (h .1) (le→leb p (lastPlace k n) (h .2)))
-
-ended-fine : (k : Kind) (n : ℕ) (l x : Float) (p m b : ℕ) (ts : Forest) → Ended (node k n l (cell x p m) b ts) → Fine false true (node k n l (cell x p m) b ts)
-unfolding cellAllowed
-ended-fine k n l x p m b ts h = rw (h .0, h .2) (and-i (zeroBits x) true (h .1) tt, fine-freshs (marksChildren k) ts (h .3))
+in-use mayEnd k n c h =
+    rw (h .0) (and-i (cond (timed k) (elapsed (c .time)) (zeroBits (c .time))) (leb (c .place) (lastPlace k n)) (h .1) (le→leb (c .place) (lastPlace k n) (h .2)))
 
 ended-is-fine : (t : Tree) → Ended t → Fine false true t
-ended-is-fine (node k n l (cell x p m) b ts) h = ended-fine k n l x p m b ts h
+unfolding cellAllowed
+ended-is-fine (node k n l c b ts) h = rw (h .0, h .2) (and-i (zeroBits (c .time)) true (h .1) tt, fine-freshs (marksChildren k) ts (h .3))
 
 choose-fines : (b : Bool) (X Y : Type 0) (Z : Bool → Type 0) → (X → Z true) → (Y → Z false) → choose b X Y → Z b
 choose-fines true X Y Z f g h = f h
@@ -151,8 +149,8 @@ choose-fines false X Y Z f g h = g h
 
 mutual
   pub live-fine : (mayEnd : Bool) (t : Tree) → Live t → Fine false mayEnd t
-  live-fine mayEnd (node k n l (cell x p m) b ts) h =
-      (in-use mayEnd k n x p m (h .0), rw (h .0 .0) (choose-fines (marksChildren k) (Marks ts) (Lives ts) (λ (z : Bool). Fines false z ts) (λ u. marks-fine ts u) (λ u. lives-fine ts u) (h .1)))
+  live-fine mayEnd (node k n l c b ts) h =
+      (in-use mayEnd k n c (h .0), rw (h .0 .0) (choose-fines (marksChildren k) (Marks ts) (Lives ts) (λ (z : Bool). Fines false z ts) (λ u. marks-fine ts u) (λ u. lives-fine ts u) (h .1)))
 
   lives-fine : (ts : Forest) → Lives ts → Fines false false ts
   lives-fine [] h = tt
@@ -167,25 +165,33 @@ mutual
 one-not-zero : (m : ℕ) → T (eqb m 1) → eqb m 0 ≡ false
 one-not-zero m h = rw (eqb→eq m 1 h)
 
-live-cell : (mayEnd : Bool) (k : Kind) (n : ℕ) (x : Float) (p m : ℕ) → eqb m 1 ≡ false → T (cellAllowed false mayEnd k n (cell x p m)) → LiveCell k n (cell x p m)
+live-cell : (mayEnd : Bool) (k : Kind) (n : ℕ) (c : Cell) → eqb (c .mark) 1 ≡ false → T (cellAllowed false mayEnd k n c) → LiveCell k n c
 unfolding cellAllowed
-live-cell mayEnd k n x p m u h = on (eqb m 0) (eqb→eq m 0) h
+live-cell mayEnd k n c u h = on (eqb (c .mark) 0) (eqb→eq (c .mark) 0) h
   where
-    on : (b : Bool) → (T b → m ≡ 0) → T (cond b (cond (timed k) (elapsed x) (zeroBits x) && leb p (lastPlace k n)) (eqb m 1 && mayEnd && zeroBits x && eqb p 0)) → LiveCell k n (cell x p m)
-    on true f g =
-        (f tt, and-l (cond (timed k) (elapsed x) (zeroBits x)) (leb p (lastPlace k n)) g, leb→le p (lastPlace k n) (and-r (cond (timed k) (elapsed x) (zeroBits x)) (leb p (lastPlace k n)) g))
-    on false f g = absurd (subst T u (and-l (eqb m 1) mayEnd (and-l (eqb m 1 && mayEnd) (zeroBits x) (and-l (eqb m 1 && mayEnd && zeroBits x) (eqb p 0) g))))
+    time : Bool
+    time = cond (timed k) (elapsed (c .time)) (zeroBits (c .time))
+
+    place : Bool
+    place = leb (c .place) (lastPlace k n)
+
+    one : Bool
+    one = eqb (c .mark) 1 && mayEnd
+
+    on : (b : Bool) → (T b → c .mark ≡ 0) → T (cond b (time && place) (one && zeroBits (c .time) && eqb (c .place) 0)) → LiveCell k n c
+    on true f g = (f tt, and-l time place g, leb→le (c .place) (lastPlace k n) (and-r time place g))
+    on false f g = absurd (subst T u (and-l (eqb (c .mark) 1) mayEnd (and-l one (zeroBits (c .time)) (and-l (one && zeroBits (c .time)) (eqb (c .place) 0) g))))
 
 -- the cell of a marked child: mayEnd, and time and place zero
-ended-cell : (mayEnd : Bool) (k : Kind) (n : ℕ) (x : Float) (p m : ℕ) → T (eqb m 1) → T (cellAllowed false mayEnd k n (cell x p m)) → T mayEnd × T (zeroBits x) × (p ≡ 0)
+ended-cell : (mayEnd : Bool) (k : Kind) (n : ℕ) (c : Cell) → T (eqb (c .mark) 1) → T (cellAllowed false mayEnd k n c) → T mayEnd × T (zeroBits (c .time)) × (c .place ≡ 0)
 unfolding cellAllowed
-ended-cell mayEnd k n x p m u h =
-    let g : T (eqb m 1 && mayEnd && zeroBits x && eqb p 0) = rw (one-not-zero m u) at h in (
-      and-r (eqb m 1) mayEnd (and-l (eqb m 1 && mayEnd) (zeroBits x) (and-l (eqb m 1 && mayEnd && zeroBits x) (eqb p 0) g)),
-      and-r (eqb m 1 && mayEnd) (zeroBits x)
-          (and-l (eqb m 1 && mayEnd && zeroBits x) (eqb p 0) g),
-      eqb→eq p 0 (and-r (eqb m 1 && mayEnd && zeroBits x) (eqb p 0) g),
-    )
+ended-cell mayEnd k n c u h =
+    let one : Bool = eqb (c .mark) 1 in
+    let time : Bool = zeroBits (c .time) in
+    let place : Bool = eqb (c .place) 0 in
+    let g : T (one && mayEnd && time && place) = rw (one-not-zero (c .mark) u) at h in
+    let both = and-l (one && mayEnd && time) place g in
+    (and-r one mayEnd (and-l (one && mayEnd) time both), and-r (one && mayEnd) time both, eqb→eq (c .place) 0 (and-r (one && mayEnd && time) place g))
 
 mutual
   unfolding cellAllowed
@@ -198,10 +204,10 @@ mutual
   fresh-fines mayEnd (t ∷ ts) h = (fresh-fine mayEnd t (h .0), fresh-fines mayEnd ts (h .1))
 
 fine-ended : (mayEnd : Bool) (t : Tree) → marked t ≡ true → Fine false mayEnd t → T mayEnd × Ended t
-fine-ended mayEnd (node k n l (cell x p m) b ts) u h =
-    let v : T (eqb m 1) = subst T (sym u) tt in
-    let g = ended-cell mayEnd k n x p m v (h .0) in
-    (g .0, (eqb→eq m 1 v, g .1, g .2, fresh-fines (marksChildren k) ts (rw u at (h .1))))
+fine-ended mayEnd (node k n l c b ts) u h =
+    let v : T (eqb (c .mark) 1) = subst T (sym u) tt in
+    let g = ended-cell mayEnd k n c v (h .0) in
+    (g .0, (eqb→eq (c .mark) 1 v, g .1, g .2, fresh-fines (marksChildren k) ts (rw u at (h .1))))
 
 choose-of : (b : Bool) (X Y : Type 0) (Z : Bool → Type 0) → (Z true → X) → (Z false → Y) → Z b → choose b X Y
 choose-of true X Y Z f g h = f h
@@ -218,8 +224,8 @@ child-mark t h f false u = f u
 
 mutual
   pub fine-live : (mayEnd : Bool) (t : Tree) → Fine false mayEnd t → marked t ≡ false → Live t
-  fine-live mayEnd (node k n l (cell x p m) b ts) h u =
-      (live-cell mayEnd k n x p m u (h .0), choose-of (marksChildren k) (Marks ts) (Lives ts) (λ (z : Bool). Fines false z ts) (λ v. fine-marks ts v) (λ v. fine-lives ts v) (rw u at (h .1)))
+  fine-live mayEnd (node k n l c b ts) h u =
+      (live-cell mayEnd k n c u (h .0), choose-of (marksChildren k) (Marks ts) (Lives ts) (λ (z : Bool). Fines false z ts) (λ v. fine-marks ts v) (λ v. fine-lives ts v) (rw u at (h .1)))
 
   fine-lives : (ts : Forest) → Fines false false ts → Lives ts
   fine-lives [] h = tt

@@ -16,7 +16,7 @@ use Rattle.rules.specs.declared.status.Status.the-variants.{Running, Success, F
 use Rattle.rules.specs.declared.event.Event.{Event}
 use Rattle.rules.specs.declared.event.Event.the-variants.{Update, Other}
 use Rattle.rules.specs.Kinds.{fewest, children, marksChildren}
-use Rattle.rules.specs.Tree.{Cell, cell, Tree, node, Forest, [], _∷_, count}
+use Rattle.rules.specs.Tree.{Cell, withPlace, Tree, node, Forest, [], _∷_, count}
 use Rattle.rules.specs.Outcome.{dt, World, world, Out, done, asks, short, Ticker, _▸_, exchanged, exchange, exchanging, alwaysSucceed, largest}
 use Rattle.rules.specs.Sequence.{sequenceAt, memoryless}
 use Rattle.rules.specs.WhenAll.{whenAll, raceFrom, afterAt}
@@ -49,9 +49,9 @@ fewest-of k n ts a e = at-least k n (count ts) a (e ∙ sym (count-of ts))
 
 module _ (S : Type 0) where
   -- a driver with a place up to the last one
-  place-next : (k : Kind) (n : ℕ) (x : Float) (p m : ℕ) (o : Out (ℕ × Forest)) (P : ℕ × Forest → Type 0) → LiveCell k n (cell x p m) → Post S P o
-      → ((y : ℕ × Forest) → P y → (y .0 ≤ lastPlace k n) × choose (marksChildren k) (Marks (y .1)) (Lives (y .1))) → Post S (NextOf k n) (atPlace (cell x p m) o)
-  place-next k n x p m o P v h f = map-post S P (NextOf k n) o same (λ y. (cell x (y .0) m, y .1)) h (λ y q. let u = f y q in ((v .0, v .1, u .0), u .1))
+  place-next : (k : Kind) (n : ℕ) (c : Cell) (o : Out (ℕ × Forest)) (P : ℕ × Forest → Type 0) → LiveCell k n c → Post S P o
+      → ((y : ℕ × Forest) → P y → (y .0 ≤ lastPlace k n) × choose (marksChildren k) (Marks (y .1)) (Lives (y .1))) → Post S (NextOf k n) (atPlace c o)
+  place-next k n c o P v h f = map-post S P (NextOf k n) o same (λ y. (withPlace (y .0) c, y .1)) h (λ y q. let u = f y q in ((v .0, v .1, u .0), u .1))
 
   cell-next : (k : Kind) (n : ℕ) (c : Cell) (o : Out Forest) (P : Forest → Type 0) → LiveCell k n c → Post S P o
       → ((us : Forest) → P us → choose (marksChildren k) (Marks us) (Lives us)) → Post S (NextOf k n) (inCell c o)
@@ -82,20 +82,20 @@ module _ (F : Format) (G : Shape → Type 0) (S : Type 0) (child : Ticker) (g : 
   wait-live : (n : ℕ) (l : Float) (c : Cell) (e : Event) (ts : Forest) (w : World) → T (number l) → LiveCell Wait n c → Lives ts → T (elapsed (dt e)) → EWorld w
       → Post S (NextOf Wait n) (rule F child Wait n l c e ts w)
   unfolding rule
-  wait-live n l (cell x p m) (Update y) ts w nl v vs ev wv = post-either S (NextOf Wait n) (le l (add F x y)) _ _
-      (λ q. (wv, (sub-elapsed F l (add F x y) nl (add-elapsed F x y (v .1) ev) q, ((v .0, number-elapsed l nl, v .2), vs))))
-      (wv, (tt, ((v .0, add-elapsed F x y (v .1) ev, v .2), vs)))
+  wait-live n l c (Update y) ts w nl v vs ev wv = post-either S (NextOf Wait n) (le l (add F (c .time) y)) _ _
+      (λ q. (wv, (sub-elapsed F l (add F (c .time) y) nl (add-elapsed F (c .time) y (v .1) ev) q, ((v .0, number-elapsed l nl, v .2), vs))))
+      (wv, (tt, ((v .0, add-elapsed F (c .time) y (v .1) ev, v .2), vs)))
   wait-live n l c Other ts w nl v vs ev wv = (wv, (tt, (v, vs)))
 
   timeout-live : (n : ℕ) (l : Float) (c : Cell) (e : Event) (ts : Forest) (w : World) → T (number l) → 1 ≤ count ts → Each G (shapes ts) → LiveCell Timeout n c → Lives ts → T (elapsed (dt e))
       → EWorld w
       → Post S (NextOf Timeout n) (rule F child Timeout n l c e ts w)
   unfolding rule
-  timeout-live n l (cell x p m) e [] w nl o s v vs ev wv = absurd (not-suc-le-zero o)
-  timeout-live n l (cell x p m) e (t ∷ ts) w nl o s v vs ev wv = bind S Live (NextOf Timeout n) (child t e w) _ (g t e w (s .0) (vs .0) ev wv) λ s'. elim s' [
-    | Running ↦ λ r t' w' wv' er y. post-either S (NextOf Timeout n) (le l (add F x (dt e))) _ _
-        (λ q. (wv', (sub-elapsed F l (add F x (dt e)) nl (add-elapsed F x (dt e) (v .1) ev) q, ((v .0, add-elapsed F x (dt e) (v .1) ev, v .2), (y, vs .1)))))
-        (wv', (tt, ((v .0, add-elapsed F x (dt e) (v .1) ev, v .2), (y, vs .1))))
+  timeout-live n l c e [] w nl o s v vs ev wv = absurd (not-suc-le-zero o)
+  timeout-live n l c e (t ∷ ts) w nl o s v vs ev wv = bind S Live (NextOf Timeout n) (child t e w) _ (g t e w (s .0) (vs .0) ev wv) λ s'. elim s' [
+    | Running ↦ λ r t' w' wv' er y. post-either S (NextOf Timeout n) (le l (add F (c .time) (dt e))) _ _
+        (λ q. (wv', (sub-elapsed F l (add F (c .time) (dt e)) nl (add-elapsed F (c .time) (dt e) (v .1) ev) q, ((v .0, add-elapsed F (c .time) (dt e) (v .1) ev, v .2), (y, vs .1)))))
+        (wv', (tt, ((v .0, add-elapsed F (c .time) (dt e) (v .1) ev, v .2), (y, vs .1))))
     | Success ↦ λ r t' w' wv' er y. (wv', (er, (v, (y, vs .1))))
     | Failure ↦ λ r t' w' wv' er y. (wv', (er, (v, (y, vs .1))))
   ]
@@ -104,10 +104,10 @@ module _ (F : Format) (G : Shape → Type 0) (S : Type 0) (child : Ticker) (g : 
       → Post S (NextOf While n) (rule F child While n l c e ts w)
   unfolding rule
   while-live n l c e [] w s ds v vs ev wv = absurd (not-suc-le-zero (fewest-of While n [] (s .0) (s .1)))
-  while-live n l (cell x p m) e (t ∷ ts) (world f ans) s ds v vs ev wv =
+  while-live n l c e (t ∷ ts) (world f ans) s ds v vs ev wv =
       bind-falls S Live (λ t'. shape t' ≡ shape t) (NextOf While n) (world f ans) (child t e (world f ans)) _ (g t e (world f ans) (ds .0) (vs .0) ev wv) (falls t e (world f ans)) λ s'. elim s' [
-        | Running ↦ λ r t' w' wv' er y k below. map-post S (BodyOf ts) (NextOf While n) (whileBody child (suc f) p e ts w') same (λ z. (cell x (z .0) m, t' ∷ z .1))
-            (body-live G S child g falls (suc f) p e ts w' (omega arith) (in-body p n (count ts) num (fewest-of While n (t ∷ ts) (s .0) (s .1)) (v .2)) (ds .1) (vs .1) ev wv')
+        | Running ↦ λ r t' w' wv' er y k below. map-post S (BodyOf ts) (NextOf While n) (whileBody child (suc f) (c .place) e ts w') same (λ z. (withPlace (z .0) c, t' ∷ z .1))
+            (body-live G S child g falls (suc f) (c .place) e ts w' (omega arith) (in-body (c .place) n (count ts) num (fewest-of While n (t ∷ ts) (s .0) (s .1)) (v .2)) (ds .1) (vs .1) ev wv')
             (λ z q. ((v .0, v .1, of-body (z .0) n (count ts) num (q .0)), (y, q .1)))
         | Success ↦ λ r t' w' wv' er y k below. (wv', (er, (v, (y, vs .1))))
         | Failure ↦ λ r t' w' wv' er y k below. (wv', (er, (v, (y, vs .1))))
@@ -121,9 +121,9 @@ module _ (F : Format) (G : Shape → Type 0) (S : Type 0) (child : Ticker) (g : 
       → Post S (NextOf WhileAll n) (rule F child WhileAll n l c e ts w)
   unfolding rule
   while-all-live n l c e [] w s ds v vs ev wv = absurd (not-suc-le-zero (fewest-of WhileAll n [] (s .0) (s .1)))
-  while-all-live n l (cell x p m) e (t ∷ ts) (world f ans) s ds v vs ev wv =
-      place-next S WhileAll n x p m (whileAll child (suc f) e p e t ts (world f ans)) (LoopOf ts) v
-      (loop-live G S child g falls (suc f) e p e t ts (world f ans) (omega arith) (in-loop p n (count ts) num (v .2)) (le-of-suc-le-suc (fewest-of WhileAll n (t ∷ ts) (s .0) (s .1))) (ds .0)
+  while-all-live n l c e (t ∷ ts) (world f ans) s ds v vs ev wv =
+      place-next S WhileAll n c (whileAll child (suc f) e (c .place) e t ts (world f ans)) (LoopOf ts) v
+      (loop-live G S child g falls (suc f) e (c .place) e t ts (world f ans) (omega arith) (in-loop (c .place) n (count ts) num (v .2)) (le-of-suc-le-suc (fewest-of WhileAll n (t ∷ ts) (s .0) (s .1))) (ds .0)
       (ds .1) (vs .0) (vs .1) ev ev wv)
       (λ y q. (of-loop (y .0) n (count ts) num (q .0), q .1))
     where
@@ -131,9 +131,9 @@ module _ (F : Format) (G : Shape → Type 0) (S : Type 0) (child : Ticker) (g : 
       num = s .1 ∙ sym (count-of (t ∷ ts))
 
   -- a driver whose place goes up to the count of its children
-  along : (k : Kind) (n : ℕ) (x : Float) (p m : ℕ) (ts : Forest) (o : Out (ℕ × Forest)) → n ≡ count ts → lastPlace k n ≡ n → marksChildren k ≡ false → LiveCell k n (cell x p m)
-      → (p ≤ count ts → Post S (PlaceOf ts) o) → Post S (NextOf k n) (atPlace (cell x p m) o)
-  along k n x p m ts o e last marks v h = place-next S k n x p m o (PlaceOf ts) v (h (rw (← e, ← last) (v .2))) (λ y q. (rw (last, e) (q .0), rw marks (q .1)))
+  along : (k : Kind) (n : ℕ) (c : Cell) (ts : Forest) (o : Out (ℕ × Forest)) → n ≡ count ts → lastPlace k n ≡ n → marksChildren k ≡ false → LiveCell k n c
+      → (c .place ≤ count ts → Post S (PlaceOf ts) o) → Post S (NextOf k n) (atPlace c o)
+  along k n c ts o e last marks v h = place-next S k n c o (PlaceOf ts) v (h (rw (← e, ← last) (v .2))) (λ y q. (rw (last, e) (q .0), rw marks (q .1)))
 
   rule-live : (k : Kind) (n : ℕ) (l : Float) (c : Cell) (e : Event) (ts : Forest) (w : World) → NodeRight k n l ts → Each G (shapes ts) → LiveCell k n c
       → choose (marksChildren k) (Marks ts) (Lives ts)
@@ -146,13 +146,13 @@ module _ (F : Format) (G : Shape → Type 0) (S : Type 0) (child : Ticker) (g : 
   rule-live Wait n l c e ts w s ds v vs ev wv = wait-live n l c e ts w (s .2) v vs ev wv
   rule-live WaitForever n l c e ts w s ds v vs ev wv = (wv, (tt, (v, vs)))
   rule-live Timeout n l c e ts w s ds v vs ev wv = timeout-live n l c e ts w (s .2) (fewest-of Timeout n ts (s .0) (s .1)) ds v vs ev wv
-  rule-live If n l (cell x p m) e ts w s ds v vs ev wv =
-      place-next S If n x p m (ifAt child p e ts w) IfOf v (if-live G S child g e ts p w (v .2) (fewest-of If n ts (s .0) (s .1)) ds vs ev wv) (λ y q. q)
-  rule-live Sequence n l (cell x p m) e ts w s ds v vs ev wv =
-      along Sequence n x p m ts (sequenceAt child p e ts w) (s .1 ∙ sym (count-of ts)) refl refl v (λ h. seq-live G S child g e ts p w h ds vs ev wv)
-  rule-live Select n l (cell x p m) e ts w s ds v vs ev wv =
-      along Select n x p m ts (exchange (sequenceAt (exchanging child) p e ts w)) (s .1 ∙ sym (count-of ts)) refl refl v
-      (λ h. exchange-post S (PlaceOf ts) (sequenceAt (exchanging child) p e ts w) (seq-live G S (exchanging child) (exchanging-keeps G S child g) e ts p w h ds vs ev wv))
+  rule-live If n l c e ts w s ds v vs ev wv =
+      place-next S If n c (ifAt child (c .place) e ts w) IfOf v (if-live G S child g e ts (c .place) w (v .2) (fewest-of If n ts (s .0) (s .1)) ds vs ev wv) (λ y q. q)
+  rule-live Sequence n l c e ts w s ds v vs ev wv =
+      along Sequence n c ts (sequenceAt child (c .place) e ts w) (s .1 ∙ sym (count-of ts)) refl refl v (λ h. seq-live G S child g e ts (c .place) w h ds vs ev wv)
+  rule-live Select n l c e ts w s ds v vs ev wv =
+      along Select n c ts (exchange (sequenceAt (exchanging child) (c .place) e ts w)) (s .1 ∙ sym (count-of ts)) refl refl v
+      (λ h. exchange-post S (PlaceOf ts) (sequenceAt (exchanging child) (c .place) e ts w) (seq-live G S (exchanging child) (exchanging-keeps G S child g) e ts (c .place) w h ds vs ev wv))
   rule-live MemorylessSequence n l c e ts w s ds v vs ev wv = cell-next S MemorylessSequence n c (memoryless child e ts w) Lives v (mem-live G S child g e ts w ds ev wv) (λ us q. q)
   rule-live MemorylessSelector n l c e ts w s ds v vs ev wv =
       cell-next S MemorylessSelector n c (exchange (memoryless (exchanging child) e ts w)) Lives v
@@ -163,8 +163,8 @@ module _ (F : Format) (G : Shape → Type 0) (S : Type 0) (child : Ticker) (g : 
   rule-live WhenAny n l c e ts w s ds v vs ev wv =
       cell-next S WhenAny n c (exchange (whenAll (exchanging child) (largest F) e ts w)) Marks v
       (exchange-post S Marks (whenAll (exchanging child) (largest F) e ts w) (all-live G S (exchanging child) (exchanging-keeps G S child g) F e ts w ds vs ev wv)) (λ us q. q)
-  rule-live After n l (cell x p m) e ts w s ds v vs ev wv =
-      along After n x p m ts (afterAt child (largest F) p e ts w) (s .1 ∙ sym (count-of ts)) refl refl v (λ h. after-live G S child g F e ts p w h ds vs ev wv)
+  rule-live After n l c e ts w s ds v vs ev wv =
+      along After n c ts (afterAt child (largest F) (c .place) e ts w) (s .1 ∙ sym (count-of ts)) refl refl v (λ h. after-live G S child g F e ts (c .place) w h ds vs ev wv)
   rule-live Race n l c e ts w s ds v vs ev wv = cell-next S Race n c (raceFrom child e ts w) Lives v (race-live G S child g e ts w ds vs ev wv) (λ us q. q)
 
   -- the visit of a node, around its rule

@@ -10,7 +10,7 @@ use Rattle.rules.specs.declared.status.Status.{Status}
 use Rattle.rules.specs.declared.status.Status.the-variants.{Running, Success, Failure}
 use Rattle.rules.specs.declared.event.Event.{Event}
 use Rattle.rules.specs.declared.event.Event.the-variants.{Update, Other}
-use Rattle.rules.specs.Tree.{zeroTime, Cell, cell, Forest, [], _∷_, Tree, node}
+use Rattle.rules.specs.Tree.{zeroTime, Cell, withTime, withPlace, Forest, [], _∷_, Tree, node}
 use Rattle.rules.specs.Outcome.{dt, World, world, Out, done, short, Ticker, _▸_, exchanged, exchange, exchanging, alwaysSucceed, largest, byte}
 use Rattle.rules.specs.Sequence.{sequenceAt, memoryless}
 use Rattle.rules.specs.WhenAll.{whenAll, raceFrom, afterAt}
@@ -25,15 +25,15 @@ use lib.Dec.{eqb}
 
 abbrev pub whileWith : ℕ → Ticker → Cell → Event → Forest → World → Out Next
 whileWith b child c e [] w = short
-whileWith b child (cell x p m) e (c ∷ ts) w = child c e w ▸ λ s r c' w'. elim s [
-  | Running ↦ whileBody child b p e ts w' ▸ λ s'' r'' y w''. done s'' r'' (cell x (y .0) m, c' ∷ y .1) w''
-  | Success ↦ done Success r (cell x p m, c' ∷ ts) w'
-  | Failure ↦ done Failure r (cell x p m, c' ∷ ts) w'
+whileWith b child c₀ e (c ∷ ts) w = child c e w ▸ λ s r c' w'. elim s [
+  | Running ↦ whileBody child b (c₀ .place) e ts w' ▸ λ s'' r'' y w''. done s'' r'' (withPlace (y .0) c₀, c' ∷ y .1) w''
+  | Success ↦ done Success r (c₀, c' ∷ ts) w'
+  | Failure ↦ done Failure r (c₀, c' ∷ ts) w'
 ]
 
 abbrev pub whileAllWith : ℕ → Ticker → Cell → Event → Forest → World → Out Next
 whileAllWith b child c e [] w = short
-whileAllWith b child (cell x p m) e (c ∷ ts) w = atPlace (cell x p m) (whileAll child b e p e c ts w)
+whileAllWith b child c₀ e (c ∷ ts) w = atPlace c₀ (whileAll child b e (c₀ .place) e c ts w)
 
 unfoldable pub ruleWith : ℕ → Format → Ticker → Kind → ℕ → Float → Cell → Event → Forest → World → Out Next
 unfolding rule
@@ -60,9 +60,9 @@ pub rule-with : (F : Format) (child : Ticker) (k : Kind) (n : ℕ) (l : Float) (
     → rule F child k n l c e ts (world f ans) ≡ ruleWith (suc f) F child k n l c e ts (world f ans)
 unfolding ruleWith
 rule-with F child While n l c e [] f ans = refl
-rule-with F child While n l (cell x p m) e (t ∷ ts) f ans = refl
+rule-with F child While n l c e (t ∷ ts) f ans = refl
 rule-with F child WhileAll n l c e [] f ans = refl
-rule-with F child WhileAll n l (cell x p m) e (t ∷ ts) f ans = refl
+rule-with F child WhileAll n l c e (t ∷ ts) f ans = refl
 rule-with F child Wait n l c e ts f ans = refl
 rule-with F child WaitForever n l c e ts f ans = refl
 rule-with F child Action n l c e ts f ans = refl
@@ -79,12 +79,9 @@ rule-with F child WhenAny n l c e ts f ans = refl
 rule-with F child After n l c e ts f ans = refl
 rule-with F child Race n l c e ts f ans = refl
 
-abbrev markIn : Cell → ℕ
-markIn (cell x p m) = m
-
 -- the mark stays, and the children's shapes
 abbrev pub KeptNext : Cell → Forest → Next → Type 0
-KeptNext c ts x = (markIn (x .0) ≡ markIn c) × (shapes (x .1) ≡ shapes ts)
+KeptNext c ts x = (x .0 .mark ≡ c .mark) × (shapes (x .1) ≡ shapes ts)
 
 -- the two walks do alike at an action
 abbrev pub Acts : Pairing → Format → Type 0
@@ -98,9 +95,9 @@ module _ (R : Pairing) (F : Format) (acts : Acts R F) (D : Shape → Type 0) (ch
   only-pair ch c e (t ∷ ts) p d =
       sim-map R p (Same t) (KeptNext c (t ∷ ts)) (λ w. child t e w) (λ w. child' t e w) ch (λ t'. (c, t' ∷ ts)) (g t e p (d .0)) (λ t' x. (refl, λ i. Shape._∷_ (x .0 i) (shapes ts)))
 
-  place-pair : (x : Float) (n m : ℕ) (ts : Forest) (p : R .Worlds) (o o' : World → Out (ℕ × Forest)) → Both R p (KeptAt ts) o o'
-      → Both R p (KeptNext (cell x n m) ts) (λ w. atPlace (cell x n m) (o w)) (λ w. atPlace (cell x n m) (o' w))
-  place-pair x n m ts p o o' h = sim-map R p (KeptAt ts) (KeptNext (cell x n m) ts) o o' same (λ y. (cell x (y .0) m, y .1)) h (λ y z. (refl, z))
+  place-pair : (c : Cell) (ts : Forest) (p : R .Worlds) (o o' : World → Out (ℕ × Forest)) → Both R p (KeptAt ts) o o'
+      → Both R p (KeptNext c ts) (λ w. atPlace c (o w)) (λ w. atPlace c (o' w))
+  place-pair c ts p o o' h = sim-map R p (KeptAt ts) (KeptNext c ts) o o' same (λ y. (withPlace (y .0) c, y .1)) h (λ y z. (refl, z))
 
   cell-pair : (c : Cell) (ts : Forest) (p : R .Worlds) (o o' : World → Out Forest) → Both R p (Kept ts) o o' → Both R p (KeptNext c ts) (λ w. inCell c (o w)) (λ w. inCell c (o' w))
   cell-pair c ts p o o' h = sim-map R p (Kept ts) (KeptNext c ts) o o' same (λ us. (c, us)) h (λ us z. (refl, z))
@@ -111,36 +108,36 @@ module _ (R : Pairing) (F : Format) (acts : Acts R F) (D : Shape → Type 0) (ch
   timeout-pair : (n : ℕ) (l : Float) (c : Cell) (e : Event) (ts : Forest) (p : R .Worlds) → Each D (shapes ts)
       → Both R p (KeptNext c ts) (λ w. rule F child Timeout n l c e ts w) (λ w. rule F child' Timeout n l c e ts w)
   unfolding rule
-  timeout-pair n l (cell x a m) e [] p d = sim-short R p (KeptNext (cell x a m) [])
-  timeout-pair n l (cell x a m) e (t ∷ ts) p d = sim-then R p (Same t) (KeptNext (cell x a m) (t ∷ ts)) (λ w. child t e w) (λ w. child' t e w) _ _ (g t e p (d .0)) λ s. elim s [
-    | Running ↦ λ r t' q y. sim-either R q (KeptNext (cell x a m) (t ∷ ts)) (le l (add F x (dt e))) _ _ _ _
-        (sim-done R q (KeptNext (cell x a m) (t ∷ ts)) Failure (sub F (add F x (dt e)) l) (cell (add F x (dt e)) a m, t' ∷ ts) (refl, λ i. Shape._∷_ (y .0 i) (shapes ts)))
-        (sim-done R q (KeptNext (cell x a m) (t ∷ ts)) Running zeroTime (cell (add F x (dt e)) a m, t' ∷ ts) (refl, λ i. Shape._∷_ (y .0 i) (shapes ts)))
-    | Success ↦ λ r t' q y. sim-done R q (KeptNext (cell x a m) (t ∷ ts)) Success r (cell x a m, t' ∷ ts) (refl, λ i. Shape._∷_ (y .0 i) (shapes ts))
-    | Failure ↦ λ r t' q y. sim-done R q (KeptNext (cell x a m) (t ∷ ts)) Failure r (cell x a m, t' ∷ ts) (refl, λ i. Shape._∷_ (y .0 i) (shapes ts))
+  timeout-pair n l c e [] p d = sim-short R p (KeptNext c [])
+  timeout-pair n l c e (t ∷ ts) p d = sim-then R p (Same t) (KeptNext c (t ∷ ts)) (λ w. child t e w) (λ w. child' t e w) _ _ (g t e p (d .0)) λ s. elim s [
+    | Running ↦ λ r t' q y. sim-either R q (KeptNext c (t ∷ ts)) (le l (add F (c .time) (dt e))) _ _ _ _
+        (sim-done R q (KeptNext c (t ∷ ts)) Failure (sub F (add F (c .time) (dt e)) l) (withTime (add F (c .time) (dt e)) c, t' ∷ ts) (refl, λ i. Shape._∷_ (y .0 i) (shapes ts)))
+        (sim-done R q (KeptNext c (t ∷ ts)) Running zeroTime (withTime (add F (c .time) (dt e)) c, t' ∷ ts) (refl, λ i. Shape._∷_ (y .0 i) (shapes ts)))
+    | Success ↦ λ r t' q y. sim-done R q (KeptNext c (t ∷ ts)) Success r (c, t' ∷ ts) (refl, λ i. Shape._∷_ (y .0 i) (shapes ts))
+    | Failure ↦ λ r t' q y. sim-done R q (KeptNext c (t ∷ ts)) Failure r (c, t' ∷ ts) (refl, λ i. Shape._∷_ (y .0 i) (shapes ts))
   ]
 
   wait-pair : (n : ℕ) (l : Float) (c : Cell) (e : Event) (ts : Forest) (p : R .Worlds) → Both R p (KeptNext c ts) (λ w. rule F child Wait n l c e ts w) (λ w. rule F child' Wait n l c e ts w)
   unfolding rule
-  wait-pair n l (cell x a m) (Update y) ts p = sim-either R p (KeptNext (cell x a m) ts) (le l (add F x y)) _ _ _ _
-      (sim-done R p (KeptNext (cell x a m) ts) Success (sub F (add F x y) l) (cell l a m, ts) (refl, refl))
-      (sim-done R p (KeptNext (cell x a m) ts) Running zeroTime (cell (add F x y) a m, ts) (refl, refl))
+  wait-pair n l c (Update y) ts p = sim-either R p (KeptNext c ts) (le l (add F (c .time) y)) _ _ _ _
+      (sim-done R p (KeptNext c ts) Success (sub F (add F (c .time) y) l) (withTime l c, ts) (refl, refl))
+      (sim-done R p (KeptNext c ts) Running zeroTime (withTime (add F (c .time) y) c, ts) (refl, refl))
   wait-pair n l c Other ts p = sim-done R p (KeptNext c ts) Running zeroTime (c, ts) (refl, refl)
 
   while-pair : (b : ℕ) (c : Cell) (e : Event) (ts : Forest) (p : R .Worlds) → Each D (shapes ts) → Both R p (KeptNext c ts) (λ w. whileWith b child c e ts w) (λ w. whileWith b child' c e ts w)
   while-pair b c e [] p d = sim-short R p (KeptNext c [])
-  while-pair b (cell x a m) e (t ∷ ts) p d = sim-then R p (Same t) (KeptNext (cell x a m) (t ∷ ts)) (λ w. child t e w) (λ w. child' t e w) _ _ (g t e p (d .0)) λ s. elim s [
-    | Running ↦ λ r t' q y. sim-map R q (KeptAt ts) (KeptNext (cell x a m) (t ∷ ts)) (λ w. whileBody child b a e ts w) (λ w. whileBody child' b a e ts w) same (λ z. (cell x (z .0) m, t' ∷ z .1))
-        (body-pair R D child child' g b a e ts q (d .1)) (λ z u. (refl, λ i. Shape._∷_ (y .0 i) (u i)))
-    | Success ↦ λ r t' q y. sim-done R q (KeptNext (cell x a m) (t ∷ ts)) Success r (cell x a m, t' ∷ ts) (refl, λ i. Shape._∷_ (y .0 i) (shapes ts))
-    | Failure ↦ λ r t' q y. sim-done R q (KeptNext (cell x a m) (t ∷ ts)) Failure r (cell x a m, t' ∷ ts) (refl, λ i. Shape._∷_ (y .0 i) (shapes ts))
+  while-pair b c e (t ∷ ts) p d = sim-then R p (Same t) (KeptNext c (t ∷ ts)) (λ w. child t e w) (λ w. child' t e w) _ _ (g t e p (d .0)) λ s. elim s [
+    | Running ↦ λ r t' q y. sim-map R q (KeptAt ts) (KeptNext c (t ∷ ts)) (λ w. whileBody child b (c .place) e ts w) (λ w. whileBody child' b (c .place) e ts w) same (λ z. (withPlace (z .0) c, t' ∷ z .1))
+        (body-pair R D child child' g b (c .place) e ts q (d .1)) (λ z u. (refl, λ i. Shape._∷_ (y .0 i) (u i)))
+    | Success ↦ λ r t' q y. sim-done R q (KeptNext c (t ∷ ts)) Success r (c, t' ∷ ts) (refl, λ i. Shape._∷_ (y .0 i) (shapes ts))
+    | Failure ↦ λ r t' q y. sim-done R q (KeptNext c (t ∷ ts)) Failure r (c, t' ∷ ts) (refl, λ i. Shape._∷_ (y .0 i) (shapes ts))
   ]
 
   while-all-pair : (b : ℕ) (c : Cell) (e : Event) (ts : Forest) (p : R .Worlds) → Each D (shapes ts)
       → Both R p (KeptNext c ts) (λ w. whileAllWith b child c e ts w) (λ w. whileAllWith b child' c e ts w)
   while-all-pair b c e [] p d = sim-short R p (KeptNext c [])
-  while-all-pair b (cell x a m) e (t ∷ ts) p d =
-      place-pair x a m (t ∷ ts) p (λ w. whileAll child b e a e t ts w) (λ w. whileAll child' b e a e t ts w) (loop-pair R D child child' g b e a e t ts p (d .0) (d .1))
+  while-all-pair b c e (t ∷ ts) p d =
+      place-pair c (t ∷ ts) p (λ w. whileAll child b e (c .place) e t ts w) (λ w. whileAll child' b e (c .place) e t ts w) (loop-pair R D child child' g b e (c .place) e t ts p (d .0) (d .1))
 
   pub rule-pair : (b : ℕ) (k : Kind) (n : ℕ) (l : Float) (c : Cell) (e : Event) (ts : Forest) (p : R .Worlds) → Each D (shapes ts)
       → Both R p (KeptNext c ts) (λ w. ruleWith b F child k n l c e ts w) (λ w. ruleWith b F child' k n l c e ts w)
@@ -151,13 +148,13 @@ module _ (R : Pairing) (F : Format) (acts : Acts R F) (D : Shape → Type 0) (ch
   rule-pair b Wait n l c e ts p d = wait-pair n l c e ts p
   rule-pair b WaitForever n l c e ts p d = sim-done R p (KeptNext c ts) Running zeroTime (c, ts) (refl, refl)
   rule-pair b Timeout n l c e ts p d = timeout-pair n l c e ts p d
-  rule-pair b If n l (cell x a m) e ts p d = place-pair x a m ts p (λ w. ifAt child a e ts w) (λ w. ifAt child' a e ts w) (if-pair R D child child' g e ts a p d)
-  rule-pair b Sequence n l (cell x a m) e ts p d = place-pair x a m ts p (λ w. sequenceAt child a e ts w) (λ w. sequenceAt child' a e ts w) (seq-pair R D child child' g e ts a p d)
-  rule-pair b Select n l (cell x a m) e ts p d =
-      let o : World → Out (ℕ × Forest) = λ w. sequenceAt (exchanging child) a e ts w in
-      let o' : World → Out (ℕ × Forest) = λ w. sequenceAt (exchanging child') a e ts w in
-      place-pair x a m ts p (λ w. exchange (o w)) (λ w. exchange (o' w))
-      (exchange-pair p (KeptAt ts) o o' (seq-pair R D (exchanging child) (exchanging child') (exchanging-alike R D child child' g) e ts a p d))
+  rule-pair b If n l c e ts p d = place-pair c ts p (λ w. ifAt child (c .place) e ts w) (λ w. ifAt child' (c .place) e ts w) (if-pair R D child child' g e ts (c .place) p d)
+  rule-pair b Sequence n l c e ts p d = place-pair c ts p (λ w. sequenceAt child (c .place) e ts w) (λ w. sequenceAt child' (c .place) e ts w) (seq-pair R D child child' g e ts (c .place) p d)
+  rule-pair b Select n l c e ts p d =
+      let o : World → Out (ℕ × Forest) = λ w. sequenceAt (exchanging child) (c .place) e ts w in
+      let o' : World → Out (ℕ × Forest) = λ w. sequenceAt (exchanging child') (c .place) e ts w in
+      place-pair c ts p (λ w. exchange (o w)) (λ w. exchange (o' w))
+      (exchange-pair p (KeptAt ts) o o' (seq-pair R D (exchanging child) (exchanging child') (exchanging-alike R D child child' g) e ts (c .place) p d))
   rule-pair b MemorylessSequence n l c e ts p d = cell-pair c ts p (λ w. memoryless child e ts w) (λ w. memoryless child' e ts w) (mem-pair R D child child' g e ts p d)
   rule-pair b MemorylessSelector n l c e ts p d =
       let o : World → Out Forest = λ w. memoryless (exchanging child) e ts w in
@@ -172,13 +169,13 @@ module _ (R : Pairing) (F : Format) (acts : Acts R F) (D : Shape → Type 0) (ch
       let o' : World → Out Forest = λ w. whenAll (exchanging child') (largest F) e ts w in
       cell-pair c ts p (λ w. exchange (o w)) (λ w. exchange (o' w))
       (exchange-pair p (Kept ts) o o' (all-pair R D (exchanging child) (exchanging child') (exchanging-alike R D child child' g) (largest F) e ts p d))
-  rule-pair b After n l (cell x a m) e ts p d =
-      place-pair x a m ts p (λ w. afterAt child (largest F) a e ts w) (λ w. afterAt child' (largest F) a e ts w) (after-pair R D child child' g (largest F) e ts a p d)
+  rule-pair b After n l c e ts p d =
+      place-pair c ts p (λ w. afterAt child (largest F) (c .place) e ts w) (λ w. afterAt child' (largest F) (c .place) e ts w) (after-pair R D child child' g (largest F) e ts (c .place) p d)
   rule-pair b Race n l c e ts p d = cell-pair c ts p (λ w. raceFrom child e ts w) (λ w. raceFrom child' e ts w) (race-pair R D child child' g e ts p d)
 
 -- ---- the visit of a node, around its rule
 pub mark-node : (k : Kind) (n : ℕ) (l : Float) (c c' : Cell) (b b' : ℕ) (ts us : Forest) → KeptNext c ts (c', us) → Same (node k n l c b ts) (node k n l c' b' us)
-mark-node k n l (cell x p m) (cell x' p' m') b b' ts us h = ((λ i. shp k n l (h .1 i)), ap (λ (z : ℕ). eqb z 1) (h .0))
+mark-node k n l c c' b b' ts us h = ((λ i. shp k n l (h .1 i)), ap (λ (z : ℕ). eqb z 1) (h .0))
 
 -- what a tick does once its rule is done
 abbrev pub leave : Kind → ℕ → Float → Status → Float → Next → World → Out Tree

@@ -17,7 +17,7 @@ use Rattle.rules.specs.declared.behavior.Kind.the-variants.{Wait, WaitForever, 
 use Rattle.rules.specs.declared.behavior.Kind.the-variants.{Select, If, Sequence, MemorylessSequence, MemorylessSelector}
 use Rattle.rules.specs.declared.behavior.Kind.the-variants.{While, WhileAll, WhenAll, WhenAny, After, Race}
 use Rattle.rules.specs.Kinds.{code, kindOf, fewest, most, children, timed}
-use Rattle.rules.specs.Tree.{Cell, cell, freshCell, Tree, node, Forest, [], _∷_, size, sizes, count}
+use Rattle.rules.specs.Tree.{Cell, freshCell, Tree, node, Forest, [], _∷_, size, sizes, count}
 use Rattle.rules.specs.Table.{zeroBits, countAllowed, limitAllowed, rowAllowed}
 use Rattle.rules.specs.Cells.{cells, withCells, withCellsAll, column, columns, elapsed, lastPlace, cellAllowed, Found, faulty, none, badCell, badCells, boardOf}
 use Rattle.rules.specs.Cells as inCell
@@ -79,23 +79,28 @@ allowed x n l h =
     (leb-true x 16 (a .0), record { enough = leb-true (fewest k) (children k n) (b .0); few = leb-true (children k n) (most k) (b .1) })
 
 -- ---- cells
-allowed-cell : (ended mayEnd : Bool) (k : Kind) (n : ℕ) (x : Float) (p m : ℕ) → cellAllowed ended mayEnd k n (cell x p m) ≡ true → (p ≤ lastPlace k n) × (m < 2)
+allowed-cell : (ended mayEnd : Bool) (k : Kind) (n : ℕ) (c : Cell) → cellAllowed ended mayEnd k n c ≡ true → (c .place ≤ lastPlace k n) × (c .mark < 2)
 unfolding cellAllowed
-allowed-cell true mayEnd k n x p m h =
-    let a = and-eq-true-iff (zeroBits x && eqb p 0) (eqb m 0) .0 h in
-    let b = and-eq-true-iff (zeroBits x) (eqb p 0) .0 (a .0) in
-    (omega (arith, eqb-true p 0 (b .1)), omega (arith, eqb-true m 0 (a .1)))
-allowed-cell false mayEnd k n x p m h = go (eqb m 0) refl h
+allowed-cell true mayEnd k n c h =
+    let a = and-eq-true-iff (zeroBits (c .time) && eqb (c .place) 0) (eqb (c .mark) 0) .0 h in
+    let b = and-eq-true-iff (zeroBits (c .time)) (eqb (c .place) 0) .0 (a .0) in
+    (omega (arith, eqb-true (c .place) 0 (b .1)), omega (arith, eqb-true (c .mark) 0 (a .1)))
+allowed-cell false mayEnd k n c h = go (eqb (c .mark) 0) refl h
   where
-    go : (b : Bool) → eqb m 0 ≡ b
-        → cond b (cond (timed k) (elapsed x) (zeroBits x) && leb p (lastPlace k n)) (eqb m 1 && mayEnd && zeroBits x && eqb p 0) ≡ true
-        → (p ≤ lastPlace k n) × (m < 2)
-    go true e h = (leb-true p (lastPlace k n) (and-eq-true-iff (cond (timed k) (elapsed x) (zeroBits x)) (leb p (lastPlace k n)) .0 h .1), omega (arith, eqb-true m 0 e))
+    go : (b : Bool) → eqb (c .mark) 0 ≡ b
+        → cond b
+        (cond (timed k) (elapsed (c .time)) (zeroBits (c .time)) && leb (c .place) (lastPlace k n))
+        (eqb (c .mark) 1 && mayEnd && zeroBits (c .time) && eqb (c .place) 0) ≡ true
+        → (c .place ≤ lastPlace k n) × (c .mark < 2)
+    go true e h = (
+      leb-true (c .place) (lastPlace k n) (and-eq-true-iff (cond (timed k) (elapsed (c .time)) (zeroBits (c .time))) (leb (c .place) (lastPlace k n)) .0 h .1),
+      omega (arith, eqb-true (c .mark) 0 e),
+    )
     go false e h =
-        let a = and-eq-true-iff (eqb m 1 && mayEnd && zeroBits x) (eqb p 0) .0 h in
-        let b = and-eq-true-iff (eqb m 1 && mayEnd) (zeroBits x) .0 (a .0) in
-        let c = and-eq-true-iff (eqb m 1) mayEnd .0 (b .0) in
-        (omega (arith, eqb-true p 0 (a .1)), omega (arith, eqb-true m 1 (c .0)))
+        let x = and-eq-true-iff (eqb (c .mark) 1 && mayEnd && zeroBits (c .time)) (eqb (c .place) 0) .0 h in
+        let y = and-eq-true-iff (eqb (c .mark) 1 && mayEnd) (zeroBits (c .time)) .0 (x .0) in
+        let z = and-eq-true-iff (eqb (c .mark) 1) mayEnd .0 (y .0) in
+        (omega (arith, eqb-true (c .place) 0 (x .1)), omega (arith, eqb-true (c .mark) 1 (z .0)))
 
 never : {A : Type 0} (p m : ℕ) → faulty p ≡ none m → A
 never p m h = absurd (let z : _≡_ {A = ℕ} 0 1 = cc in omega arith)
@@ -212,11 +217,11 @@ module _ (kinds ns : List ℕ) (limits : List Float) (ends : List ℕ) where
     unfolding badCell Fits
 
     at-fits : (q : ℕ) (t : Tree) (ended mayEnd : Bool) (at m : ℕ) → At kinds ns limits ends q t → badCell ended mayEnd at t ≡ none m → Fits t
-    at-fits q (node k n l (cell x p y) b ts) ended mayEnd at m v h =
-        let a = allowed-if (cellAllowed ended mayEnd k n (cell x p y)) _ at m h in
-        let c = allowed-cell ended mayEnd k n x p y (a .0) in
+    at-fits q (node k n l c b ts) ended mayEnd at m v h =
+        let a = allowed-if (cellAllowed ended mayEnd k n c) _ at m h in
+        let small = allowed-cell ended mayEnd k n c (a .0) in
         let r = v .0 in
-        ((omega (arith, c .0, r .kids, last-place k n (row-counted q k n l (count ts) r .enough)), c .1), ats-fit (suc q) ts (getD ends q 0) _ _ (suc at) m (v .1) (a .1))
+        ((omega (arith, small .0, r .kids, last-place k n (row-counted q k n l (count ts) r .enough)), small .1), ats-fit (suc q) ts (getD ends q 0) _ _ (suc at) m (v .1) (a .1))
 
     ats-fit : (q : ℕ) (ts : Forest) (stop : ℕ) (ended mayEnd : Bool) (at m : ℕ) → Ats kinds ns limits ends q ts stop → badCells ended mayEnd at ts ≡ none m → FitsAll ts
     ats-fit q [] stop ended mayEnd at m v h = tt
@@ -346,14 +351,14 @@ loaded kinds ns limits ends times places marks t fuel b v few a c d =
     ∙ sym (words-with kinds ends places marks ns limits times 0 t cs (behind (size (withCells t cs .0)) fuel 0 0 b) v refl (omega arith))
 
 -- ---- what is put back
-module _ (f : ℕ → ℕ) (g : Cell → ℕ → ℕ) (same : (s : ℕ) (k : Kind) (x : Float) (p m b : ℕ) → p < 256 → m < 2 → f (pack s (code k) p m b) ≡ g (cell x p m) b) where
+module _ (f : ℕ → ℕ) (g : Cell → ℕ → ℕ) (same : (s : ℕ) (k : Kind) (c : Cell) (b : ℕ) → c .place < 256 → c .mark < 2 → f (pack s (code k) (c .place) (c .mark) b) ≡ g c b) where
   mutual
     unfolding words Fits size column
 
     put-tree : (t : Tree) (n : ℕ) (post rest : List ℕ) → Fits t → size t ≤ 256
         → map f (take (size t + n) (words t post)) ++ rest ≡ column g t (map f (take n post) ++ rest)
-    put-tree (node k n' l (cell x p m) b ts) n post rest v h =
-        let first = same (sizes ts) k x p m b (omega (arith, count-sizes ts, v .0 .0)) (v .0 .1) in
+    put-tree (node k n' l c b ts) n post rest v h =
+        let first = same (sizes ts) k c b (omega (arith, count-sizes ts, v .0 .0)) (v .0 .1) in
         let behind = put-trees ts n post rest (v .1) (omega arith) in
         rw (suc-add (sizes ts) n) (λ i. List._∷_ (first i) (behind i))
 
@@ -376,16 +381,16 @@ pub put-places : (t : Tree) (f u : ℕ) (b : Bool) (l : List ℕ)
     → Fits t
     → size t ≤ 256
     → over inWord.placeOf (size t) (working t f u b) l ≡ column inCell.placeOf t (drop (size t) l)
-put-places t f u b l v h = put-over inWord.placeOf inCell.placeOf (λ s k x p m b small one. place-pack s k p m b small) t f u b l v h
+put-places t f u b l v h = put-over inWord.placeOf inCell.placeOf (λ s k c b small one. place-pack s k (c .place) (c .mark) b small) t f u b l v h
 
 pub put-marks : (t : Tree) (f u : ℕ) (b : Bool) (l : List ℕ)
     → Fits t
     → size t ≤ 256
     → over inWord.markOf (size t) (working t f u b) l ≡ column inCell.markOf t (drop (size t) l)
-put-marks t f u b l v h = put-over inWord.markOf inCell.markOf (λ s k x p m b small one. mark-pack s k p m b one) t f u b l v h
+put-marks t f u b l v h = put-over inWord.markOf inCell.markOf (λ s k c b small one. mark-pack s k (c .place) (c .mark) b one) t f u b l v h
 
 pub put-board : (t : Tree) (f u : ℕ) (b : Bool) (l : List ℕ)
     → Fits t
     → size t ≤ 256
     → over seenOf (size t) (working t f u b) l ≡ column boardOf t (drop (size t) l)
-put-board t f u b l v h = put-over seenOf boardOf (λ s k x p m b small one. seen-pack s k p m b) t f u b l v h
+put-board t f u b l v h = put-over seenOf boardOf (λ s k c b small one. seen-pack s k (c .place) (c .mark) b) t f u b l v h

@@ -11,7 +11,7 @@ use borrow.Author.Tests.{lt-ltb, le-ltb, le-leb, lt-leb}
 use Rattle.rules.specs.declared.status.Status.the-variants.{Running, Success, Failure}
 use Rattle.rules.specs.declared.event.Event.{Event}
 use Rattle.rules.specs.declared.event.Event.the-variants.{Update, Other}
-use Rattle.rules.specs.Tree.{zeroTime, cell, Tree, node, Forest, [], _∷_, fresh, freshAll, mark, sizes, count}
+use Rattle.rules.specs.Tree.{zeroTime, Tree, node, Forest, [], _∷_, fresh, freshAll, mark, sizes, count}
 use Rattle.rules.specs.Outcome.{eventOf, World, Out, done, Ticker, waiting, smaller}
 use Rattle.rules.specs.Sequence.{keep, pass, sequenceFrom, sequenceAt, memoryless}
 use Rattle.rules.specs.WhenAll.{whenAllFrom, whenAll, raceFrom, afterFrom, afterAt}
@@ -213,11 +213,11 @@ module _ (G : Given) (d : ℕ) (child : Ticker) (v : Visitor) (g : Ticks G d chi
   when-link [] fr x true least (suc k) f u vs e n = rw (le-ltb (fr .q) (fr .stop) (omega (arith, vs))) (went u (unspent f u e) vs refl refl)
   when-link [] fr x false least (suc k) f u vs e n = rw (le-ltb (fr .q) (fr .stop) (omega (arith, vs))) (went u (unspent f u e) vs refl refl)
   when-link (t ∷ ts) fr x all least zero f u vs e n = absurd (not-suc-le-zero n)
-  when-link (node kd m l (cell y p mk) bd us ∷ ts) fr x all least (suc k) f u vs e n =
-      let t : Tree = node kd m l (cell y p mk) bd us in
-      let small : mk < 2 = at-mark-small G (fr .q) kd m l y p mk bd us d (vs .0) in
-      rw (lt-ltb (fr .q) (fr .stop) (ats-less G (fr .q) t ts (fr .stop) d vs), word-in fr ts f u t, mark-pack (sizes us) kd p mk bd small, unmarked mk small)
-      (sim-unless (trees fr) (suc f) (eqb mk 1) _ _ _ _
+  when-link (node kd m l c bd us ∷ ts) fr x all least (suc k) f u vs e n =
+      let t : Tree = node kd m l c bd us in
+      let small : c .mark < 2 = at-mark-small G (fr .q) kd m l c bd us d (vs .0) in
+      rw (lt-ltb (fr .q) (fr .stop) (ats-less G (fr .q) t ts (fr .stop) d vs), word-in fr ts f u t, mark-pack (sizes us) kd (c .place) (c .mark) bd small, unmarked (c .mark) small)
+      (sim-unless (trees fr) (suc f) (eqb (c .mark) 1) _ _ _ _
       (rw (end-at fr ts f u t (vs .0), ← over-words fr t (vs .0) ts f u, ← over-times fr t (vs .0) ts)
       (keep-link fr t (vs .0) f f (omega arith) (whenAllFrom child (event G x) all least ts (worldAt G f u)) _
       (when-link ts (over fr t (vs .0)) x all least k f u (vs .1) e (le-of-suc-le-suc n))))

@@ -9,7 +9,7 @@ use borrow.Author.Tests.{le-leb, lt-leb}
 use lib.Ieee.{Float}
 use lib.ListN.{getD, set, length, length-reverseAux}
 use Rattle.rules.specs.declared.behavior.Kind.{Kind}
-use Rattle.rules.specs.Tree.{zeroTime, Cell, cell, Tree, node, Forest, [], _∷_, fresh, freshAll, mark, sizes, count}
+use Rattle.rules.specs.Tree.{zeroTime, Cell, withTime, withPlace, withMark, Tree, node, Forest, [], _∷_, fresh, freshAll, mark, sizes, count}
 use Rattle.rules.specs.Cells.{placeOf, markOf}
 use Rattle.work.specs.Word.{kindIn}
 use Rattle.work.specs.Array.{wordAt, endOf, setPlace, setSeen, setMark, freshWords, freshTimes, childFrom}
@@ -105,18 +105,18 @@ module _ {G : Given} {d : ℕ} where
       )
           (set-here (fr .before) _ _ (fr .q) (fr .words-before) (wordOf (node k n l c' bd' ts)))
 
-      module _ (k : Kind) (n : ℕ) (l x : Float) (p m bd : ℕ) (ts : Forest) where
-        pub place-put : (i : ℕ) → setPlace (wordsIn fr (node k n l (cell x p m) bd ts ∷ us) f u) (fr .q) i ≡ wordsIn fr (node k n l (cell x i m) bd ts ∷ us) f u
-        place-put i = rw (word-in (node k n l (cell x p m) bd ts)) (word-put k n l (cell x p m) (cell x i m) bd bd ts _ (put-place (sizes ts) k p m bd i))
+      module _ (k : Kind) (n : ℕ) (l : Float) (c : Cell) (bd : ℕ) (ts : Forest) where
+        pub place-put : (i : ℕ) → setPlace (wordsIn fr (node k n l c bd ts ∷ us) f u) (fr .q) i ≡ wordsIn fr (node k n l (withPlace i c) bd ts ∷ us) f u
+        place-put i = rw (word-in (node k n l c bd ts)) (word-put k n l c (withPlace i c) bd bd ts _ (put-place (sizes ts) k (c .place) (c .mark) bd i))
 
-        pub mark-put : setMark (wordsIn fr (node k n l (cell x p m) bd ts ∷ us) f u) (fr .q) ≡ wordsIn fr (node k n l (cell x p 1) bd ts ∷ us) f u
-        mark-put = rw (word-in (node k n l (cell x p m) bd ts)) (word-put k n l (cell x p m) (cell x p 1) bd bd ts _ (put-mark (sizes ts) k p m bd))
+        pub mark-put : setMark (wordsIn fr (node k n l c bd ts ∷ us) f u) (fr .q) ≡ wordsIn fr (node k n l (withMark 1 c) bd ts ∷ us) f u
+        mark-put = rw (word-in (node k n l c bd ts)) (word-put k n l c (withMark 1 c) bd bd ts _ (put-mark (sizes ts) k (c .place) (c .mark) bd))
 
-        pub seen-put : (i : ℕ) → i < 4 → setSeen (wordsIn fr (node k n l (cell x p m) bd ts ∷ us) f u) (fr .q) i ≡ wordsIn fr (node k n l (cell x p m) i ts ∷ us) f u
-        seen-put i j = rw (word-in (node k n l (cell x p m) bd ts)) (word-put k n l (cell x p m) (cell x p m) bd i ts _ (put-seen (sizes ts) k p m bd i j))
+        pub seen-put : (i : ℕ) → i < 4 → setSeen (wordsIn fr (node k n l c bd ts ∷ us) f u) (fr .q) i ≡ wordsIn fr (node k n l c i ts ∷ us) f u
+        seen-put i j = rw (word-in (node k n l c bd ts)) (word-put k n l c c bd i ts _ (put-seen (sizes ts) k (c .place) (c .mark) bd i j))
 
       pub marked-words : (t : Tree) → setMark (wordsIn fr (t ∷ us) f u) (fr .q) ≡ wordsIn fr (mark t ∷ us) f u
-      marked-words (node k n l (cell x p m) bd ts) = mark-put k n l x p m bd ts
+      marked-words (node k n l c bd ts) = mark-put k n l c bd ts
 
       pub end-at : (t : Tree) → First fr t → endOf (wordsIn fr (t ∷ us) f u) (fr .q) ≡ G .ends (fr .q)
       unfolding run
@@ -126,14 +126,14 @@ module _ {G : Given} {d : ℕ} where
 
     pub marked-times : (t : Tree) → timesIn fr (t ∷ us) ≡ timesIn fr (mark t ∷ us)
     unfolding run
-    marked-times (node k n l (cell x p m) bd ts) = refl
+    marked-times (node k n l c bd ts) = refl
 
-    module _ (k : Kind) (n : ℕ) (l x : Float) (p m bd : ℕ) (ts : Forest) where
-      pub time-in : getD (timesIn fr (node k n l (cell x p m) bd ts ∷ us)) (fr .q) zeroTime ≡ x
+    module _ (k : Kind) (n : ℕ) (l : Float) (c : Cell) (bd : ℕ) (ts : Forest) where
+      pub time-in : getD (timesIn fr (node k n l c bd ts ∷ us)) (fr .q) zeroTime ≡ c .time
       unfolding run
       time-in = get-here (fr .past) _ _ (fr .q) (fr .times-before) zeroTime
 
-      pub time-put : (y : Float) → set (timesIn fr (node k n l (cell x p m) bd ts ∷ us)) (fr .q) y ≡ timesIn fr (node k n l (cell y p m) bd ts ∷ us)
+      pub time-put : (y : Float) → set (timesIn fr (node k n l c bd ts ∷ us)) (fr .q) y ≡ timesIn fr (node k n l (withTime y c) bd ts ∷ us)
       unfolding run
       time-put y = set-here (fr .past) _ _ (fr .q) (fr .times-before) y
 

@@ -13,7 +13,7 @@ use Rattle.rules.specs.declared.behavior.Kind.{Kind}
 use Rattle.rules.specs.declared.behavior.Kind.the-variants.{Timeout, While}
 use Rattle.rules.specs.declared.status.Status.{Status}
 use Rattle.rules.specs.declared.status.Status.the-variants.{Running, Success, Failure}
-use Rattle.rules.specs.Tree.{Cell, cell, Tree, node, Forest, [], _∷_, fresh, sizes, count}
+use Rattle.rules.specs.Tree.{Cell, withTime, withPlace, Tree, node, Forest, [], _∷_, fresh, sizes, count}
 use Rattle.rules.specs.Outcome.{dt, Out, done, Ticker, _▸_}
 use Rattle.rules.specs.Loops.{put, freshAt, childAt, whileBody, whileAll}
 use Rattle.rules.specs.Sequence.{sequenceAt, memoryless}
@@ -41,11 +41,9 @@ pub record Node (G : Given) (d : ℕ) (k : Kind) (ts : Forest) : Type 0 where
   pub us : Forest
   pub n : ℕ
   pub limit : Float
-  pub time : Float
-  pub place : ℕ
-  pub mark : ℕ
+  pub cell : Cell
   pub board : ℕ
-  pub stands : Placed G (fr .q) k n limit (count ts) place mark
+  pub stands : Placed G (fr .q) k n limit (count ts) (cell .place) (cell .mark)
   pub below : Ats G (suc (fr .q)) ts (G .ends (fr .q)) d
   pub behind : Ats G (G .ends (fr .q)) us (fr .stop) (suc d)
 
@@ -58,14 +56,14 @@ module _ {G : Given} {d : ℕ} {k : Kind} {ts : Forest} (N : Node G d k ts) wher
   stop = G .ends (N .fr .q)
 
   abbrev place : ℕ
-  place = N .place
+  place = N .cell .place
 
   -- it with another cell and other children; and what a rule leaves
   abbrev pub nodeOf : Cell → Forest → Tree
   nodeOf c ts' = node k (N .n) (N .limit) c (N .board) ts'
 
   abbrev pub cellAt : ℕ → Cell
-  cellAt j = cell (N .time) j (N .mark)
+  cellAt j = withPlace j (N .cell)
 
   abbrev pub left : View G Next
   left = record {
@@ -90,20 +88,20 @@ module _ {G : Given} {d : ℕ} {k : Kind} {ts : Forest} (N : Node G d k ts) wher
         same-sizes : sizes ts ≡ sizes ts'
         same-sizes = omega (arith, ats-size G (suc q) ts stop d (N .below), ats-size G (suc q) ts' stop d vs)
 
-    node-good : (y : Float) (j : ℕ) → j ≤ count ts' → At G q (nodeOf (cell y j (N .mark)) ts') (suc d)
+    node-good : (y : Float) (j : ℕ) → j ≤ count ts' → At G q (nodeOf (withTime y (cellAt j)) ts') (suc d)
     node-good y j o = (record { row = rw same-count (N .stands .row); place = o; mark = N .stands .mark; room = N .stands .room }, vs)
 
-    same-place : N .place ≤ count ts'
+    same-place : N .cell .place ≤ count ts'
     same-place = rw same-count (N .stands .place)
 
     node-put : (i j f u : ℕ) → setPlace (wordsIn (kidsAt i) ts' f u) q j ≡ wordsIn (kidsAt j) ts' f u
-    node-put i j f u = rw (node-words i f u, node-words j f u) (place-put (N .fr) (N .us) f u k (N .n) (N .limit) (N .time) i (N .mark) (N .board) ts' j)
+    node-put i j f u = rw (node-words i f u, node-words j f u) (place-put (N .fr) (N .us) f u k (N .n) (N .limit) (cellAt i) (N .board) ts' j)
 
     heads : (j f u : ℕ) → j ≤ count ts' → Heads (kidsAt j) ts' f u q j
     heads j f u o = record {
-      ends = rw (node-words j f u) (end-at (N .fr) (N .us) f u (nodeOf (cellAt j) ts') (node-good (N .time) j o));
+      ends = rw (node-words j f u) (end-at (N .fr) (N .us) f u (nodeOf (cellAt j) ts') (node-good (N .cell .time) j o));
       place = rw (node-words j f u, word-in (N .fr) (N .us) f u (nodeOf (cellAt j) ts'))
-          (place-pack (sizes ts') k j (N .mark) (N .board) (omega (arith, count-sizes ts', ats-size G (suc q) ts' stop d vs, N .stands .room, G .room)));
+          (place-pack (sizes ts') k j (N .cell .mark) (N .board) (omega (arith, count-sizes ts', ats-size G (suc q) ts' stop d vs, N .stands .room, G .room)));
       kept = node-put j j f u;
       first = add-one q;
     }
@@ -111,12 +109,12 @@ module _ {G : Given} {d : ℕ} {k : Kind} {ts : Forest} (N : Node G d k ts) wher
   placed-link : (most : ℕ) (o : Out (ℕ × Forest)) (o' : flat.Out) → Sim most (kids q 0 (kidsAt place)) o o' → Sim most left (atPlace (cellAt place) o) o'
   unfolding run
   placed-link most o o' e = sim-keep (kids q 0 (kidsAt place)) most left most o o' (λ y. (cellAt (y .0), y .1)) e (omega arith)
-      λ y f u vy. (node-good (y .1) (vy .0) (N .time) (y .0) (vy .1), rw (zero-add (y .0), node-put (y .1) (vy .0) place (y .0) f u) (node-words (y .1) (vy .0) (y .0) f u), refl)
+      λ y f u vy. (node-good (y .1) (vy .0) (N .cell .time) (y .0) (vy .1), rw (zero-add (y .0), node-put (y .1) (vy .0) place (y .0) f u) (node-words (y .1) (vy .0) (y .0) f u), refl)
 
   celled-link : (most : ℕ) (o : Out Forest) (o' : flat.Out) → Sim most (trees (kidsAt place)) o o' → Sim most left (inCell (cellAt place) o) o'
   unfolding run
   celled-link most o o' e = sim-keep (trees (kidsAt place)) most left most o o' (λ ts'. (cellAt place, ts')) e (omega arith)
-      λ ts' f u vs. (node-good ts' vs (N .time) place (same-place ts' vs), node-words ts' vs place f u, refl)
+      λ ts' f u vs. (node-good ts' vs (N .cell .time) place (same-place ts' vs), node-words ts' vs place f u, refl)
 
   module _ (child : Ticker) (w : Visitor) (g : Ticks G d child w) where
     -- ---- If: a branch, and the choice of one
@@ -138,7 +136,7 @@ module _ {G : Given} {d : ℕ} {k : Kind} {ts : Forest} (N : Node G d k ts) wher
     )
         (sim-keep (puts (kidsAt i) i ts') f chosenView most (childAt child i (event G y) ts' (worldAt G f u)) _ (λ t'. (i, put i t' ts')) (child-link G d child w g ts' i (kidsAt i) y f u vs e o) j
         λ t' f' u' v'. (
-          node-good (put i t' ts') v' (N .time) i (omega (arith, ats-count G (suc q) (put i t' ts') ts' stop d v' vs)),
+          node-good (put i t' ts') v' (N .cell .time) i (omega (arith, ats-count G (suc q) (put i t' ts') ts' stop d v' vs)),
           node-words (put i t' ts') v' i f' u',
           refl,
         ))
@@ -181,7 +179,7 @@ module _ {G : Given} {d : ℕ} {k : Kind} {ts : Forest} (N : Node G d k ts) wher
         let vb = at-fresh G (G .ends (G .ends (suc q))) b d (vs .1 .1 .0) in
         rw (z .place, lt-ltb q 255 (omega (arith, ats-less G (suc q) c (a ∷ b ∷ cs) stop d vs, N .stands .room, G .room)), add-one q)
         (sim-visit G d child w g chosenView (kidsAt 0) c (a ∷ b ∷ cs) y f u _ _ vs e λ s. elim s [
-          | Running ↦ λ r c' f' u' v' e'. went u' (still e') (node-good (c' ∷ a ∷ b ∷ cs) (v', vs .1) (N .time) 0 (omega arith)) (node-words (c' ∷ a ∷ b ∷ cs) (v', vs .1) 0 f' u') refl
+          | Running ↦ λ r c' f' u' v' e'. went u' (still e') (node-good (c' ∷ a ∷ b ∷ cs) (v', vs .1) (N .cell .time) 0 (omega arith)) (node-words (c' ∷ a ∷ b ∷ cs) (v', vs .1) 0 f' u') refl
           | Success ↦ λ r c' f' u' v' e'. rw (z .ends, chosen-link c' (a ∷ b ∷ cs) 0 1 r f' u' (v', vs .1) (omega arith), rest-event G y r)
               (branch-link (fresh c' ∷ fresh a ∷ b ∷ cs) 1 r f' u' (suc f) (vf c' v', (va, vs .1 .1)) (e' .few) (omega arith) (omega (arith, e' .burnt)))
           | Failure ↦ λ r c' f' u' v' e'. rw (z .ends, chosen-link c' (a ∷ b ∷ cs) 0 2 r f' u' (v', vs .1) (omega arith), rest-event G y r)
@@ -252,7 +250,7 @@ module _ {G : Given} {d : ℕ} {k : Kind} {c : Tree} {cs : Forest} (N : Node G d
   p = N .fr .q
 
   abbrev fr : Frame G d
-  fr = kidsAt N (N .place)
+  fr = kidsAt N (N .cell .place)
 
   inner : p < 255
   inner = omega (arith, ats-less G (suc p) c cs (G .ends p) d (N .below), N .stands .room, G .room)
@@ -262,51 +260,51 @@ module _ {G : Given} {d : ℕ} {k : Kind} {c : Tree} {cs : Forest} (N : Node G d
     vs = (v, N .below .1)
 
     kind-at : (f' u' : ℕ) → kindIn (wordAt (wordsIn fr (t ∷ cs) f' u') p) ≡ k
-    kind-at f' u' = rw (node-words N (t ∷ cs) vs (N .place) f' u', word-in (N .fr) (N .us) f' u' (nodeOf N (cellAt N (N .place)) (t ∷ cs)))
-        (kind-pack (sizes (t ∷ cs)) k (N .place) (N .mark) (N .board))
+    kind-at f' u' = rw (node-words N (t ∷ cs) vs (N .cell .place) f' u', word-in (N .fr) (N .us) f' u' (nodeOf N (cellAt N (N .cell .place)) (t ∷ cs)))
+        (kind-pack (sizes (t ∷ cs)) k (N .cell .place) (N .cell .mark) (N .board))
 
-    first-good : (x' : Float) → At G p (nodeOf N (cell x' (N .place) (N .mark)) (t ∷ cs)) (suc d)
-    first-good x' = node-good N (t ∷ cs) vs x' (N .place) (same-place N (t ∷ cs) vs)
+    first-good : (x' : Float) → At G p (nodeOf N (withTime x' (N .cell)) (t ∷ cs)) (suc d)
+    first-good x' = node-good N (t ∷ cs) vs x' (N .cell .place) (same-place N (t ∷ cs) vs)
 
-    first-words : (f' u' : ℕ) → wordsIn fr (t ∷ cs) f' u' ≡ wordsIn (N .fr) (nodeOf N (cellAt N (N .place)) (t ∷ cs) ∷ N .us) f' u'
-    first-words = node-words N (t ∷ cs) vs (N .place)
+    first-words : (f' u' : ℕ) → wordsIn fr (t ∷ cs) f' u' ≡ wordsIn (N .fr) (nodeOf N (cellAt N (N .cell .place)) (t ∷ cs) ∷ N .us) f' u'
+    first-words = node-words N (t ∷ cs) vs (N .cell .place)
 
   pub only-rule : (F : Format) (change : Status → Status)
       → ((s : Status) (r : Float) (ws : List ℕ) (ts : List Float) → kindIn (wordAt ws p) ≡ k → decorated F (lentOf G) p y s r ws ts ≡ out (seenAs (change s)) r ws ts)
-      → Sim (suc f) (left N) (only child change (cellAt N (N .place)) (event G y) (c ∷ cs) (worldAt G f u)) (on fr (c ∷ cs) f u (decorator F (lentOf G) w p y))
+      → Sim (suc f) (left N) (only child change (cellAt N (N .cell .place)) (event G y) (c ∷ cs) (worldAt G f u)) (on fr (c ∷ cs) f u (decorator F (lentOf G) w p y))
   unfolding decorator run
   only-rule F change same = rw (lt-ltb p 255 inner, add-one p) (sim-visit G d child w g (left N) fr c cs y f u _ _ (N .below) e
       λ s r t' f' u' v' e'. rw (same s r (wordsIn fr (t' ∷ cs) f' u') (timesIn fr (t' ∷ cs)) (kind-at t' v' f' u'))
-      (went u' (still e') (first-good t' v' (N .time)) (first-words t' v' f' u') refl))
+      (went u' (still e') (first-good t' v' (N .cell .time)) (first-words t' v' f' u') refl))
 
   pub timeout-rule : (F : Format)
       → k ≡ Timeout
-      → Sim (suc f) (left N) (rule F child Timeout (N .n) (N .limit) (cellAt N (N .place)) (event G y) (c ∷ cs) (worldAt G f u)) (on fr (c ∷ cs) f u (decorator F (lentOf G) w p y))
+      → Sim (suc f) (left N) (rule F child Timeout (N .n) (N .limit) (cellAt N (N .cell .place)) (event G y) (c ∷ cs) (worldAt G f u)) (on fr (c ∷ cs) f u (decorator F (lentOf G) w p y))
   unfolding rule decorator decorated timesOut run
   timeout-rule F kk = rw (lt-ltb p 255 inner, add-one p) (sim-visit G d child w g (left N) fr c cs y f u _ _ (N .below) e λ s. elim s [
     | Running ↦ λ r t' f' u' v' e'.
-        let now : Float = add F (N .time) (dt (event G y)) in
+        let now : Float = add F (N .cell .time) (dt (event G y)) in
         rw (
           kind-at t' v' f' u' ∙ kk,
-          time-in (N .fr) (N .us) k (N .n) (N .limit) (N .time) (N .place) (N .mark) (N .board) (t' ∷ cs),
+          time-in (N .fr) (N .us) k (N .n) (N .limit) (N .cell) (N .board) (t' ∷ cs),
           N .stands .row .limit,
           passed-in (nodesIn fr (t' ∷ cs)) (full-length fr (t' ∷ cs) (vs t' v')) (G .update) f' u' y,
-          time-put (N .fr) (N .us) k (N .n) (N .limit) (N .time) (N .place) (N .mark) (N .board) (t' ∷ cs) now,
+          time-put (N .fr) (N .us) k (N .n) (N .limit) (N .cell) (N .board) (t' ∷ cs) now,
         )
         (sim-either (left N) (suc f) (le (N .limit) now) _ _ _ _
         (went u' (still e') (first-good t' v' now) (first-words t' v' f' u') refl)
         (went u' (still e') (first-good t' v' now) (first-words t' v' f' u') refl))
-    | Success ↦ λ r t' f' u' v' e'. rw (kind-at t' v' f' u' ∙ kk) (went u' (still e') (first-good t' v' (N .time)) (first-words t' v' f' u') refl)
-    | Failure ↦ λ r t' f' u' v' e'. rw (kind-at t' v' f' u' ∙ kk) (went u' (still e') (first-good t' v' (N .time)) (first-words t' v' f' u') refl)
+    | Success ↦ λ r t' f' u' v' e'. rw (kind-at t' v' f' u' ∙ kk) (went u' (still e') (first-good t' v' (N .cell .time)) (first-words t' v' f' u') refl)
+    | Failure ↦ λ r t' f' u' v' e'. rw (kind-at t' v' f' u' ∙ kk) (went u' (still e') (first-good t' v' (N .cell .time)) (first-words t' v' f' u') refl)
   ])
 
   pub while-rule : (F : Format)
       → Dry child
-      → Sim (suc f) (left N) (rule F child While (N .n) (N .limit) (cellAt N (N .place)) (event G y) (c ∷ cs) (worldAt G f u)) (on fr (c ∷ cs) f u (whileLoop w p y))
+      → Sim (suc f) (left N) (rule F child While (N .n) (N .limit) (cellAt N (N .cell .place)) (event G y) (c ∷ cs) (worldAt G f u)) (on fr (c ∷ cs) f u (whileLoop w p y))
   unfolding rule whileLoop run
   while-rule F dry = rw (lt-ltb p 255 inner, add-one p) (sim-visit G d child w g (left N) fr c cs y f u _ _ (N .below) e λ s. elim s [
     | Running ↦ λ r c' f' u' v' e'.
-        let z = heads N (c' ∷ cs) (vs c' v') (N .place) f' u' (same-place N (c' ∷ cs) (vs c' v')) in
+        let z = heads N (c' ∷ cs) (vs c' v') (N .cell .place) f' u' (same-place N (c' ∷ cs) (vs c' v')) in
         rw (
           z .first,
           z .ends,
@@ -316,24 +314,24 @@ module _ {G : Given} {d : ℕ} {k : Kind} {c : Tree} {cs : Forest} (N : Node G d
           ← over-words fr c' v' cs f' u',
           ← over-times fr c' v' cs,
         )
-        (sim-keep (kids p 0 (over fr c' v')) (suc f') (left N) (suc f) (whileBody child (suc f) (N .place) (event G y) cs (worldAt G f' u')) _ (λ a. (cellAt N (a .0), c' ∷ a .1))
-        (body-link G d child w g dry f (N .place) (over fr c' v') y cs p f' u' (N .below .1) (e' .few) (omega (arith, e' .burnt)))
+        (sim-keep (kids p 0 (over fr c' v')) (suc f') (left N) (suc f) (whileBody child (suc f) (N .cell .place) (event G y) cs (worldAt G f' u')) _ (λ a. (cellAt N (a .0), c' ∷ a .1))
+        (body-link G d child w g dry f (N .cell .place) (over fr c' v') y cs p f' u' (N .below .1) (e' .few) (omega (arith, e' .burnt)))
         (omega (arith, e' .burnt))
         λ a f'' u'' va. (
-          node-good N (c' ∷ a .1) (v', va .0) (N .time) (a .0) (omega (arith, va .1)),
-          rw (zero-add (a .0), over-words fr c' v' (a .1) f'' u'', node-put N (c' ∷ a .1) (v', va .0) (N .place) (a .0) f'' u'') (node-words N (c' ∷ a .1) (v', va .0) (a .0) f'' u''),
+          node-good N (c' ∷ a .1) (v', va .0) (N .cell .time) (a .0) (omega (arith, va .1)),
+          rw (zero-add (a .0), over-words fr c' v' (a .1) f'' u'', node-put N (c' ∷ a .1) (v', va .0) (N .cell .place) (a .0) f'' u'') (node-words N (c' ∷ a .1) (v', va .0) (a .0) f'' u''),
           over-times fr c' v' (a .1),
         ))
-    | Success ↦ λ r t' f' u' v' e'. went u' (still e') (first-good t' v' (N .time)) (first-words t' v' f' u') refl
-    | Failure ↦ λ r t' f' u' v' e'. went u' (still e') (first-good t' v' (N .time)) (first-words t' v' f' u') refl
+    | Success ↦ λ r t' f' u' v' e'. went u' (still e') (first-good t' v' (N .cell .time)) (first-words t' v' f' u') refl
+    | Failure ↦ λ r t' f' u' v' e'. went u' (still e') (first-good t' v' (N .cell .time)) (first-words t' v' f' u') refl
   ])
 
   pub whileAll-rule : Dry child
       → 0 < count cs
-      → Sim (suc f) (left N) (atPlace (cellAt N (N .place)) (whileAll child (suc f) (event G y) (N .place) (event G y) c cs (worldAt G f u))) (on fr (c ∷ cs) f u (flat.whileAll w p y))
+      → Sim (suc f) (left N) (atPlace (cellAt N (N .cell .place)) (whileAll child (suc f) (event G y) (N .cell .place) (event G y) c cs (worldAt G f u))) (on fr (c ∷ cs) f u (flat.whileAll w p y))
   unfolding flat.whileAll
   whileAll-rule dry o =
-      let z = heads N (c ∷ cs) (N .below) (N .place) f u (N .stands .place) in
+      let z = heads N (c ∷ cs) (N .below) (N .cell .place) f u (N .stands .place) in
       rw (
         lt-ltb p 255 inner,
         z .first,
@@ -342,4 +340,4 @@ module _ {G : Given} {d : ℕ} {k : Kind} {c : Tree} {cs : Forest} (N : Node G d
         end-at fr cs f u c (N .below .0),
         fuel-in (nodesIn fr (c ∷ cs)) (full-length fr (c ∷ cs) (N .below)) (G .update) f u,
       )
-      (placed-link N (suc f) (whileAll child (suc f) (event G y) (N .place) (event G y) c cs (worldAt G f u)) _ (all-link G d child w g dry (N .place) fr y c cs p f u (N .below) e (z .first) o))
+      (placed-link N (suc f) (whileAll child (suc f) (event G y) (N .cell .place) (event G y) c cs (worldAt G f u)) _ (all-link G d child w g dry (N .cell .place) fr y c cs p f u (N .below) e (z .first) o))

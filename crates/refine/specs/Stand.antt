@@ -10,7 +10,7 @@ use borrow.Author.Tests.{lt-ltb, le-ltb}
 use lib.Dec.{ltb}
 use lib.Ieee.{Float}
 use Rattle.rules.specs.declared.behavior.Kind.{Kind}
-use Rattle.rules.specs.Tree.{cell, Tree, node, Forest, [], _∷_, fresh, freshAll, mark, size, sizes, count}
+use Rattle.rules.specs.Tree.{Cell, Tree, node, Forest, [], _∷_, fresh, freshAll, mark, size, sizes, count}
 use Rattle.rules.specs.Loops.{freshAt}
 use Rattle.refine.specs.Words.{Row, Fits, FitsAll}
 
@@ -48,8 +48,8 @@ module _ (G : Given) where
   -- the tree t, at most d deep, stands at q; the trees ts stand from q to stop
   abbrev mutual
     pub At : ℕ → Tree → ℕ → Type 0
-    At q (node k n l (cell x p m) b ts) zero = ⊥
-    At q (node k n l (cell x p m) b ts) (suc d) = Placed G q k n l (count ts) p m × Ats (suc q) ts (G .ends q) d
+    At q (node k n l c b ts) zero = ⊥
+    At q (node k n l c b ts) (suc d) = Placed G q k n l (count ts) (c .place) (c .mark) × Ats (suc q) ts (G .ends q) d
 
     pub Ats : ℕ → Forest → ℕ → ℕ → Type 0
     Ats q [] stop d = q ≡ stop
@@ -59,8 +59,8 @@ module _ (G : Given) where
     unfolding Fits
 
     pub at-fits : (q : ℕ) (t : Tree) (d : ℕ) → At q t d → Fits t
-    at-fits q (node k n l (cell x p m) b ts) zero v = absurd v
-    at-fits q (node k n l (cell x p m) b ts) (suc d) v = ((v .0 .place, v .0 .mark), ats-fit (suc q) ts (G .ends q) d (v .1))
+    at-fits q (node k n l c b ts) zero v = absurd v
+    at-fits q (node k n l c b ts) (suc d) v = ((v .0 .place, v .0 .mark), ats-fit (suc q) ts (G .ends q) d (v .1))
 
     ats-fit : (q : ℕ) (ts : Forest) (stop d : ℕ) → Ats q ts stop d → FitsAll ts
     ats-fit q [] stop d v = tt
@@ -70,8 +70,8 @@ module _ (G : Given) where
     unfolding size
 
     pub at-size : (q : ℕ) (t : Tree) (d : ℕ) → At q t d → G .ends q ≡ q + size t
-    at-size q (node k n l (cell x p m) b ts) zero v = absurd v
-    at-size q (node k n l (cell x p m) b ts) (suc d) v = omega (arith, ats-size (suc q) ts (G .ends q) d (v .1))
+    at-size q (node k n l c b ts) zero v = absurd v
+    at-size q (node k n l c b ts) (suc d) v = omega (arith, ats-size (suc q) ts (G .ends q) d (v .1))
 
     pub ats-size : (q : ℕ) (ts : Forest) (stop d : ℕ) → Ats q ts stop d → stop ≡ q + sizes ts
     ats-size q [] stop d v = omega (arith, v)
@@ -79,19 +79,19 @@ module _ (G : Given) where
 
   pub at-room : (q : ℕ) (t : Tree) (d : ℕ) → At q t d → (q < G .ends q) × (G .ends q ≤ G .nodes)
   unfolding size
-  at-room q (node k n l (cell x p m) b ts) zero v = absurd v
-  at-room q (node k n l (cell x p m) b ts) (suc d) v = (omega (arith, at-size q (node k n l (cell x p m) b ts) (suc d) v), v .0 .room)
+  at-room q (node k n l c b ts) zero v = absurd v
+  at-room q (node k n l c b ts) (suc d) v = (omega (arith, at-size q (node k n l c b ts) (suc d) v), v .0 .room)
 
-  pub at-mark-small : (q : ℕ) (k : Kind) (n : ℕ) (l x : Float) (p m b : ℕ) (ts : Forest) (d : ℕ) → At q (node k n l (cell x p m) b ts) d → m < 2
-  at-mark-small q k n l x p m b ts zero v = absurd v
-  at-mark-small q k n l x p m b ts (suc d) v = v .0 .mark
+  pub at-mark-small : (q : ℕ) (k : Kind) (n : ℕ) (l : Float) (c : Cell) (b : ℕ) (ts : Forest) (d : ℕ) → At q (node k n l c b ts) d → c .mark < 2
+  at-mark-small q k n l c b ts zero v = absurd v
+  at-mark-small q k n l c b ts (suc d) v = v .0 .mark
 
   mutual
     unfolding fresh
 
     pub at-fresh : (q : ℕ) (t : Tree) (d : ℕ) → At q t d → At q (fresh t) d
-    at-fresh q (node k n l (cell x p m) b ts) zero v = absurd v
-    at-fresh q (node k n l (cell x p m) b ts) (suc d) v =
+    at-fresh q (node k n l c b ts) zero v = absurd v
+    at-fresh q (node k n l c b ts) (suc d) v =
         (record { row = rw (count-fresh ts) (v .0 .row); place = omega arith; mark = omega arith; room = v .0 .room }, ats-fresh (suc q) ts (G .ends q) d (v .1))
 
     pub ats-fresh : (q : ℕ) (ts : Forest) (stop d : ℕ) → Ats q ts stop d → Ats q (freshAll ts) stop d
@@ -104,8 +104,8 @@ module _ (G : Given) where
   ats-fresh-at (t ∷ ts) (suc i) q stop d vs = (vs .0, ats-fresh-at ts i (G .ends q) stop d (vs .1))
 
   pub at-mark : (q : ℕ) (t : Tree) (d : ℕ) → At q t d → At q (mark t) d
-  at-mark q (node k n l (cell x p m) b ts) zero v = absurd v
-  at-mark q (node k n l (cell x p m) b ts) (suc d) v = (record { row = v .0 .row; place = v .0 .place; mark = omega arith; room = v .0 .room }, v .1)
+  at-mark q (node k n l c b ts) zero v = absurd v
+  at-mark q (node k n l c b ts) (suc d) v = (record { row = v .0 .row; place = v .0 .place; mark = omega arith; room = v .0 .room }, v .1)
 
   pub ats-less : (q : ℕ) (t : Tree) (ts : Forest) (stop d : ℕ) → Ats q (t ∷ ts) stop d → q < stop
   ats-less q t ts stop d v = omega (arith, at-room q t d (v .0), ats-size (G .ends q) ts stop d (v .1))

@@ -8,7 +8,7 @@ use native.Mathlib.Nat.{not-suc-le-zero}
 use native.Mathlib.Omega.{arith}
 use lib.Ieee.{Float}
 use lib.ListN.{length, replicate, length-replicate}
-use Rattle.rules.specs.Tree.{cell, Tree, node, Forest, [], _∷_, size, sizes, depth, depths}
+use Rattle.rules.specs.Tree.{Tree, node, Forest, [], _∷_, size, sizes, depth, depths}
 use Rattle.rules.specs.Cells.{column, columns, timeOf}
 use Rattle.work.specs.Array.{fuelOf, usedOf, endOf}
 use Rattle.refine.specs.Words.{words, wordsAll, behind, working, Fits, FitsAll, Holds, HoldsAll}
@@ -93,9 +93,9 @@ module _ (ns : List ℕ) (limits : List Float) (ss : List ℕ) (ls : List Float)
           → depth t ≤ d
           → q + size t ≤ nodes
           → At given q t d
-      at-start (node k n l (cell x p m) bd ts) pre post q zero h w hs fs dp j = absurd (not-suc-le-zero dp)
-      at-start (node k n l (cell x p m) bd ts) pre post q (suc d) h w hs fs dp j =
-          let t : Tree = node k n l (cell x p m) bd ts in
+      at-start (node k n l c bd ts) pre post q zero h w hs fs dp j = absurd (not-suc-le-zero dp)
+      at-start (node k n l c bd ts) pre post q (suc d) h w hs fs dp j =
+          let t : Tree = node k n l c bd ts in
           let ends : endOf ws q ≡ q + suc (sizes ts) = rw w (end-here pre post q h b f u t (omega arith)) in (
             record { row = hs .0; place = fs .0 .0; mark = fs .0 .1; room = omega arith },
             ats-start ts (List._∷_ (wordOf t) pre) post (suc q) (endOf ws q) d (ap (λ (z : ℕ). suc z) h) (omega arith) w (hs .1) (fs .1) (omega arith) (omega arith),

@@ -16,7 +16,7 @@ use Rattle.rules.specs.declared.behavior.Kind.the-variants.{Wait, WaitForever, 
 use Rattle.rules.specs.declared.behavior.Kind.the-variants.{MemorylessSequence, MemorylessSelector, While, WhileAll, WhenAll, WhenAny, After, Race}
 use Rattle.rules.specs.declared.status.Status.{Status}
 use Rattle.rules.specs.declared.status.Status.the-variants.{Running, Success, Failure}
-use Rattle.rules.specs.Tree.{Cell, cell, Tree, node, Forest, [], _∷_}
+use Rattle.rules.specs.Tree.{Cell, withTime, Tree, node, Forest, [], _∷_}
 use Rattle.rules.specs.Outcome.{dt, eventOf, Ticker, exchanged, alwaysSucceed, largest, byte}
 use Rattle.rules.specs.State.{rule, tick}
 use Rattle.work.specs.declared.result.Seen.the-variants.{Stopped}
@@ -36,42 +36,42 @@ use Rattle.refine.specs.Rules.{while-rule, whileAll-rule}
 -- ---- leaves
 module _ (F : Format) (child : Ticker) {G : Given} {d : ℕ} {k : Kind} {ts : Forest} (N : Node G d k ts) (x : Float) (f u : ℕ) where
   abbrev all : Forest
-  all = nodeOf N (cellAt N (N .place)) ts ∷ N .us
+  all = nodeOf N (cellAt N (N .cell .place)) ts ∷ N .us
 
   full : length (nodesIn (N .fr) all) ≡ 256
   full = full-length (N .fr) all ((N .stands, N .below), N .behind)
 
   wait-rule : u + f ≤ G .fuel
-      → Sim (suc f) (left N) (rule F child Wait (N .n) (N .limit) (cellAt N (N .place)) (event G x) ts (worldAt G f u)) (on (N .fr) all f u (wait F (lentOf G) (N .fr .q) x))
+      → Sim (suc f) (left N) (rule F child Wait (N .n) (N .limit) (cellAt N (N .cell .place)) (event G x) ts (worldAt G f u)) (on (N .fr) all f u (wait F (lentOf G) (N .fr .q) x))
   unfolding rule wait run
   wait-rule e =
-      let now : Float = add F (N .time) x in
+      let now : Float = add F (N .cell .time) x in
       rw (
         updates-in (nodesIn (N .fr) all) full (G .update) f u,
-        time-in (N .fr) (N .us) k (N .n) (N .limit) (N .time) (N .place) (N .mark) (N .board) ts,
+        time-in (N .fr) (N .us) k (N .n) (N .limit) (N .cell) (N .board) ts,
         N .stands .row .limit,
-        time-put (N .fr) (N .us) k (N .n) (N .limit) (N .time) (N .place) (N .mark) (N .board) ts (N .limit),
-        time-put (N .fr) (N .us) k (N .n) (N .limit) (N .time) (N .place) (N .mark) (N .board) ts now,
+        time-put (N .fr) (N .us) k (N .n) (N .limit) (N .cell) (N .board) ts (N .limit),
+        time-put (N .fr) (N .us) k (N .n) (N .limit) (N .cell) (N .board) ts now,
       )
       (by (G .update))
     where
-      by : (b : Bool) → Sim (suc f) (left N) (rule F child Wait (N .n) (N .limit) (cellAt N (N .place)) (eventOf b x) ts (worldAt G f u)) (cond b
-          (cond (le (N .limit) (add F (N .time) x))
-          (out seen.Success (sub F (add F (N .time) x) (N .limit)) (wordsIn (N .fr) all f u) (timesIn (N .fr) (nodeOf N (cell (N .limit) (N .place) (N .mark)) ts ∷ N .us)))
-          (flat.waiting (wordsIn (N .fr) all f u) (timesIn (N .fr) (nodeOf N (cell (add F (N .time) x) (N .place) (N .mark)) ts ∷ N .us))))
+      by : (b : Bool) → Sim (suc f) (left N) (rule F child Wait (N .n) (N .limit) (cellAt N (N .cell .place)) (eventOf b x) ts (worldAt G f u)) (cond b
+          (cond (le (N .limit) (add F (N .cell .time) x))
+          (out seen.Success (sub F (add F (N .cell .time) x) (N .limit)) (wordsIn (N .fr) all f u) (timesIn (N .fr) (nodeOf N (withTime (N .limit) (N .cell)) ts ∷ N .us)))
+          (flat.waiting (wordsIn (N .fr) all f u) (timesIn (N .fr) (nodeOf N (withTime (add F (N .cell .time) x) (N .cell)) ts ∷ N .us))))
           (flat.waiting (wordsIn (N .fr) all f u) (timesIn (N .fr) all)))
-      by true = sim-either (left N) (suc f) (le (N .limit) (add F (N .time) x)) _ _ _ _
+      by true = sim-either (left N) (suc f) (le (N .limit) (add F (N .cell .time) x)) _ _ _ _
           (went u (unspent f u e) (N .stands, N .below) refl refl)
           (went u (unspent f u e) (N .stands, N .below) refl refl)
       by false = went u (unspent f u e) (N .stands, N .below) refl refl
 
   action-rule : u + suc f ≤ G .fuel
-      → Sim (suc f) (left N) (rule F child Action (N .n) (N .limit) (cellAt N (N .place)) (event G x) ts (worldAt G f u)) (on (N .fr) all f u (action F (lentOf G) (N .fr .q) x))
+      → Sim (suc f) (left N) (rule F child Action (N .n) (N .limit) (cellAt N (N .cell .place)) (event G x) ts (worldAt G f u)) (on (N .fr) all f u (action F (lentOf G) (N .fr .q) x))
   unfolding rule action run
   action-rule e =
       let none : Asked G (N .n) (dt (event G x)) (out Stopped (passed (wordsIn (N .fr) all f u) x) (set (wordsIn (N .fr) all f u) 258 (N .fr .q + 1)) (timesIn (N .fr) all)) = record {
         place = N .fr .q;
-        within = omega (arith, at-room G (N .fr .q) (nodeOf N (cellAt N (N .place)) ts) (suc d) (N .stands, N .below));
+        within = omega (arith, at-room G (N .fr .q) (nodeOf N (cellAt N (N .cell .place)) ts) (suc d) (N .stands, N .below));
         number = N .stands .row .number;
         stop = record {
           words = set (wordsIn (N .fr) all f u) 258 (N .fr .q + 1);
@@ -108,8 +108,8 @@ module _ (F : Format) (G : Given) (q : ℕ) (x : Float) (s : Status) (r : Float)
 
 rule-link : (F : Format) (G : Given) (d : ℕ) (child : Ticker) (w : Visitor) → Ticks G d child w → Dry child → (k : Kind) (ts : Forest) (N : Node G d k ts) (x : Float) (f u : ℕ)
     → u + suc f ≤ G .fuel
-    → Sim (suc f) (left N) (rule F child k (N .n) (N .limit) (cellAt N (N .place)) (event G x) ts (worldAt G f u))
-    (on (N .fr) (nodeOf N (cellAt N (N .place)) ts ∷ N .us) f u (byKind F (lentOf G) w k (N .fr .q) x))
+    → Sim (suc f) (left N) (rule F child k (N .n) (N .limit) (cellAt N (N .cell .place)) (event G x) ts (worldAt G f u))
+    (on (N .fr) (nodeOf N (cellAt N (N .cell .place)) ts ∷ N .us) f u (byKind F (lentOf G) w k (N .fr .q) x))
 unfolding rule byKind leaf run
 rule-link F G d child w g dry Wait ts N x f u e = wait-rule F child N x f u (omega arith)
 rule-link F G d child w g dry WaitForever ts N x f u e = went u (unspent f u (omega arith)) (N .stands, N .below) refl refl
@@ -158,10 +158,10 @@ visit-is F G d After q x ws ts z = rw z
 visit-is F G d Race q x ws ts z = rw z
 
 visit-link : (F : Format) (G : Given) (d : ℕ) → Ticks G d (tick F d) (flat.tick F (lentOf G) d) → Ticks G d (tick F d) (visit F (lentOf G) (flat.tick F (lentOf G) d))
-visit-link F G zero g fr (node k n l (cell y p m) bd ts) us x f u vs e = absurd (vs .0)
-visit-link F G (suc d) g fr (node k n l (cell y p m) bd ts) us x f u vs e =
-    let t : Tree = node k n l (cell y p m) bd ts in
-    rw (visit-is F G d k (fr .q) x (wordsIn fr (t ∷ us) f u) (timesIn fr (t ∷ us)) (kind-in fr us f u k n l (cell y p m) bd ts)) (g fr t us x f u vs e)
+visit-link F G zero g fr (node k n l c bd ts) us x f u vs e = absurd (vs .0)
+visit-link F G (suc d) g fr (node k n l c bd ts) us x f u vs e =
+    let t : Tree = node k n l c bd ts in
+    rw (visit-is F G d k (fr .q) x (wordsIn fr (t ∷ us) f u) (timesIn fr (t ∷ us)) (kind-in fr us f u k n l c bd ts)) (g fr t us x f u vs e)
 
 tick-dry : (F : Format) (d : ℕ) → Dry (tick F d)
 unfolding tick
@@ -180,7 +180,7 @@ seen-link : {G : Given} {d : ℕ} (fr : Frame G (suc d)) (k : Kind) (n : ℕ) (l
     × (setSeen (wordsIn fr (node k n l c bd ts ∷ us) f u) (fr .q) (byte s) ≡ wordsIn fr (node k n l c (byte s) ts ∷ us) f u)
     × (timesIn fr (node k n l c bd ts ∷ us) ≡ timesIn fr (node k n l c (byte s) ts ∷ us))
 unfolding run
-seen-link fr k n l (cell x p m) bd s ts us f u v = (v, seen-put fr us f u k n l x p m bd ts (byte s) (byte-small s), refl)
+seen-link fr k n l c bd s ts us f u v = (v, seen-put fr us f u k n l c bd ts (byte s) (byte-small s), refl)
 
 one-less : (f : ℕ) → suc f - 1 ≡ f
 one-less f = omega arith
@@ -188,21 +188,21 @@ one-less f = omega arith
 -- the flat tick does what the tick does
 pub tick-link : (F : Format) (G : Given) (d : ℕ) → Ticks G d (tick F d) (flat.tick F (lentOf G) d)
 unfolding tick flat.tick run
-tick-link F G zero fr (node k n l (cell y p m) bd ts) us x f u vs e = absurd (vs .0)
-tick-link F G (suc d) fr (node k n l (cell y p m) bd ts) us x zero u vs e =
-    let t : Tree = node k n l (cell y p m) bd ts in
+tick-link F G zero fr (node k n l c bd ts) us x f u vs e = absurd (vs .0)
+tick-link F G (suc d) fr (node k n l c bd ts) us x zero u vs e =
+    let t : Tree = node k n l c bd ts in
     rw (fuel-in (nodesIn fr (t ∷ us)) (full-length fr (t ∷ us) vs) (G .update) 0 u) (stopped-in fr (t ∷ us) vs 0 u)
-tick-link F G (suc d) fr (node k n l (cell y p m) bd ts) us x (suc f) u vs e =
-    let t : Tree = node k n l (cell y p m) bd ts in
+tick-link F G (suc d) fr (node k n l c bd ts) us x (suc f) u vs e =
+    let t : Tree = node k n l c bd ts in
     let full' : length (nodesIn fr (t ∷ us)) ≡ 256 = full-length fr (t ∷ us) vs in
-    let N : Node G d k ts = record { fr = fr; us = us; n = n; limit = l; time = y; place = p; mark = m; board = bd; stands = vs .0 .0; below = vs .0 .1; behind = vs .1 } in
+    let N : Node G d k ts = record { fr = fr; us = us; n = n; limit = l; cell = c; board = bd; stands = vs .0 .0; below = vs .0 .1; behind = vs .1 } in
     rw (
       fuel-in (nodesIn fr (t ∷ us)) full' (G .update) (suc f) u,
       eqb·suc-zero f,
       one-less f,
-      kind-in fr us (suc f) u k n l (cell y p m) bd ts,
+      kind-in fr us (suc f) u k n l c bd ts,
       burnt-in (nodesIn fr (t ∷ us)) full' (G .update) (suc f) u f,
     )
-    (sim-bind (left N) (suc f) (tree fr us) (suc f) (rule F (tick F d) k n l (cell y p m) (event G x) ts (worldAt G f u)) _ _ _
+    (sim-bind (left N) (suc f) (tree fr us) (suc f) (rule F (tick F d) k n l c (event G x) ts (worldAt G f u)) _ _ _
     (rule-link F G d (tick F d) (visit F (lentOf G) (flat.tick F (lentOf G) d)) (visit-link F G d (tick-link F G d)) (tick-dry F d) k ts N x f u e)
     λ s r a f' u' v' e'. let z = seen-link fr k n l (a .0) bd s (a .1) us f' u' v' in went u' e' (z .0) (z .1) (z .2))

@@ -8,7 +8,7 @@ use lib.Ieee.{Float}
 use lib.ListN.{getD, replicate}
 use Rattle.rules.specs.declared.behavior.Kind.{Kind}
 use Rattle.rules.specs.Kinds.{code, fewest, most}
-use Rattle.rules.specs.Tree.{zeroTime, Cell, cell, Tree, node, Forest, [], _∷_, size, sizes, count}
+use Rattle.rules.specs.Tree.{zeroTime, Cell, Tree, node, Forest, [], _∷_, size, sizes, count}
 use Rattle.rules.specs.Cells.{placeOf, markOf}
 
 -- the word of a node: nodes below it, kind, place, mark, board
@@ -39,7 +39,7 @@ working t fuel used update = words t (behind (size t) fuel used 0 update)
 -- a place is at most the number of children, and a mark is 0 or 1: a word can hold them
 unfoldable mutual
   pub Fits : Tree → Type 0
-  Fits (node k n l (cell x p m) b ts) = ((p ≤ count ts) × (m < 2)) × FitsAll ts
+  Fits (node k n l c b ts) = ((c .place ≤ count ts) × (c .mark < 2)) × FitsAll ts
 
   pub FitsAll : Forest → Type 0
   FitsAll [] = Unit {0}

@@ -8,15 +8,19 @@ use lib.Ieee.{Float, nan, inf, fin}
 use Rattle.rules.specs.declared.behavior.Kind.{Kind}
 use Rattle.rules.specs.declared.behavior.Kind.the-variants.{Wait, WaitForever, Action, Invert, AlwaysSucceed, Timeout, Select, If, Sequence, MemorylessSequence, MemorylessSelector, While, WhileAll, WhenAll, WhenAny, After, Race}
 use Rattle.rules.specs.Kinds.{timed, marksChildren}
-use Rattle.rules.specs.Tree.{Cell, cell, Tree, node, Forest, [], _∷_}
+use Rattle.rules.specs.Tree.{Cell, Tree, node, Forest, [], _∷_}
 use Rattle.rules.specs.Table.{zeroBits}
+
+-- a cell as it is lent
+abbrev pub cellOf : Float → ℕ → ℕ → Cell
+cellOf x p m = record { time = x; place = p; mark = m }
 
 -- a run of cells, lent as three slices, is as long as the shortest
 unfoldable pub cells : List Float → List ℕ → List ℕ → List Cell
 cells List.[] ps ms = List.[]
 cells (List._∷_ x xs) List.[] ms = List.[]
 cells (List._∷_ x xs) (List._∷_ p ps) List.[] = List.[]
-cells (List._∷_ x xs) (List._∷_ p ps) (List._∷_ m ms) = List._∷_ (cell x p m) (cells xs ps ms)
+cells (List._∷_ x xs) (List._∷_ p ps) (List._∷_ m ms) = List._∷_ (cellOf x p m) (cells xs ps ms)
 
 -- the tree with the cells of a run, and the cells behind it; the board is cleared, as each tick clears it
 unfoldable mutual
@@ -39,13 +43,13 @@ module _ {A : Type 0} (field : Cell → ℕ → A) where
     columns (t ∷ ts) behind = column t (columns ts behind)
 
 abbrev pub timeOf : Cell → ℕ → Float
-timeOf (cell x p m) b = x
+timeOf c b = c .time
 
 abbrev pub placeOf : Cell → ℕ → ℕ
-placeOf (cell x p m) b = p
+placeOf c b = c .place
 
 abbrev pub markOf : Cell → ℕ → ℕ
-markOf (cell x p m) b = m
+markOf c b = c .mark
 
 abbrev pub boardOf : Cell → ℕ → ℕ
 boardOf c b = b
@@ -77,20 +81,20 @@ lastPlace After n = n
 lastPlace Race n = 0
 
 abbrev pub freshly : Cell → Bool
-freshly (cell x p m) = zeroBits x && eqb p 0 && eqb m 0
+freshly c = zeroBits (c .time) && eqb (c .place) 0 && eqb (c .mark) 0
 
 -- a cell in use: no mark, or the mark of a child that may have ended, whose time and place are zero
 abbrev pub inUse : Bool → Kind → ℕ → Cell → Bool
-inUse mayEnd k n (cell x p m) = cond (eqb m 0)
-    (cond (timed k) (elapsed x) (zeroBits x) && leb p (lastPlace k n))
-    (eqb m 1 && mayEnd && zeroBits x && eqb p 0)
+inUse mayEnd k n c = cond (eqb (c .mark) 0)
+    (cond (timed k) (elapsed (c .time)) (zeroBits (c .time)) && leb (c .place) (lastPlace k n))
+    (eqb (c .mark) 1 && mayEnd && zeroBits (c .time) && eqb (c .place) 0)
 
 -- below a child that has ended, all cells are fresh
 unfoldable pub cellAllowed : Bool → Bool → Kind → ℕ → Cell → Bool
 cellAllowed ended mayEnd k n c = cond ended (freshly c) (inUse mayEnd k n c)
 
 abbrev pub endedIn : Cell → Bool
-endedIn (cell x p m) = eqb m 1
+endedIn c = eqb (c .mark) 1
 
 -- the smallest place of a bad cell, or none: then the place behind the tree
 pub data Found : Type 0 where

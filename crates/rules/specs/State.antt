@@ -10,7 +10,7 @@ use Rattle.rules.specs.declared.status.Status.{Status}
 use Rattle.rules.specs.declared.status.Status.the-variants.{Running, Success, Failure}
 use Rattle.rules.specs.declared.event.Event.{Event}
 use Rattle.rules.specs.declared.event.Event.the-variants.{Update, Other}
-use Rattle.rules.specs.Tree.{Cell, cell, node, Forest, [], _∷_, fresh}
+use Rattle.rules.specs.Tree.{Cell, withTime, withPlace, node, Forest, [], _∷_, fresh}
 use Rattle.rules.specs.Outcome.{dt, rest, World, world, Out, done, asks, short, Ticker, _▸_, waiting, exchanged, exchange, exchanging, alwaysSucceed, largest, byte}
 use Rattle.rules.specs.Sequence.{sequenceAt, memoryless}
 use Rattle.rules.specs.WhenAll.{whenAll, raceFrom, afterAt}
@@ -21,7 +21,7 @@ Next = Cell × Forest
 
 -- the driver's place goes into the cell
 abbrev pub atPlace : Cell → Out (ℕ × Forest) → Out Next
-atPlace (cell y p m) o = o ▸ λ s r x w. done s r (cell y (x .0) m, x .1) w
+atPlace c o = o ▸ λ s r x w. done s r (withPlace (x .0) c, x .1) w
 
 -- the cell stays
 abbrev pub inCell : Cell → Out Forest → Out Next
@@ -56,32 +56,31 @@ rule F child Action n l c e ts (world f List.[]) = asks n (dt e)
 rule F child Action n l c e ts (world f (List._∷_ a ans)) = done (a .0) (a .1) (c, ts) (world f ans)
 rule F child Invert n l c e ts w = only child exchanged c e ts w
 rule F child AlwaysSucceed n l c e ts w = only child alwaysSucceed c e ts w
-rule F child Wait n l (cell x p m) (Update y) ts w =
-    timePasses F (add F x y) l (λ r. done Success r (cell l p m, ts) w) (λ x'. waiting (cell x' p m, ts) w)
+rule F child Wait n l c (Update y) ts w = timePasses F (add F (c .time) y) l (λ r. done Success r (withTime l c, ts) w) (λ x. waiting (withTime x c, ts) w)
 rule F child Wait n l c Other ts w = waiting (c, ts) w
 rule F child WaitForever n l c e ts w = waiting (c, ts) w
-rule F child Timeout n l (cell x p m) e [] w = short
-rule F child Timeout n l (cell x p m) e (t ∷ ts) w = child t e w ▸ λ s r t' w'. elim s [
-  | Running ↦ timePasses F (add F x (dt e)) l (λ r'. done Failure r' (cell (add F x (dt e)) p m, t' ∷ ts) w') (λ x'. waiting (cell x' p m, t' ∷ ts) w')
-  | Success ↦ done Success r (cell x p m, t' ∷ ts) w'
-  | Failure ↦ done Failure r (cell x p m, t' ∷ ts) w'
+rule F child Timeout n l c e [] w = short
+rule F child Timeout n l c e (t ∷ ts) w = child t e w ▸ λ s r t' w'. elim s [
+  | Running ↦ let now = add F (c .time) (dt e) in timePasses F now l (λ r'. done Failure r' (withTime now c, t' ∷ ts) w') (λ x. waiting (withTime x c, t' ∷ ts) w')
+  | Success ↦ done Success r (c, t' ∷ ts) w'
+  | Failure ↦ done Failure r (c, t' ∷ ts) w'
 ]
-rule F child If n l (cell x p m) e ts w = atPlace (cell x p m) (ifAt child p e ts w)
-rule F child Sequence n l (cell x p m) e ts w = atPlace (cell x p m) (sequenceAt child p e ts w)
-rule F child Select n l (cell x p m) e ts w = atPlace (cell x p m) (exchange (sequenceAt (exchanging child) p e ts w))
+rule F child If n l c e ts w = atPlace c (ifAt child (c .place) e ts w)
+rule F child Sequence n l c e ts w = atPlace c (sequenceAt child (c .place) e ts w)
+rule F child Select n l c e ts w = atPlace c (exchange (sequenceAt (exchanging child) (c .place) e ts w))
 rule F child MemorylessSequence n l c e ts w = inCell c (memoryless child e ts w)
 rule F child MemorylessSelector n l c e ts w = inCell c (exchange (memoryless (exchanging child) e ts w))
 rule F child While n l c e [] w = short
-rule F child While n l (cell x p m) e (c ∷ ts) w = child c e w ▸ λ s r c' w'. elim s [
-  | Running ↦ whileBody child (budget w) p e ts w' ▸ λ s'' r'' y w''. done s'' r'' (cell x (y .0) m, c' ∷ y .1) w''
-  | Success ↦ done Success r (cell x p m, c' ∷ ts) w'
-  | Failure ↦ done Failure r (cell x p m, c' ∷ ts) w'
+rule F child While n l c e (t ∷ ts) w = child t e w ▸ λ s r t' w'. elim s [
+  | Running ↦ whileBody child (budget w) (c .place) e ts w' ▸ λ s'' r'' y w''. done s'' r'' (withPlace (y .0) c, t' ∷ y .1) w''
+  | Success ↦ done Success r (c, t' ∷ ts) w'
+  | Failure ↦ done Failure r (c, t' ∷ ts) w'
 ]
 rule F child WhileAll n l c e [] w = short
-rule F child WhileAll n l (cell x p m) e (c ∷ ts) w = atPlace (cell x p m) (whileAll child (budget w) e p e c ts w)
+rule F child WhileAll n l c e (t ∷ ts) w = atPlace c (whileAll child (budget w) e (c .place) e t ts w)
 rule F child WhenAll n l c e ts w = inCell c (whenAll child (largest F) e ts w)
 rule F child WhenAny n l c e ts w = inCell c (exchange (whenAll (exchanging child) (largest F) e ts w))
-rule F child After n l (cell x p m) e ts w = atPlace (cell x p m) (afterAt child (largest F) p e ts w)
+rule F child After n l c e ts w = atPlace c (afterAt child (largest F) (c .place) e ts w)
 rule F child Race n l c e ts w = inCell c (raceFrom child e ts w)
 
 -- a visit: it takes one of the fuel, and leaves its status on the board. `depth` bounds how far down the tree goes.

@@ -10,12 +10,23 @@ abbrev pub zeroTime : Float
 zeroTime = fin false 0 (pos 0)
 
 -- a time, a place and a mark
-pub data Cell : Type 0 where
-  cell : Float → ℕ → ℕ → Cell
+pub record Cell : Type 0 where
+  pub time : Float
+  pub place : ℕ
+  pub mark : ℕ
+
+abbrev pub withTime : Float → Cell → Cell
+withTime x c = record { time = x; place = c .place; mark = c .mark }
+
+abbrev pub withPlace : ℕ → Cell → Cell
+withPlace p c = record { time = c .time; place = p; mark = c .mark }
+
+abbrev pub withMark : ℕ → Cell → Cell
+withMark m c = record { time = c .time; place = c .place; mark = m }
 
 -- "fresh is all zero"
 abbrev pub freshCell : Cell
-freshCell = cell zeroTime 0 0
+freshCell = record { time = zeroTime; place = 0; mark = 0 }
 
 infixr 50 _∷_
 -- node KIND N LIMIT CELL BOARD CHILDREN
@@ -59,7 +70,7 @@ count (t ∷ ts) = suc (count ts)
 
 -- the mark of a child of WhenAll and WhenAny that has ended
 abbrev pub marked : Tree → Bool
-marked (node k n l (cell x p m) b kids) = eqb m 1
+marked (node k n l c b kids) = eqb (c .mark) 1
 
 abbrev pub mark : Tree → Tree
-mark (node k n l (cell x p m) b kids) = node k n l (cell x p 1) b kids
+mark (node k n l c b kids) = node k n l (withMark 1 c) b kids
