@@ -27,7 +27,11 @@ said (none p) = Fine
 
 -- whatever tree of n nodes stands in the table, its smallest bad cell is found
 abbrev pub Checks : List ℕ → List ℕ → List ℕ → List Float → List ℕ → List ℕ → ℕ → Said → Type 0
-Checks kinds ns ends times places marks n r = (limits : List Float) (t : Tree) → At kinds ns limits ends 0 t → size t ≡ n → depth t ≤ 16 → r ≡ said (badCell false false 0 (withCells t (cells times places marks) .0))
+Checks kinds ns ends times places marks n r = (limits : List Float) (t : Tree)
+    → At kinds ns limits ends 0 t
+    → size t ≡ n
+    → depth t ≤ 16
+    → r ≡ said (badCell false false 0 (withCells t (cells times places marks) .0))
 
 -- the open nodes that do not end at a place; the first one stays
 unfoldable pub stillOpen : List ℕ → ℕ → ℕ → ℕ

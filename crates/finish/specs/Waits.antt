@@ -39,12 +39,19 @@ module _ (F : Format) (d : ℕ) where
         → Post F (NodeQ F d Wait n l c b ts e) (rule F child Wait n l c e ts w)
     unfolding rule
     wait-good n l c b ts (Update y) w wl wx h ev wv =
-        time-post (NodeQ F d Wait n l c b ts (Update y)) (c .time) y l (λ r. done Success r (withTime l c, ts) w) (λ x'. waiting (withTime x' c, ts) w) (le l (add F (c .time) y)) (passed F (c .time) y l wx ev wl h)
+        time-post (NodeQ F d Wait n l c b ts (Update y)) (c .time) y l (λ r. done Success r (withTime l c, ts) w) (λ x'. waiting (withTime x' c, ts) w) (le l (add F (c .time) y))
+        (passed F (c .time) y l wx ev wl h)
         (λ wr. (wv, wr))
         (λ under w' e. (wv, ((w', omega arith), λ full j z. wait-down (num (c .time)) (num y) (num l) (num (add F (c .time) y)) j under e full (z .1))))
     wait-good n l c b ts Other w wl wx h ev wv = absurd ev
 
-    pub timeout-good : (n : ℕ) (l : Float) (c : Cell) (b : ℕ) (t : Tree) (ts : Forest) (e : Event) (w : World) → W F l → W F (c .time) → num (c .time) ≤ num l → Shaped F (shape t) → Valid F t → WEvent F e
+    pub timeout-good : (n : ℕ) (l : Float) (c : Cell) (b : ℕ) (t : Tree) (ts : Forest) (e : Event) (w : World)
+        → W F l
+        → W F (c .time)
+        → num (c .time) ≤ num l
+        → Shaped F (shape t)
+        → Valid F t
+        → WEvent F e
         → WWorld F w
         → Post F (NodeQ F d Timeout n l c b (t ∷ ts) e) (rule F child Timeout n l c e (t ∷ ts) w)
     unfolding rule

@@ -67,7 +67,8 @@ module _ (F : Format) (child : Ticker) (g : Spends F child) where
   while-budget : (b b' : ℕ) (c : Cell) (e : Event) (ts : Forest) (f : ℕ) (ans : Answers) → f < b → f < b' → whileWith b child c e ts (world f ans) ≡ whileWith b' child c e ts (world f ans)
   while-budget b b' c e [] f ans h h' = refl
   while-budget b b' c e (t ∷ ts) f ans h h' = then-less F f (child t e (world f ans)) _ _ (g t e f ans) λ s. elim s [
-    | Running ↦ λ r t' f' ans' l. ap (λ (o : Out (ℕ × Forest)). o ▸ λ s'' r'' y w''. done s'' r'' (withPlace (y .0) c, t' ∷ y .1) w'') (body-budget b b' (c .place) e ts f' ans' (omega arith) (omega arith))
+    | Running ↦ λ r t' f' ans' l. ap (λ (o : Out (ℕ × Forest)). o ▸ λ s'' r'' y w''. done s'' r'' (withPlace (y .0) c, t' ∷ y .1) w'')
+        (body-budget b b' (c .place) e ts f' ans' (omega arith) (omega arith))
     | Success ↦ λ r t' f' ans' l. refl
     | Failure ↦ λ r t' f' ans' l. refl
   ]

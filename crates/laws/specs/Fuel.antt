@@ -228,7 +228,8 @@ module _ (F : Format) where
     timeout-used n l c e [] f ans q ps v z = absurd (not-suc-le-zero q)
     timeout-used n l c e (t ∷ ts) f ans q ps v z = used-bind f (size t) (size t + sizes ts) (child t e (world f ans)) _ (g t e f ans (ps .0) (v .0) (omega arith)) λ s. elim s [
       | Running ↦ λ r t' f' ans' u. used-either f (size t + sizes ts) (le l ((add F) (c .time) (dt e)))
-          (done Failure ((sub F) ((add F) (c .time) (dt e)) l) (withTime ((add F) (c .time) (dt e)) c, t' ∷ ts) (world f' ans')) (waiting (withTime ((add F) (c .time) (dt e)) c, t' ∷ ts) (world f' ans')) (λ m'. omega arith)
+          (done Failure ((sub F) ((add F) (c .time) (dt e)) l) (withTime ((add F) (c .time) (dt e)) c, t' ∷ ts) (world f' ans'))
+          (waiting (withTime ((add F) (c .time) (dt e)) c, t' ∷ ts) (world f' ans')) (λ m'. omega arith)
           (λ m'. omega arith)
       | Success ↦ λ r t' f' ans' u. omega arith
       | Failure ↦ λ r t' f' ans' u. omega arith
@@ -237,7 +238,8 @@ module _ (F : Format) where
     wait-used : (n : ℕ) (l : Float) (c : Cell) (e : Event) (ts : Forest) (f : ℕ) (ans : List (Status × Float)) → Used f (sizes ts) (rule F child Wait n l c e ts (world f ans))
     unfolding rule size
     wait-used n l c (Update y) ts f ans =
-        used-either f (sizes ts) (le l ((add F) (c .time) y)) (done Success ((sub F) ((add F) (c .time) y) l) (withTime l c, ts) (world f ans)) (waiting (withTime ((add F) (c .time) y) c, ts) (world f ans)) (λ m'. omega arith)
+        used-either f (sizes ts) (le l ((add F) (c .time) y)) (done Success ((sub F) ((add F) (c .time) y) l) (withTime l c, ts) (world f ans))
+        (waiting (withTime ((add F) (c .time) y) c, ts) (world f ans)) (λ m'. omega arith)
         (λ m'. omega arith)
     wait-used n l c Other ts f ans = omega arith
 
@@ -259,12 +261,14 @@ module _ (F : Format) where
   rule-used child h g WaitForever n l c e ts f ans o s ds v vs z = omega arith
   rule-used child h g Timeout n l c e ts f ans o s ds v vs z = timeout-used child h g n l c e ts f ans (fewest-of Timeout n ts (s .0) (s .1)) ds vs z
   rule-used child h g If n l c e ts f ans o s ds v vs z =
-      to-node f (sizes ts) (ifAt child (c .place) e ts (world f ans)) (λ s r y. (withPlace (y .0) c, y .1)) same (if-used child h g (c .place) e ts f ans (v .2) (fewest-of If n ts (s .0) (s .1)) ds vs z)
+      to-node f (sizes ts) (ifAt child (c .place) e ts (world f ans)) (λ s r y. (withPlace (y .0) c, y .1)) same
+      (if-used child h g (c .place) e ts f ans (v .2) (fewest-of If n ts (s .0) (s .1)) ds vs z)
   rule-used child h g Sequence n l c e ts f ans o s ds v vs z =
       to-node f (sizes ts) (sequenceAt child (c .place) e ts (world f ans)) (λ s r y. (withPlace (y .0) c, y .1)) same (seq-at-used child h g e ts (c .place) f ans ds vs z)
   rule-used child h g Select n l c e ts f ans o s ds v vs z =
       to-node f (sizes ts) (exchange (sequenceAt (exchanging child) (c .place) e ts (world f ans))) (λ s r y. (withPlace (y .0) c, y .1)) same
-      (to-node f (sizes ts) (sequenceAt (exchanging child) (c .place) e ts (world f ans)) (λ s r y. y) exchanged (seq-at-used (exchanging child) h (exchanging-ample child h g) e ts (c .place) f ans ds vs z))
+      (to-node f (sizes ts) (sequenceAt (exchanging child) (c .place) e ts (world f ans)) (λ s r y. y) exchanged
+      (seq-at-used (exchanging child) h (exchanging-ample child h g) e ts (c .place) f ans ds vs z))
   rule-used child h g MemorylessSequence n l c e ts f ans o s ds v vs z =
       to-node f (sizes ts) (memoryless child e ts (world f ans)) (λ s r y. (c, y)) same (mem-used child h g e ts f ans ds z)
   rule-used child h g MemorylessSelector n l c e ts f ans o s ds v vs z =

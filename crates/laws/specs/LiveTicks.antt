@@ -123,7 +123,8 @@ module _ (F : Format) (G : Shape → Type 0) (S : Type 0) (child : Ticker) (g : 
   while-all-live n l c e [] w s ds v vs ev wv = absurd (not-suc-le-zero (fewest-of WhileAll n [] (s .0) (s .1)))
   while-all-live n l c e (t ∷ ts) (world f ans) s ds v vs ev wv =
       place-next S WhileAll n c (whileAll child (suc f) e (c .place) e t ts (world f ans)) (LoopOf ts) v
-      (loop-live G S child g falls (suc f) e (c .place) e t ts (world f ans) (omega arith) (in-loop (c .place) n (count ts) num (v .2)) (le-of-suc-le-suc (fewest-of WhileAll n (t ∷ ts) (s .0) (s .1))) (ds .0)
+      (loop-live G S child g falls (suc f) e (c .place) e t ts (world f ans) (omega arith) (in-loop (c .place) n (count ts) num (v .2))
+      (le-of-suc-le-suc (fewest-of WhileAll n (t ∷ ts) (s .0) (s .1))) (ds .0)
       (ds .1) (vs .0) (vs .1) ev ev wv)
       (λ y q. (of-loop (y .0) n (count ts) num (q .0), q .1))
     where

@@ -127,7 +127,8 @@ module _ (R : Pairing) (F : Format) (acts : Acts R F) (D : Shape → Type 0) (ch
   while-pair : (b : ℕ) (c : Cell) (e : Event) (ts : Forest) (p : R .Worlds) → Each D (shapes ts) → Both R p (KeptNext c ts) (λ w. whileWith b child c e ts w) (λ w. whileWith b child' c e ts w)
   while-pair b c e [] p d = sim-short R p (KeptNext c [])
   while-pair b c e (t ∷ ts) p d = sim-then R p (Same t) (KeptNext c (t ∷ ts)) (λ w. child t e w) (λ w. child' t e w) _ _ (g t e p (d .0)) λ s. elim s [
-    | Running ↦ λ r t' q y. sim-map R q (KeptAt ts) (KeptNext c (t ∷ ts)) (λ w. whileBody child b (c .place) e ts w) (λ w. whileBody child' b (c .place) e ts w) same (λ z. (withPlace (z .0) c, t' ∷ z .1))
+    | Running ↦ λ r t' q y. sim-map R q (KeptAt ts) (KeptNext c (t ∷ ts)) (λ w. whileBody child b (c .place) e ts w) (λ w. whileBody child' b (c .place) e ts w) same
+        (λ z. (withPlace (z .0) c, t' ∷ z .1))
         (body-pair R D child child' g b (c .place) e ts q (d .1)) (λ z u. (refl, λ i. Shape._∷_ (y .0 i) (u i)))
     | Success ↦ λ r t' q y. sim-done R q (KeptNext c (t ∷ ts)) Success r (c, t' ∷ ts) (refl, λ i. Shape._∷_ (y .0 i) (shapes ts))
     | Failure ↦ λ r t' q y. sim-done R q (KeptNext c (t ∷ ts)) Failure r (c, t' ∷ ts) (refl, λ i. Shape._∷_ (y .0 i) (shapes ts))

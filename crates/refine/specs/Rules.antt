@@ -340,4 +340,5 @@ module _ {G : Given} {d : ℕ} {k : Kind} {c : Tree} {cs : Forest} (N : Node G d
         end-at fr cs f u c (N .below .0),
         fuel-in (nodesIn fr (c ∷ cs)) (full-length fr (c ∷ cs) (N .below)) (G .update) f u,
       )
-      (placed-link N (suc f) (whileAll child (suc f) (event G y) (N .cell .place) (event G y) c cs (worldAt G f u)) _ (all-link G d child w g dry (N .cell .place) fr y c cs p f u (N .below) e (z .first) o))
+      (placed-link N (suc f) (whileAll child (suc f) (event G y) (N .cell .place) (event G y) c cs (worldAt G f u)) _
+      (all-link G d child w g dry (N .cell .place) fr y c cs p f u (N .below) e (z .first) o))

@@ -12,8 +12,10 @@ returns c =
     let child = c .before .before .before .before .before .before .before .child in
     let put-place = c .before .before .before .before .before .before .before .before .before .put-place in
     let fresh = c .before .before .before .before .before .before .before .before .before .before .before .before .before .fresh in
-    let end-of = c .before .before .before .before .before .before .before .before .before .before .before .before .before .before .before .before .end-of in
-    (rw (← end-of .ensures .0, ← fresh .ensures .0, ← put-place .ensures, ← child .ensures .0, ← end-of2 .ensures .0) (fresh2 .ensures .0), rw (← end-of .ensures .0, ← fresh .ensures .0, ← fresh .ensures .1, ← put-place .ensures, ← child .ensures .0, ← end-of2 .ensures .0) (fresh2 .ensures .1))
+    let end-of = c .before .before .before .before .before .before .before .before .before .before .before .before .before .before .before .before .end-of in (
+      rw (← end-of .ensures .0, ← fresh .ensures .0, ← put-place .ensures, ← child .ensures .0, ← end-of2 .ensures .0) (fresh2 .ensures .0),
+      rw (← end-of .ensures .0, ← fresh .ensures .0, ← fresh .ensures .1, ← put-place .ensures, ← child .ensures .0, ← end-of2 .ensures .0) (fresh2 .ensures .1),
+    )
 
 pub choose-spec : {M : Type 1} → statement M
 choose-spec =

@@ -25,8 +25,13 @@ returns c =
     let fresh2 = c .before .before .fresh2 in
     let end-of = c .before .before .before .before .before .end-of in
     let child-after = c .before .before .before .before .before .before .before .child-after in
-    let fresh = c .before .before .before .before .before .before .before .before .before .before .fresh in
-    (child-after .ensures, (rw (← child-after .ensures, ← fresh .ensures .0, ← end-of .ensures .0) (fresh2 .ensures .0), rw (← child-after .ensures, ← fresh .ensures .0, ← fresh .ensures .1, ← end-of .ensures .0) (fresh2 .ensures .1)))
+    let fresh = c .before .before .before .before .before .before .before .before .before .before .fresh in (
+      child-after .ensures,
+      (
+        rw (← child-after .ensures, ← fresh .ensures .0, ← end-of .ensures .0) (fresh2 .ensures .0),
+        rw (← child-after .ensures, ← fresh .ensures .0, ← fresh .ensures .1, ← end-of .ensures .0) (fresh2 .ensures .1),
+      ),
+    )
 
 pub move-on-spec : {M : Type 1} → statement M
 move-on-spec = tie.close (tie.spec (λ c κs. search needs) (λ c κs. search needs) end-of-requires (λ c κs. search needs) (λ c. search needs) returns)
