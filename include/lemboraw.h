@@ -52,7 +52,8 @@ extern "C" {
 #define LEMBORAW_STACK 12288
 
 /* The kinds of a node, with what the node's number n means. The limit is a time in Wait and
- * Timeout (finite, sign bit clear), and all its bits are 0 in every other kind. */
+ * Timeout (finite, not below zero), and zero in every other kind. In limits, dt and leftovers minus
+ * zero is taken as plus zero; in a cell it is refused. */
 enum lemboraw_kind {
     LEMBORAW_WAIT = 0,                 /* n is 0 */
     LEMBORAW_WAIT_FOREVER = 1,         /* n is 0 */
@@ -86,7 +87,7 @@ enum lemboraw_status {
  *   3   bad table                                        faulty place  everything as it was
  *   4   cells, spare or board shorter than the table                   everything as it was
  *   9   a bad cell                                       its place     everything as it was
- *   5   update whose dt is not finite or has the sign bit set          everything as it was
+ *   5   update whose dt is not finite or below zero                    everything as it was
  *   6   a bad status or leftover among the answers       its index     everything as it was
  *   2   the tree is finished: reset it first                           everything as it was
  *   7   more visits than fuel                                          cells, record and board as they were;

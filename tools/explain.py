@@ -63,19 +63,19 @@ def of_bound(file):
 
 
 def ms(bits):
-    return f.time_words(bits) + " ms"
+    return f.time_words(trees.cleaned(bits)) + " ms"
 
 
 def left(leftover):
-    return ", %s left" % ms(leftover) if leftover else ""
+    return ", %s left" % ms(leftover) if trees.cleaned(leftover) else ""
 
 
 ENDS = {1: "The tree goes on", 2: "The tree ends in Success", 3: "The tree ends in Failure"}
 REFUSED = {
     2: "the tree has finished, and a reset comes first",
     3: "the table is no tree, at place %d",
-    5: "the time is not finite, or has its sign bit set",
-    6: "answer %d has no such status, or its leftover is not finite or has its sign bit set",
+    5: "the time is not finite, or below zero",
+    6: "answer %d has no such status, or its leftover is not finite or below zero",
     7: "the tick would make more visits than its fuel",
 }
 

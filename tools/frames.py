@@ -9,7 +9,7 @@ Words:
   node KIND N limit TIME                 kinds by name, as Wait or Sequence, else kind:1f; N is the action's number or the
                                          number of children, which is counted by the indentation where it is left out
   tick update TIME fuel N                a tick; its answers follow: answers Success TIME Running TIME ..
-  tick other fuel N                      statuses by name, else status:09
+  tick other fuel N                      statuses by name, else status:09; minus-zero after other keeps that dt
   reset
   ticked STATUS leftover TIME visits N used N, asked ACTION dt TIME, finished, bad-table at PLACE, too-short, bad-time,
   bad-answer at INDEX, out-of-fuel, bad-cell at PLACE      what a tick answers
@@ -36,6 +36,7 @@ STATUSES = {1: "Running", 2: "Success", 3: "Failure"}
 ANSWERS = {2: "finished", 3: "bad-table", 4: "too-short", 5: "bad-time", 6: "bad-answer", 7: "out-of-fuel", 9: "bad-cell"}
 PLACED = {3: "place", 6: "index", 9: "place"}  # answers whose extra field says where
 NODES, MOST = 257, 1024
+MINUS_ZERO = 1 << 63
 
 
 class Wrong(Exception):
@@ -92,8 +93,8 @@ def read(line):
             raise Wrong("count: %d, and %d fields of answers follow; an answer has two" % (told, len(rest) - 4))
         if event > 1:
             raise Wrong("event: 00 (other) and 01 (update) are all, and not %02x" % event)
-        if event == 0 and dt:
-            raise Wrong("dt: all 0 for an other event")
+        if event == 0 and dt not in (0, MINUS_ZERO):
+            raise Wrong("dt: zero for an other event, with either sign")
     elif len(rest) > len(fields):
         raise Wrong("%s is one field too many" % short(rest[len(fields)]))
     return kind, numbers
@@ -120,7 +121,7 @@ def bits_of(value):
 
 def time_words(bits):
     value = struct.unpack(">d", struct.pack(">Q", bits))[0]
-    if not math.isfinite(value) or bits == 1 << 63:
+    if not math.isfinite(value) or bits == MINUS_ZERO:
         return "0x%016x" % bits
     if Decimal(value) != Decimal(repr(value)):
         return "~" + repr(value)
@@ -164,7 +165,7 @@ def words(kind, numbers):
         return "node " + kind_words(node) + ("" if n is None else " %d" % n) + (" limit %s" % time_words(limit) if limit else "")
     if kind == 0x02:
         event, dt, fuel, count = numbers[:4]
-        text = ("tick update %s" % time_words(dt) if event else "tick other") + " fuel %d" % fuel
+        text = ("tick update %s" % time_words(dt) if event else "tick other" + (" minus-zero" if dt else "")) + " fuel %d" % fuel
         answers = zip(numbers[4::2], numbers[5::2])
         return text + (" answers" if count else "") + "".join(" %s %s" % (status_words(s), time_words(t)) for s, t in answers)
     if kind == 0x03:
@@ -254,7 +255,7 @@ class Words:
         if self.maybe("update"):
             return [1, self.time("dt")]
         if self.maybe("other"):
-            return [0, 0]
+            return [0, MINUS_ZERO if self.maybe("minus-zero") else 0]
         raise Wrong("event: update and a time is wanted, or other, and not %s" % short(self.next("event")))
 
     def answers(self):

@@ -61,10 +61,15 @@ class File:
         return min((whole(numbers[1]) for _, kind, numbers in self.script if kind == 0x02 and whole(numbers[1])), default=0)
 
 
+def cleaned(bits):
+    """Minus zero is taken as plus zero."""
+    return 0 if bits == f.MINUS_ZERO else bits
+
+
 def whole(bits):
     """The whole number from 0 to 2^40 that a time is, else None."""
     value = struct.unpack(">d", struct.pack(">Q", bits))[0]
-    return int(value) if bits != 1 << 63 and 0 <= value <= MOST_TIME and value == int(value) else None
+    return int(value) if 0 <= value <= MOST_TIME and value == int(value) else None
 
 
 # ---- the table
@@ -72,6 +77,7 @@ def whole(bits):
 
 def allowed(kind, n, limit):
     """Whether a node may stand in a table, wherever that is."""
+    limit = cleaned(limit)
     if kind >= len(f.KINDS) or (limit and f.KINDS[kind] not in ("Wait", "Timeout")) or limit >= 0x7FF0000000000000:
         return False
     fewest, most = (0, 0) if kind in LEAVES else COUNTS.get(kind, (0, None))
@@ -148,7 +154,7 @@ def told(ticks):
 
 def label(file, place):
     kind, n, limit = file.nodes[place]
-    text = f.KINDS[kind] + (" %d" % n if kind == f.ACTION else " %s ms" % f.time_words(limit) if f.KINDS[kind] in ("Wait", "Timeout") else "")
+    text = f.KINDS[kind] + (" %d" % n if kind == f.ACTION else " %s ms" % f.time_words(cleaned(limit)) if f.KINDS[kind] in ("Wait", "Timeout") else "")
     return text + (": " + file.names[place] if place in file.names else "")
 
 

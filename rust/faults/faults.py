@@ -44,6 +44,12 @@ FAULTS = [
         "fresh(work, times, q, next);\n                    put_mark",
         "put_mark",
     ),
+    (
+        "limits and leftovers keep the sign of zero",
+        "work/src/array.rt",
+        "cleaned(numbers[p])",
+        "numbers[p]",
+    ),
 ]
 
 HERE = os.path.dirname(os.path.abspath(__file__))

@@ -64,7 +64,7 @@ start = record {
 
 -- ---- what a line asks for
 abbrev pub eventOf : Event → events.Event
-eventOf Other = happened.Other
+eventOf (Other minus) = happened.Other
 eventOf (Update dt) = happened.Update (ofBits binary64 dt)
 
 abbrev pub times : List ℕ → List Float

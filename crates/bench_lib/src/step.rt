@@ -61,7 +61,7 @@ fn event_of(event: Event) -> rules::Event
     ensures { λ r. ⌜ r ≡ eventOf event ⌝ }
 {
     match event {
-        Event::Other => rules::Event::Other,
+        Event::Other(_) => rules::Event::Other,
         Event::Update(dt) => rules::Event::Update(frames::time(dt)),
     }
 }

@@ -14,7 +14,7 @@ use Rattle.rules.specs.declared.behavior.Kind.{Kind}
 use Rattle.rules.specs.declared.behavior.Kind.the-variants.{After}
 use Rattle.rules.specs.Kinds.{kindOf, is, timed, fewest, most, children}
 use Rattle.rules.specs.Tree.{zeroTime, Cell, Tree, node, Forest, [], _∷_, count}
-use Rattle.rules.specs.Table.{rowAllowed, countAllowed, limitAllowed}
+use Rattle.rules.specs.Table.{cleaned, rowAllowed, countAllowed, limitAllowed}
 use Rattle.rules.specs.Bound.{Lim, within, wholeTime, ownTicks, bound, boundable, boundables}
 use Rattle.tables.specs.At.{Row, At, Ats}
 use Rattle.tables.proofs.Placed.{size-pos, at-end, ats-end}
@@ -99,7 +99,7 @@ module _ (kinds ns : List ℕ) (limits : List Float) (ends : List ℕ) where
   module _ (d q : ℕ) (kind : Kind) (own : Ticks) (many : ℕ)
       (in-limits : q < length limits)
       (kind-is : kind ≡ kindOf (getD kinds q 0))
-      (own-is : wholeTime binary64 (getD limits q nan) ≡ true → own ≡ clipped (within (ownTicks d (getD limits q nan))))
+      (own-is : wholeTime binary64 (cleaned (getD limits q nan)) ≡ true → own ≡ clipped (within (ownTicks d (cleaned (getD limits q nan)))))
       (many-is : many ≡ children kind (getD ns q 0)) where
     module _ (k : Kind) (n : ℕ) (l : Float) (c : Cell) (b : ℕ) (ts : Forest) (h : Stands kinds ns limits ends q (node k n l c b ts)) where
       same-kind : kind ≡ k
@@ -110,7 +110,7 @@ module _ (kinds ns : List ℕ) (limits : List Float) (ends : List ℕ) where
 
       same-own : timed k ≡ true → own ≡ clipped (within (ownTicks d l))
       same-own t =
-          let e : getD limits q nan ≡ l = any-default limits q nan zeroTime in-limits ∙ h .held .0 .limit in
+          let e : cleaned (getD limits q nan) ≡ l = ap (λ (x : Float). cleaned x) (any-default limits q nan zeroTime in-limits) ∙ h .held .0 .limit in
           rw e at (own-is (rw e (timed-whole q k n l c b ts h t)))
 
     pub alone-bound : (r : Ticks) → Alone kind own r → many ≡ 0 → (t : Tree) → Stands kinds ns limits ends q t → r ≡ clipped (bound d t)

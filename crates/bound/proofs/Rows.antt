@@ -13,6 +13,7 @@ use lib.ListN.{getD, length}
 use Rattle.rules.specs.declared.behavior.Kind.{Kind}
 use Rattle.rules.specs.Kinds.{kindOf, children}
 use Rattle.rules.specs.Tree.{zeroTime, Tree, node, Forest, [], _∷_, count}
+use Rattle.rules.specs.Table.{cleaned}
 use Rattle.rules.specs.Bound.{boundable, boundables}
 use Rattle.tables.specs.At.{Row, At, Ats}
 use Rattle.tables.proofs.Rows.{any-default}
@@ -29,7 +30,7 @@ either a b = go (ltb a b) refl
 module _ (kinds ns : List ℕ) (limits : List Float) where
   -- the row at a place
   abbrev pub rowAt : ℕ → Bool
-  rowAt i = rowBounded (kindOf (getD kinds i 0)) (children (kindOf (getD kinds i 0)) (getD ns i 0)) (getD limits i nan)
+  rowAt i = rowBounded (kindOf (getD kinds i 0)) (children (kindOf (getD kinds i 0)) (getD ns i 0)) (cleaned (getD limits i nan))
 
   row-is : (q : ℕ) (k : Kind) (n : ℕ) (l : Float) (many : ℕ) → q < length limits → Row kinds ns limits q k n l many → rowAt q ≡ rowBounded k many l
   row-is q k n l many h r = rw (any-default limits q nan zeroTime h, r .kind, r .number, r .limit, r .kids)

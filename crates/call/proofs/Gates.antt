@@ -5,15 +5,18 @@ use mathlib.Core.List.{List}
 use Prim.Native.Nat.{ℕ, _≤_, _<_}
 use borrow.Author.Tests.{le-leb, lt-leb}
 use lib.Dec.{leb}
-use lib.Ieee.{Float}
+use lib.Ieee.{Float, binary64}
 use lib.ListN.{length}
 use Rattle.rules.specs.declared.answer.Answer.{Answer}
 use Rattle.rules.specs.declared.answer.Answer.the-variants.{BadTable, TooShort, BadCell, BadTime, BadAnswer, Finished}
 use Rattle.rules.specs.declared.event.Event.{Event}
 use Rattle.rules.specs.declared.event.Event.the-variants.{Update}
-use Rattle.rules.specs.Table.{number, bad, table}
+use Rattle.rules.specs.Outcome.{world}
+use Rattle.rules.specs.State.{tick}
+use Rattle.rules.specs.Table.{mostDeep, cleaned, number, bad, table}
 use Rattle.rules.specs.Cells.{Found, faulty, none, badCell}
-use Rattle.rules.specs.Call.{Given, runLength, badAnswer, timeAllowed, refused, tickTree, tickCall}
+use Rattle.rules.specs.Call.{Given, Left, runLength, answers, badAnswer, cleanedEvent, timeAllowed, refused, walked, tickTree, tickCall}
+use Rattle.calls.specs.Zeros.{withEvent, same-event, same-walk}
 use Rattle.tables.specs.declared.number.Number.{Number}
 use Rattle.tables.specs.declared.number.Number.the-variants as number
 use Rattle.tables.specs.declared.answers.Answered.{Answered}
@@ -24,7 +27,9 @@ use Rattle.cells.specs.declared.check.Found.the-variants.{Faulty, Fine}
 use Rattle.cells.specs.Check.{Room, Checks, said}
 use Rattle.call.specs.declared.gate.Gate.{Gate}
 use Rattle.call.specs.declared.gate.Gate.the-variants.{Refused, Open}
-use Rattle.call.specs.Due.{loaded, Due, Passed}
+use Rattle.call.specs.declared.gate.Timed.{Timed as Chosen}
+use Rattle.call.specs.declared.gate.Timed.the-variants as timed
+use Rattle.call.specs.Due.{loaded, walkOf, Due, timedOf, Passed}
 use Rattle.call.proofs.Good.{Good}
 use Rattle.call.proofs.Long.{long}
 
@@ -45,9 +50,9 @@ answered-good : (o : Found) (r : Answered) → r ≡ answeredOf o → r ≡ answ
 answered-good (faulty q) r e h = (0, cc)
 answered-good (none q) r e h = (q, refl)
 
-number-test : (b : Bool) (x y : Float) → cond b (number.Good x) number.Bad ≡ number.Good y → b ≡ true
-number-test true x y e = refl
-number-test false x y e = cc
+number-test : (b : Bool) (x y : Float) → cond b (number.Good x) number.Bad ≡ number.Good y → (b ≡ true) × (y ≡ x)
+number-test true x y e = (refl, cc)
+number-test false x y e = (cc, cc)
 
 no-number-test : (b : Bool) (x : Float) → cond b (number.Good x) number.Bad ≡ number.Bad → b ≡ false
 no-number-test true x e = cc
@@ -55,11 +60,20 @@ no-number-test false x e = refl
 
 -- the time of an update
 module _ {x : Float} {e : Event} {r : Number} (i : e ≡ Update x) (k : r ≡ numberOf x) where
-  pub time-allowed : (y : Float) → r ≡ number.Good y → true ≡ timeAllowed e
-  time-allowed y h = rw (i, number-test (number x) x y (sym k ∙ h))
+  pub time-used : (y : Float) → r ≡ number.Good y → timed.Good (Update y) ≡ timedOf e
+  time-used y h = let t = number-test (number (cleaned x)) (cleaned x) y (sym k ∙ h) in rw (i, t .0, t .1)
 
-  pub time-refused : r ≡ number.Bad → false ≡ timeAllowed e
-  time-refused h = rw (i, no-number-test (number x) x (sym k ∙ h))
+  pub time-refused : r ≡ number.Bad → timed.Bad ≡ timedOf e
+  time-refused h = rw (i, no-number-test (number (cleaned x)) (cleaned x) (sym k ∙ h))
+
+-- the event to use
+used-test : (b : Bool) (e u : Event) → cond b (timed.Good e) timed.Bad ≡ timed.Good u → (b ≡ true) × (u ≡ e)
+used-test true e u h = (refl, cc)
+used-test false e u h = (cc, cc)
+
+unused-test : (b : Bool) (e : Event) → cond b (timed.Good e) timed.Bad ≡ timed.Bad → b ≡ false
+unused-test true e h = cc
+unused-test false e h = refl
 
 -- ---- 3
 pub bad-table : (g : Given) (p : ℕ) → table (g .kinds) (g .ns) (g .limits) ≡ bad p → tickCall g ≡ refused g (BadTable p)
@@ -82,12 +96,14 @@ module _ (g : Given) (ends : List ℕ) (n : ℕ) where
     pub fine : badCell false false 0 (loaded g (fit .good .tree)) ≡ none behind
     pub is : tickCall g ≡ tickTree g (loaded g (fit .good .tree))
 
-  pub record Timed : Type 0 where
+  -- u is the event to use
+  pub record Timed (u : Event) : Type 0 where
     pub held : Held
     pub time : timeAllowed (g .event) ≡ true
+    pub clean : u ≡ cleanedEvent (g .event)
 
-  pub record Answerable : Type 0 where
-    pub timed : Timed
+  pub record Answerable (u : Event) : Type 0 where
+    pub timed : Timed u
     pub count : ℕ
     pub fine : badAnswer 0 (g .statuses) (g .leftovers) ≡ none count
 
@@ -135,29 +151,43 @@ module _ {g : Given} {ends : List ℕ} {n : ℕ} where
       }
 
   -- ---- 5
-  pub bad-time : Held g ends n → timeAllowed (g .event) ≡ false → tickCall g ≡ refused g BadTime
-  unfolding tickTree
-  bad-time t e = rw (t .is, tickTree, e)
+  module _ (t : Held g ends n) {r : Chosen} (k : r ≡ timedOf (g .event)) where
+    pub bad-time : r ≡ timed.Bad → tickCall g ≡ refused g BadTime
+    unfolding tickTree
+    bad-time h = rw (t .is, tickTree, unused-test (timeAllowed (g .event)) (cleanedEvent (g .event)) (sym k ∙ h))
+
+    pub fine-time : (u : Event) → r ≡ timed.Good u → Timed g ends n u
+    fine-time u h = let b = used-test (timeAllowed (g .event)) (cleanedEvent (g .event)) u (sym k ∙ h) in record { held = t; time = b .0; clean = b .1 }
 
   -- ---- 6
-  module _ (t : Timed g ends n) {r : Answered} (k : r ≡ firstBad (g .statuses) (g .leftovers)) where
+  module _ {u : Event} (t : Timed g ends n u) {r : Answered} (k : r ≡ firstBad (g .statuses) (g .leftovers)) where
     pub bad-answer : (i : ℕ) → r ≡ answered.Bad i → tickCall g ≡ refused g (BadAnswer i)
     unfolding tickTree firstBad
     bad-answer i h = rw (t .held .is, tickTree, t .time, answered-bad (badAnswer 0 (g .statuses) (g .leftovers)) r i k h)
 
-    pub fine-answers : r ≡ answered.Good → Answerable g ends n
+    pub fine-answers : r ≡ answered.Good → Answerable g ends n u
     unfolding firstBad
     fine-answers h = let a = answered-good (badAnswer 0 (g .statuses) (g .leftovers)) r k h in record { timed = t; count = a .0; fine = a .1 }
 
   -- ---- 2, and the walk
-  module _ (t : Answerable g ends n) where
+  module _ {u : Event} (t : Answerable g ends n u) where
     pub finished : g .record' .finished ≡ true → tickCall g ≡ refused g Finished
     unfolding tickTree
     finished e = rw (t .timed .held .is, tickTree, t .timed .time, t .fine, e)
 
-    pub due : g .record' .finished ≡ false → Due g ends n
+    abbrev clean : Given
+    clean = withEvent (cleanedEvent (g .event)) g
+
+    walks : g .record' .finished ≡ false → tickCall clean ≡ walkOf clean (t .timed .held .fit .good .tree)
     unfolding tickTree
-    due e =
+    walks e =
+        let tree = loaded g (t .timed .held .fit .good .tree) in
+        let o = tick binary64 mostDeep tree (cleanedEvent (g .event)) (world (g .fuel) (answers (g .statuses) (g .leftovers))) in
+        let here : tickCall g ≡ walked g tree o = rw (t .timed .held .is, tickTree, t .timed .time, t .fine, e) in
+        same-event g ∙ here ∙ sym (same-walk g (cleanedEvent (g .event)) tree o)
+
+    open' : g .record' .finished ≡ false → Due clean ends n
+    open' e =
         let f = t .timed .held .fit in
         record {
           tree = f .good .tree;
@@ -173,13 +203,19 @@ module _ {g : Given} {ends : List ℕ} {n : ℕ} where
           cells-long = long n (g .cells') (f .cells);
           spare-long = long n (g .spare) (f .spare);
           board-long = f .board;
-          walks = rw (t .timed .held .is, tickTree, t .timed .time, t .fine, e);
+          walks = walks e;
         }
+
+    pub due : g .record' .finished ≡ false → Passed g ends (Open n u)
+    due e = rw (t .timed .clean) (same-event g, open' e)
 
 -- ---- what the checks leave, told by their answer
 module _ (g : Given) (ends : List ℕ) (r : Gate) (p : Passed g ends r) where
   pub passed-refused : (a : Answer) → r ≡ Refused a → tickCall g ≡ refused g a
   passed-refused a e = rw e at p
 
-  pub passed-open : (n : ℕ) → r ≡ Open n → Due g ends n
-  passed-open n e = rw e at p
+  pub passed-open : (n : ℕ) (u : Event) → r ≡ Open n u → (tickCall (withEvent u g) ≡ tickCall g) × Due (withEvent u g) ends n
+  passed-open n u e = rw e at p
+
+  pub passed-on : (n : ℕ) (u : Event) (l : Left) → r ≡ Open n u → tickCall (withEvent u g) ≡ l → tickCall g ≡ l
+  passed-on n u l e h = sym (passed-open n u e .0) ∙ h

@@ -14,13 +14,19 @@ ghost use mathlib.Core.Path.{_≡_};
 ghost use Prim.Native.Nat.{ℕ};
 ghost use lib.Dec.{leb};
 ghost use lib.ListN.{length};
-ghost use Rattle.rules.specs.Call.{run, runLength, timeAllowed, given};
-ghost use Rattle.call.specs.Due.{Passed};
+ghost use Rattle.rules.specs.Call.{run, runLength, given};
+ghost use Rattle.call.specs.Due.{timedOf, Passed};
 
-// What is to be done: nothing but to answer, or the walk of a tree of so many nodes.
+// What is to be done: nothing but to answer, or the walk of a tree of so many nodes with an event.
 pub enum Gate {
     Refused(Answer),
-    Open(usize),
+    Open(usize, Event),
+}
+
+// The event to use.
+enum Timed {
+    Good(Event),
+    Bad,
 }
 
 // Whether a run has n cells or more.
@@ -36,15 +42,15 @@ pub fn long_enough(times: &[f64], places: &[u16], marks: &[u8], n: usize) -> boo
     n <= marks.len()
 }
 
-fn time_allowed(event: Event) -> bool
-    ensures { λ r. ⌜ r ≡ timeAllowed event ⌝ }
+fn event_of(event: Event) -> Timed
+    ensures { λ r. ⌜ r ≡ timedOf event ⌝ }
 {
     match event {
         Event::Update(dt) => match number_of(dt) {
-            Number::Good(_) => true,
-            Number::Bad => false,
+            Number::Good(number) => Timed::Good(Event::Update(number)),
+            Number::Bad => Timed::Bad,
         },
-        Event::Other => true,
+        Event::Other => Timed::Good(Event::Other),
     }
 }
 
@@ -89,16 +95,16 @@ pub fn checks(
             if let Found::Faulty(p) = check_cells(kinds, ns, ends, times, places, marks, n) {
                 return Gate::Refused(Answer::BadCell(p));
             }
-            if !time_allowed(event) {
+            let Timed::Good(used) = event_of(event) else {
                 return Gate::Refused(Answer::BadTime);
-            }
+            };
             if let Answered::Bad(i) = bad_answer(statuses, leftovers) {
                 return Gate::Refused(Answer::BadAnswer(i));
             }
             if record.finished {
                 return Gate::Refused(Answer::Finished);
             }
-            Gate::Open(n)
+            Gate::Open(n, used)
         }
     }
 }

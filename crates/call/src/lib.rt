@@ -151,7 +151,7 @@ pub fn tick_value(
         leftovers,
     ) {
         Gate::Refused(answer) => Called { answer, record },
-        Gate::Open(n) => carry_out(
+        Gate::Open(n, used) => carry_out(
             record,
             kinds,
             ns,
@@ -164,7 +164,7 @@ pub fn tick_value(
             spare_places,
             spare_marks,
             board,
-            event,
+            used,
             fuel,
             statuses,
             leftovers,

@@ -12,7 +12,7 @@ use Rattle.rules.specs.Tree.{Tree}
 use Rattle.rules.specs.Outcome.{World, world, Out, done, asks, short}
 use Rattle.rules.specs.State.{tick}
 use Rattle.rules.specs.Table.{mostDeep, good, table}
-use Rattle.rules.specs.Call.{Run, Given, Left, answers, counted, ontoRun, walked, tickCall, ResetLeft}
+use Rattle.rules.specs.Call.{Run, Given, Left, answers, cleanedEvent, counted, ontoRun, walked, tickCall, ResetLeft}
 use Rattle.calls.specs.Shape.{shape}
 use Rattle.calls.specs.Memory.{clear, held, held-onto}
 use Rattle.calls.specs.Tables.{one-tree}
@@ -22,7 +22,7 @@ use Rattle.calls.specs.Resets.{ResetView, resetting, leaving, reset-view
 
 -- the tick of a call
 abbrev pub ticked : Given → Tree → Out Tree
-ticked g t = tick binary64 mostDeep t (g .event) (world (g .fuel) (answers (g .statuses) (g .leftovers)))
+ticked g t = tick binary64 mostDeep t (cleanedEvent (g .event)) (world (g .fuel) (answers (g .statuses) (g .leftovers)))
 
 -- what a walk that started with a tree of the shape of t leaves: its shape, and P or E
 abbrev pub After : Tree → (Tree → ℕ → Type 0) → (ℕ → Type 0) → ℕ → Out Tree → Type 0

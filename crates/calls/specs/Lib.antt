@@ -7,3 +7,4 @@ pub mod Walks
 pub mod History
 pub mod Resets
 pub mod Invariant
+pub mod Zeros

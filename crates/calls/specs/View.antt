@@ -10,7 +10,7 @@ use Rattle.rules.specs.Outcome.{world, Out}
 use Rattle.rules.specs.State.{tick}
 use Rattle.rules.specs.Table.{mostDeep, Table, good, bad, table}
 use Rattle.rules.specs.Cells.{Found, faulty, none, badCell}
-use Rattle.rules.specs.Call.{Given, Left, answers, badAnswer, timeAllowed, refused, walked, tickTree, tooShort, tickCall}
+use Rattle.rules.specs.Call.{Given, Left, answers, cleanedEvent, badAnswer, timeAllowed, refused, walked, tickTree, tooShort, tickCall}
 use Rattle.calls.specs.Memory.{held}
 
 -- the tree of the table, and the walk
@@ -18,7 +18,7 @@ abbrev pub heldBy : Tree → Given → Tree
 heldBy t g = held t (g .cells')
 
 abbrev pub walk : Tree → Given → Out Tree
-walk t g = tick binary64 mostDeep (heldBy t g) (g .event) (world (g .fuel) (answers (g .statuses) (g .leftovers)))
+walk t g = tick binary64 mostDeep (heldBy t g) (cleanedEvent (g .event)) (world (g .fuel) (answers (g .statuses) (g .leftovers)))
 
 -- what a refusal and a walk that does not end in answer 0 leave
 abbrev pub Stays : Given → Left → Type 0

@@ -13,7 +13,7 @@ use Rattle.rules.specs.Tree.{Tree}
 use Rattle.rules.specs.Outcome.{world, done, asks, short}
 use Rattle.rules.specs.State.{tick}
 use Rattle.rules.specs.Table.{mostDeep, good, table}
-use Rattle.rules.specs.Call.{Run, answers}
+use Rattle.rules.specs.Call.{Run, answers, cleanedEvent}
 use Rattle.rules.specs.Bound.{boundable, num}
 use Rattle.calls.specs.Shape.{shape}
 use Rattle.calls.specs.Memory.{held}
@@ -43,7 +43,8 @@ module _ (t : Tree) (s : Shaped binary64 (shape t)) (d : ℕ) (P : Tree → ℕ 
   pub whole-step : Steps t (WholeTick t d) P E
   whole-step st g t' k (asks n x) q v h = tt
   whole-step st g t' k short q v h = tt
-  whole-step st g t' k (done s' r t'' (world f left)) q v h = on-event t' k (g .event) (g .fuel) (answers (g .statuses) (g .leftovers)) left s' r t'' f v (h .whole-time) (h .whole-leftovers) q
+  whole-step st g t' k (done s' r t'' (world f left)) q v h =
+      on-event t' k (cleanedEvent (g .event)) (g .fuel) (answers (g .statuses) (g .leftovers)) left s' r t'' f v (h .whole-time) (h .whole-leftovers) q
 
 -- ---- the cells hold a state of the table's tree
 abbrev pub StateIn : Tree → Run → Type 0

@@ -9,7 +9,7 @@ use Rattle.rules.specs.declared.status.Status.{Status}
 use Rattle.rules.specs.declared.event.Event.{Event}
 use Rattle.rules.specs.declared.event.Event.the-variants.{Update, Other}
 use Rattle.rules.specs.Tree.{Tree}
-use Rattle.rules.specs.Call.{Given, answers}
+use Rattle.rules.specs.Call.{Given, answers, cleanedEvent}
 use Rattle.rules.specs.Bound.{num, wholeTime}
 use Rattle.calls.specs.History.{Call, Standing, TakesUp}
 use Rattle.calls.specs.Invariant.{AllAsked}
@@ -29,7 +29,7 @@ WholeAnswers (List._∷_ a rest) = T (wholeTime binary64 (a .1)) × WholeAnswers
 -- a tick of the tree t that was carried out, after what stood, and used so many of its answers
 pub record WholeTick (t : Tree) (d : ℕ) (st : Standing) (g : Given) (used : ℕ) : Type 0 where
   pub takes-up : TakesUp t st g
-  pub whole-time : WholeEvent d (g .event)
+  pub whole-time : WholeEvent d (cleanedEvent (g .event))
   pub whole-leftovers : WholeAnswers (take used (answers (g .statuses) (g .leftovers)))
 
 -- each tick answered 0 is such a one, each reset answered 0 is one of t's table, and all other calls are free

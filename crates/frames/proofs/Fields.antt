@@ -1,5 +1,6 @@
 -- A field at a place of a line, and a run of fields read one after another.
 use mathlib.Core.Path.{_≡_, sym, ap, _∙_}
+use mathlib.Core.Bool.{true, false}
 use mathlib.Core.List.{List, [], _∷_, _++_}
 use Prim.Native.Nat.{ℕ, _+_, _-_, _<_}
 use native.Mathlib.Nat.{add-zero}
@@ -8,7 +9,7 @@ use native.Mathlib.Omega.{arith}
 use lib.ListN.{length, getD, drop, length-drop, drop-of-length-le}
 use lib.Seq.{drop-cons, getD-drop, drop-drop}
 use Rattle.frames.specs.Hex.{digits}
-use Rattle.frames.specs.Line.{fields}
+use Rattle.frames.specs.Line.{fields, minusZero}
 use Rattle.frames.specs.Parts.{Number, FieldAt, EventIs}
 use Rattle.frames.specs.declared.Event.the-variants.{Other, Update}
 use Rattle.frames.specs.declared.hex.Part.{Part}
@@ -47,6 +48,7 @@ end-here s at h b l =
 pub no-end : (s : List ℕ) (at : ℕ) → (at < length s → getD s at 0 ≡ 10 → length s - at ≡ 1 → ⊥) → drop at s ≡ fields [] → ⊥
 no-end s at k e = let q = cons-at s at 10 [] e in k (q .0) (q .1) (omega (arith, simp length-drop at (ap length e)))
 
-pub no-event : (n dt : ℕ) → (n ≡ 1 → ⊥) → (n ≡ 0 → dt ≡ 0 → ⊥) → EventIs n dt Happened.Not
-no-event n dt a b Other p q = b (sym p) (sym q)
-no-event n dt a b (Update t) p q = a (sym p)
+pub no-event : (n dt : ℕ) → (n ≡ 1 → ⊥) → (n ≡ 0 → dt ≡ 0 → ⊥) → (n ≡ 0 → dt ≡ minusZero → ⊥) → EventIs n dt Happened.Not
+no-event n dt a b c (Other true) p q = c (sym p) (sym q)
+no-event n dt a b c (Other false) p q = b (sym p) (sym q)
+no-event n dt a b c (Update t) p q = a (sym p)

@@ -108,7 +108,7 @@ line-put d k {fs} {d′} {d″} {n} e p h =
 
 -- ---- numbers of their types have room in their fields
 pub event-small : (e : Event) → eventNo e < 16 ^ 2
-event-small Other = lit< tt
+event-small (Other minus) = lit< tt
 event-small (Update dt) = lit< tt
 
 pub answers-fit : (k i : ℕ) (ss ls : List ℕ) → ((j : ℕ) → getD ss j 0 < 2 ^ 8) → ((j : ℕ) → getD ls j 0 < 2 ^ 64) → Fit (answers k i ss ls)

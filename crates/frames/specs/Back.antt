@@ -1,11 +1,11 @@
 -- A frame is told by its kind and its fields.
 use mathlib.Core.Path.{_≡_, refl, sym, ap, _∙_}
-use mathlib.Core.Bool.{cond}
+use mathlib.Core.Bool.{true, false, cond}
 use mathlib.Core.List.{List}
 use Prim.Native.Nat.{ℕ, _^_, _<_}
 use lib.Dec.{eqb, lit<}
 use lib.ListN.{getD}
-use Rattle.frames.specs.Line.{Field, kindOf, body}
+use Rattle.frames.specs.Line.{Field, kindOf, minusZero, body}
 use Rattle.frames.specs.declared.Event.{Event}
 use Rattle.frames.specs.declared.Event.the-variants.{Other, Update}
 use Rattle.frames.specs.declared.Frame.{Frame}
@@ -15,7 +15,7 @@ abbrev pub value : List Field → ℕ → ℕ
 value fs i = getD fs i (0, 0) .1
 
 abbrev pub eventOf : List Field → Event
-eventOf fs = cond (eqb (value fs 0) 0) Other (Update (value fs 1))
+eventOf fs = cond (eqb (value fs 0) 0) (Other (eqb (value fs 1) minusZero)) (Update (value fs 1))
 
 abbrev pub frameOf : ℕ → List Field → Frame
 frameOf k fs =
@@ -27,7 +27,8 @@ frameOf k fs =
 
 pub frame-back : (f : Frame) (ss ls : List ℕ) → frameOf (kindOf f) (body f ss ls) ≡ f
 frame-back (Node kind n limit) ss ls = refl
-frame-back (Tick Other fuel count) ss ls = refl
+frame-back (Tick (Other true) fuel count) ss ls = refl
+frame-back (Tick (Other false) fuel count) ss ls = refl
 frame-back (Tick (Update dt) fuel count) ss ls = refl
 frame-back Reset ss ls = refl
 frame-back (Said num status time visits used extra) ss ls = refl

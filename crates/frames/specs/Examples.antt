@@ -1,5 +1,6 @@
 -- Lines of the paper and one of each other kind, byte by byte.
 use mathlib.Core.Path.{_≡_, refl}
+use mathlib.Core.Bool.{true, false}
 use mathlib.Core.List.{[], _∷_}
 use Rattle.frames.specs.Hex.{digits}
 use Rattle.frames.specs.Line.{line}
@@ -15,10 +16,14 @@ an-update : line (Tick (Update 0x3ff0000000000000) 0x10 0) [] [] ≡ bytes "02 0
 unfolding digits bytes
 an-update = refl
 
-answers-given : line (Tick Other 5 2) (2 ∷ 1 ∷ []) (0 ∷ 0x401c000000000000 ∷ [])
+answers-given : line (Tick (Other false) 5 2) (2 ∷ 1 ∷ []) (0 ∷ 0x401c000000000000 ∷ [])
     ≡ bytes "02 00 0000000000000000 00000005 0002 02 0000000000000000 01 401c000000000000\n"
 unfolding digits bytes
 answers-given = refl
+
+minus-zero : line (Tick (Other true) 5 0) [] [] ≡ bytes "02 00 8000000000000000 00000005 0000\n"
+unfolding digits bytes
+minus-zero = refl
 
 a-reset : line Reset [] [] ≡ bytes "03\n"
 unfolding digits bytes

@@ -88,7 +88,8 @@ widths-front (Malformed number) = refl
 
 front-back : (f : Frame) → frameOf (kindOf f) (front f) ≡ f
 front-back (Node kind n limit) = refl
-front-back (Tick Other fuel count) = refl
+front-back (Tick (Other true) fuel count) = refl
+front-back (Tick (Other false) fuel count) = refl
 front-back (Tick (Update dt) fuel count) = refl
 front-back Reset = refl
 front-back (Said num status time visits used extra) = refl

@@ -32,11 +32,16 @@ kindOf (WasReset num) = 0x83
 kindOf (Malformed line) = 0x8f
 
 abbrev pub eventNo : Event → ℕ
-eventNo Other = 0
+eventNo (Other minus) = 0
 eventNo (Update dt) = 1
 
+-- the sign bit alone
+abbrev pub minusZero : ℕ
+minusZero = 0x8000000000000000
+
+-- beside an other event, zero with either sign
 abbrev pub eventTime : Event → ℕ
-eventTime Other = 0
+eventTime (Other minus) = cond minus minusZero 0
 eventTime (Update dt) = dt
 
 -- k answers from the i-th on

@@ -14,11 +14,15 @@ pub use patterns::times;
 pub use reader::read;
 pub use writer::write;
 
-// A tick's event. Only an update has a dt.
+// A tick's event. Only an update has a dt; beside any other stands a zero, of which the sign is kept:
+// true for minus zero.
 pub enum Event {
-    Other,
+    Other(bool),
     Update(u64),
 }
+
+// The bits of minus zero: the sign alone.
+const MINUS_ZERO: u64 = 0x8000000000000000;
 
 // A frame by value. A tick's answers stand beside it in two lent slices, statuses and leftovers: the first count of each.
 pub enum Frame {

@@ -6,6 +6,7 @@ ghost use Rattle.frames.specs.Line.{answersOf, Reads};
 ghost use Rattle.frames.specs.Parts.{Ends, EventIs, Skips, Body, Whole, Filled};
 use crate::Event;
 use crate::Frame;
+use crate::MINUS_ZERO;
 use crate::Reading;
 use crate::hex::field;
 use crate::hex::number;
@@ -44,7 +45,10 @@ fn event(number: u64, dt: u64) -> Happened
     }
     if number == 0 {
         if dt == 0 {
-            return Happened::Is(Event::Other);
+            return Happened::Is(Event::Other(false));
+        }
+        if dt == MINUS_ZERO {
+            return Happened::Is(Event::Other(true));
         }
     }
     Happened::Not

@@ -9,6 +9,7 @@ ghost use Rattle.frames.specs.Line.{answers as Line·answers};
 ghost use Rattle.frames.specs.Parts.{over, sizeOf, Puts};
 use crate::Event;
 use crate::Frame;
+use crate::MINUS_ZERO;
 use crate::Written;
 use crate::reader::count;
 
@@ -77,7 +78,7 @@ fn event_no(event: Event) -> u64
     ensures { λ r. ⌜ r ≡ eventNo event ⌝ }
 {
     match event {
-        Event::Other => 0,
+        Event::Other(_) => 0,
         Event::Update(_) => 1,
     }
 }
@@ -86,7 +87,7 @@ fn event_time(event: Event) -> u64
     ensures { λ r. ⌜ r ≡ eventTime event ⌝ }
 {
     match event {
-        Event::Other => 0,
+        Event::Other(minus) => { if minus { MINUS_ZERO } else { 0 } }
         Event::Update(dt) => dt,
     }
 }

@@ -48,7 +48,7 @@ pub fn part(run: &[u8], start: usize, end: usize) -> &[u8] {
 // The step of a tick; an other event has none, and no bound is for a step of 0.
 fn step_of(event: Event) -> f64 {
     match event {
-        Event::Other => 0.0,
+        Event::Other(_) => 0.0,
         Event::Update(dt) => frames::time(dt),
     }
 }

@@ -14,9 +14,9 @@ use Rattle.rules.specs.declared.answer.Answer.the-variants.{Ticked, Asked, Fini
 use Rattle.rules.specs.Tree.{Tree}
 use Rattle.rules.specs.Outcome.{statusOf, world, Out, done, asks, short}
 use Rattle.rules.specs.State.{tick}
-use Rattle.rules.specs.Table.{mostDeep}
+use Rattle.rules.specs.Table.{mostDeep, cleaned}
 use Rattle.rules.specs.Cells.{none}
-use Rattle.rules.specs.Call.{Given, Left, left, counted, ontoRun, ontoBoard, answers, answerAllowed, badAnswer, walked, tickCall}
+use Rattle.rules.specs.Call.{Given, Left, left, counted, ontoRun, ontoBoard, answers, cleanedEvent, answerAllowed, badAnswer, walked, tickCall}
 use Rattle.calls.specs.View.{heldBy, walk, Walked, NotWalked, not-walked, View, walking, refusing, view}
 use Rattle.calls.specs.Walks.{walks}
 use Rattle.calls.specs.History.{isTicked, not-ticked}
@@ -54,8 +54,8 @@ module _ (g : Given) (k : ℕ) (ss : List ℕ) (ls : List Float) (even : Paired 
     not-finished = w .not-finished;
   }
 
-  walk-again : (t : Tree) → walk t (again k ss ls g) ≡ tick binary64 mostDeep (heldBy t g) (g .event) (world (g .fuel + k) (answers (g .statuses) (g .leftovers) ++ answers ss ls))
-  walk-again t = ap (λ (z : Answers). tick binary64 mostDeep (heldBy t g) (g .event) (world (g .fuel + k) z)) (answers-append (g .statuses) ss (g .leftovers) ls even)
+  walk-again : (t : Tree) → walk t (again k ss ls g) ≡ tick binary64 mostDeep (heldBy t g) (cleanedEvent (g .event)) (world (g .fuel + k) (answers (g .statuses) (g .leftovers) ++ answers ss ls))
+  walk-again t = ap (λ (z : Answers). tick binary64 mostDeep (heldBy t g) (cleanedEvent (g .event)) (world (g .fuel + k) z)) (answers-append (g .statuses) ss (g .leftovers) ls even)
 
   visits : (a b : ℕ) → a + k - (b + k) ≡ a - b
   visits a b = omega arith
@@ -85,8 +85,8 @@ module _ (g : Given) (k : ℕ) (ss : List ℕ) (ls : List Float) (even : Paired 
       on l (walking t w) h =
           walks (again k ss ls g) t (walked-again t w)
           ∙ ap (λ (u : Out Tree). walked (again k ss ls g) (heldBy t g) u) (walk-again t)
-          ∙ left-again (heldBy t g) (walk t g) (tick binary64 mostDeep (heldBy t g) (g .event) (world (g .fuel + k) (answers (g .statuses) (g .leftovers) ++ answers ss ls)))
-          (tick-more k (answers ss ls) binary64 mostDeep (heldBy t g) (g .event) (g .fuel) (answers (g .statuses) (g .leftovers))) h
+          ∙ left-again (heldBy t g) (walk t g) (tick binary64 mostDeep (heldBy t g) (cleanedEvent (g .event)) (world (g .fuel + k) (answers (g .statuses) (g .leftovers) ++ answers ss ls)))
+          (tick-more k (answers ss ls) binary64 mostDeep (heldBy t g) (cleanedEvent (g .event)) (g .fuel) (answers (g .statuses) (g .leftovers))) h
 
 -- ---- one answer more
 -- all answers lent were used, or a next question is asked, or the fuel is used up; no refusal
@@ -125,7 +125,7 @@ module _ (g : Given) (s : ℕ) (l : Float) (even : Paired (g .statuses) (g .left
   one-allowed : (j : ℕ) × (badAnswer 0 (List._∷_ s List.[]) (List._∷_ l List.[]) ≡ none j)
   one-allowed = none-if 0 (List._∷_ s List.[]) (List._∷_ l List.[]) (allowed, tt)
 
-  all-used : (t : Tree) (o o' : Out Tree) → Answered (statusOf s, l) List.[] binary64 o o' → isAsked (walked g t o .answer)
+  all-used : (t : Tree) (o o' : Out Tree) → Answered (statusOf s, cleaned l) List.[] binary64 o o' → isAsked (walked g t o .answer)
       → Progress (suc (length (answers (g .statuses) (g .leftovers)))) (walked one t o' .answer)
   unfolding answers
   all-used t (done s' r t' (world f ans)) o' h a = absurd a
@@ -135,16 +135,17 @@ module _ (g : Given) (s : ℕ) (l : Float) (even : Paired (g .statuses) (g .left
   all-used t (asks n x) (done s' r t' (world f left)) h a =
       rw (no-more (h .0) left (h .1)) (count (length (answers (g .statuses) (g .leftovers)))
       (ap length (answers-append (g .statuses) (List._∷_ s List.[]) (g .leftovers) (List._∷_ l List.[]) even) ∙ length-append (answers (g .statuses) (g .leftovers))
-      (List._∷_ (statusOf s, l) List.[])))
+      (List._∷_ (statusOf s, cleaned l) List.[])))
     where
       count : (n : ℕ) → length (answers (g .statuses ++ List._∷_ s List.[]) (g .leftovers ++ List._∷_ l List.[])) ≡ n + 1
           → length (answers (g .statuses ++ List._∷_ s List.[]) (g .leftovers ++ List._∷_ l List.[])) - 0 ≡ suc n
       count n q = omega arith
 
-  walk-one : (t : Tree) → walk t one ≡ tick binary64 mostDeep (heldBy t g) (g .event) (world (g .fuel) (answers (g .statuses) (g .leftovers) ++ List._∷_ (statusOf s, l) List.[]))
+  walk-one : (t : Tree)
+      → walk t one ≡ tick binary64 mostDeep (heldBy t g) (cleanedEvent (g .event)) (world (g .fuel) (answers (g .statuses) (g .leftovers) ++ List._∷_ (statusOf s, cleaned l) List.[]))
   unfolding answers
   walk-one t = walk-again g 0 (List._∷_ s List.[]) (List._∷_ l List.[]) even 0 (one-allowed .0) (one-allowed .1) t
-      ∙ ap (λ (f : ℕ). tick binary64 mostDeep (heldBy t g) (g .event) (world f (answers (g .statuses) (g .leftovers) ++ List._∷_ (statusOf s, l) List.[]))) (add-zero (g .fuel))
+      ∙ ap (λ (f : ℕ). tick binary64 mostDeep (heldBy t g) (cleanedEvent (g .event)) (world f (answers (g .statuses) (g .leftovers) ++ List._∷_ (statusOf s, cleaned l) List.[]))) (add-zero (g .fuel))
 
   asked-not : (a : Answer) → NotWalked a → isAsked a → ⊥
   asked-not (Asked n x) h q = h
@@ -166,5 +167,6 @@ module _ (g : Given) (s : ℕ) (l : Float) (even : Paired (g .statuses) (g .left
       on k (walking t w) h =
           subst (λ (u : Left). Progress (suc (length (answers (g .statuses) (g .leftovers)))) (u .answer))
           (sym (walks one t (walked-again g 0 (List._∷_ s List.[]) (List._∷_ l List.[]) even 0 (one-allowed .0) (one-allowed .1) t w) ∙ ap (λ (u : Out Tree). walked one (heldBy t g) u) (walk-one t)))
-          (all-used (heldBy t g) (walk t g) (tick binary64 mostDeep (heldBy t g) (g .event) (world (g .fuel) (answers (g .statuses) (g .leftovers) ++ List._∷_ (statusOf s, l) List.[])))
-          (answer-taken (statusOf s, l) List.[] binary64 mostDeep (heldBy t g) (g .event) (g .fuel) (answers (g .statuses) (g .leftovers))) h)
+          (all-used (heldBy t g) (walk t g)
+          (tick binary64 mostDeep (heldBy t g) (cleanedEvent (g .event)) (world (g .fuel) (answers (g .statuses) (g .leftovers) ++ List._∷_ (statusOf s, cleaned l) List.[])))
+          (answer-taken (statusOf s, cleaned l) List.[] binary64 mostDeep (heldBy t g) (cleanedEvent (g .event)) (g .fuel) (answers (g .statuses) (g .leftovers))) h)

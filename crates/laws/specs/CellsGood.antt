@@ -15,9 +15,9 @@ use Rattle.rules.specs.declared.answer.Answer.the-variants.{Ticked, Asked, Fini
 use Rattle.rules.specs.Tree.{Tree, fresh, size}
 use Rattle.rules.specs.Outcome.{dt, World, world, Out, done, asks, short}
 use Rattle.rules.specs.State.{tick}
-use Rattle.rules.specs.Table.{mostDeep, number, good, table}
+use Rattle.rules.specs.Table.{mostDeep, cleaned, number, good, table}
 use Rattle.rules.specs.Cells.{elapsed, Found, faulty, none, badCell}
-use Rattle.rules.specs.Call.{Given, Left, answers, answerAllowed, badAnswer, timeAllowed, walked, tickCall, ResetLeft}
+use Rattle.rules.specs.Call.{Given, Left, answers, cleanedEvent, answerAllowed, badAnswer, timeAllowed, walked, tickCall, ResetLeft}
 use Rattle.calls.specs.Shape.{shape}
 use Rattle.calls.specs.Memory.{held, held-onto, held-shape}
 use Rattle.calls.specs.Tables.{tabled, tabled-fresh}
@@ -35,18 +35,18 @@ use Rattle.laws.specs.LiveTicks.{tick-live}
 use Rattle.laws.specs.Follows.{givenTo, TakeUps}
 
 -- ---- what the checks of a call say of its times
-pub event-elapsed : (e : Event) → timeAllowed e ≡ true → T (elapsed (dt e))
-event-elapsed (Update x) h = number-elapsed x (subst T (sym h) tt)
+pub event-elapsed : (e : Event) → timeAllowed e ≡ true → T (elapsed (dt (cleanedEvent e)))
+event-elapsed (Update x) h = number-elapsed (cleaned x) (subst T (sym h) tt)
 event-elapsed Other h = tt
 
-allowed-number : (s : ℕ) (l : Float) → T (answerAllowed s l) → T (number l)
+allowed-number : (s : ℕ) (l : Float) → T (answerAllowed s l) → T (number (cleaned l))
 allowed-number s l h = first (leb 1 s) h
   where
-    second : (b : Bool) → T (cond b (number l) false) → T (number l)
+    second : (b : Bool) → T (cond b (number (cleaned l)) false) → T (number (cleaned l))
     second true g = g
     second false g = absurd g
 
-    first : (b : Bool) → T (cond b (cond (leb s 3) (number l) false) false) → T (number l)
+    first : (b : Bool) → T (cond b (cond (leb s 3) (number (cleaned l)) false) false) → T (number (cleaned l))
     first true g = second (leb s 3) g
     first false g = absurd g
 
@@ -56,9 +56,9 @@ answers-if i List.[] ls = tt
 answers-if i (List._∷_ s ss) List.[] = tt
 answers-if i (List._∷_ s ss) (List._∷_ l ls) = on (answerAllowed s l) (allowed-number s l) (badAnswer (suc i) ss ls) (answers-if (suc i) ss ls)
   where
-    on : (b : Bool) → (T b → T (number l)) → (o : Found) → IfNone o (EAnswers (answers ss ls)) → IfNone (cond b o (faulty i)) (T (elapsed l) × EAnswers (answers ss ls))
+    on : (b : Bool) → (T b → T (number (cleaned l))) → (o : Found) → IfNone o (EAnswers (answers ss ls)) → IfNone (cond b o (faulty i)) (T (elapsed (cleaned l)) × EAnswers (answers ss ls))
     on true f (faulty p) h = tt
-    on true f (none j) h = (number-elapsed l (f tt), h)
+    on true f (none j) h = (number-elapsed (cleaned l) (f tt), h)
     on false f o h = tt
 
 pub answers-elapsed : (i j : ℕ) (ss : List ℕ) (ls : List Float) → badAnswer i ss ls ≡ none j → EAnswers (answers ss ls)
@@ -106,10 +106,10 @@ module _ (kinds ns : List ℕ) (limits : List Float) (t : Tree) (e : table kinds
     tick-good l (walking u w) =
         let q : u ≡ t = up .the-table u (w .table-good) in
         rw (q, same-tree t st g up (long-cells g (size t) (rw q at (w .long-enough)))) (walk-good (ticked g (held t (st .cells')))
-        (tick-live binary64 mostDeep (held t (st .cells')) (g .event) (world (g .fuel) (answers (g .statuses) (g .leftovers)))
+        (tick-live binary64 mostDeep (held t (st .cells')) (cleanedEvent (g .event)) (world (g .fuel) (answers (g .statuses) (g .leftovers)))
         (rw (held-shape t (st .cells')) (tabled-right t (tabled kinds ns limits t e .0))) v
         (event-elapsed (g .event) (w .time-good)) (answers-elapsed 0 (w .answers-good .0) (g .statuses) (g .leftovers) (w .answers-good .1)))
-        (tick-keeps binary64 mostDeep (held t (st .cells')) (g .event) (world (g .fuel) (answers (g .statuses) (g .leftovers)))))
+        (tick-keeps binary64 mostDeep (held t (st .cells')) (cleanedEvent (g .event)) (world (g .fuel) (answers (g .statuses) (g .leftovers)))))
 
     reset-good : (l : ResetLeft) → ResetView (g .kinds) (g .ns) (g .limits) (g .record') (g .cells') l → Live (held t (afterReset st l .cells'))
     reset-good l (resetting u f h) =

@@ -18,7 +18,7 @@ use Rattle.rules.specs.Tree.{Tree, size}
 use Rattle.rules.specs.Outcome.{world, Out, done, asks, short}
 use Rattle.rules.specs.Table.{mostDeep, Table, good, bad, table}
 use Rattle.rules.specs.Cells.{Found, faulty, none, badCell}
-use Rattle.rules.specs.Call.{Given, Left, answers, badAnswer, timeAllowed, counted, refused, walked, tickTree}
+use Rattle.rules.specs.Call.{Given, Left, answers, cleanedEvent, badAnswer, timeAllowed, counted, refused, walked, tickTree}
 use Rattle.rules.specs.Call.{tooShort, tickCall, ResetLeft, resetLeft, resetCall, ontoRun, runLength, saidOf, saidOfReset}
 use Rattle.calls.specs.Memory.{clear, held, held-onto, held-shape}
 use Rattle.calls.specs.View.{heldBy}
@@ -99,7 +99,7 @@ module _ (t : Tree) (st : Standing) (g : Given) (up : TakesUp t st g) where
   by-finished u q true true e = refl
   by-finished u q true false e = absurd (subst T e tt)
   by-finished u q false true e = absurd (subst T (sym e) tt)
-  by-finished u q false false e = by-walk u q (ticked g u) (tick-keeps binary64 mostDeep u (g .event) (world (g .fuel) (answers (g .statuses) (g .leftovers))))
+  by-finished u q false false e = by-walk u q (ticked g u) (tick-keeps binary64 mostDeep u (cleanedEvent (g .event)) (world (g .fuel) (answers (g .statuses) (g .leftovers))))
 
   -- the call and the rules from each test on
   abbrev callAnswers : Tree → Found → Left

@@ -10,7 +10,7 @@ use Rattle.rules.specs.declared.answer.Answer.the-variants.{Ticked, Asked, Fini
 use Rattle.rules.specs.Tree.{Tree, node, Forest, [], _∷_, size}
 use Rattle.rules.specs.Outcome.{world, Out, done, asks, short}
 use Rattle.rules.specs.Table.{mostDeep, good, table}
-use Rattle.rules.specs.Call.{Given, Left, answers, walked, tickCall}
+use Rattle.rules.specs.Call.{Given, Left, answers, cleanedEvent, walked, tickCall}
 use Rattle.calls.specs.Shape.{shape, shapes, size-shape, depth-of}
 use Rattle.calls.specs.Memory.{held-shape}
 use Rattle.calls.specs.Tables.{tabled, one-tree}
@@ -75,7 +75,8 @@ module _ (g : Given) (t : Tree) (e : table (g .kinds) (g .ns) (g .limits) ≡ go
   by-view l (walking u v) =
       let q : u ≡ t = one-tree (table (g .kinds) (g .ns) (g .limits)) t u e (v .table-good) in
       rw q (walked-not-out g (heldBy t g) (walk t g)
-      (never-short binary64 mostDeep (heldBy t g) (g .event) (g .fuel) (answers (g .statuses) (g .leftovers)) plain-held (live-of (heldBy t g) (v .cells-good .0) (rw q at (v .cells-good .1)))
+      (never-short binary64 mostDeep (heldBy t g) (cleanedEvent (g .event)) (g .fuel) (answers (g .statuses) (g .leftovers)) plain-held
+      (live-of (heldBy t g) (v .cells-good .0) (rw q at (v .cells-good .1)))
       (rw (size-shape (heldBy t g) t (held-shape t (g .cells'))) f)))
 
   pub fuel-enough : tickCall g .answer ≡ OutOfFuel → ⊥

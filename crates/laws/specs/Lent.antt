@@ -8,6 +8,7 @@ use lib.Dec.{T}
 use lib.Ieee.{Float}
 use Rattle.rules.specs.Cells.{Found, faulty, none}
 use Rattle.rules.specs.Outcome.{statusOf}
+use Rattle.rules.specs.Table.{cleaned}
 use Rattle.rules.specs.Call.{answers, answerAllowed, badAnswer}
 use Rattle.laws.specs.Fine.{IfNone}
 use Rattle.laws.specs.Alone.{Answers}
@@ -59,4 +60,4 @@ unfolding answers
 answers-append List.[] ss' List.[] ls' e = refl
 answers-append List.[] ss' (List._∷_ l ls) ls' e = absurd e
 answers-append (List._∷_ s ss) ss' List.[] ls' e = absurd e
-answers-append (List._∷_ s ss) ss' (List._∷_ l ls) ls' e = ap (λ (z : Answers). List._∷_ (statusOf s, l) z) (answers-append ss ss' ls ls' e)
+answers-append (List._∷_ s ss) ss' (List._∷_ l ls) ls' e = ap (λ (z : Answers). List._∷_ (statusOf s, cleaned l) z) (answers-append ss ss' ls ls' e)

@@ -18,7 +18,7 @@ use Rattle.rules.specs.Outcome.{dt, World, world, Out, done, asks, short, Ticke
 use Rattle.rules.specs.State.{rule, tick}
 use Rattle.rules.specs.Table.{mostDeep, good, table}
 use Rattle.rules.specs.Cells.{elapsed}
-use Rattle.rules.specs.Call.{Given, Left, answers, walked, tickCall}
+use Rattle.rules.specs.Call.{Given, Left, answers, cleanedEvent, walked, tickCall}
 use Rattle.calls.specs.Shape.{Shape, Shapes, shape, shapes, depthOf, depthsOf, depth-of}
 use Rattle.calls.specs.Shape
 use Rattle.calls.specs.Memory.{held-shape}
@@ -143,12 +143,12 @@ module _ (n : ℕ) (x : Float) where
 
 -- ---- the walk of a call
 abbrev pub walkOr : Out Tree → Tree → Given → Out Tree
-walkOr out t g = tickOr out binary64 mostDeep (heldBy t g) (g .event) (world (g .fuel) (answers (g .statuses) (g .leftovers)))
+walkOr out t g = tickOr out binary64 mostDeep (heldBy t g) (cleanedEvent (g .event)) (world (g .fuel) (answers (g .statuses) (g .leftovers)))
 
 pub walk-or : (g : Given) (t : Tree) → Walked g t → (n : ℕ) (x : Float) → walkOr (asks n x) t g ≡ instead (asks n x) (walk t g)
 walk-or g t w n x =
     let r = tabled (g .kinds) (g .ns) (g .limits) t (w .table-good) in
-    only-fuel n x binary64 mostDeep (heldBy t g) (g .event) (world (g .fuel) (answers (g .statuses) (g .leftovers)))
+    only-fuel n x binary64 mostDeep (heldBy t g) (cleanedEvent (g .event)) (world (g .fuel) (answers (g .statuses) (g .leftovers)))
     (rw (held-shape t (g .cells')) (tabled-right t (r .0), rw (depth-of t) at (r .1))) (live-of (heldBy t g) (w .cells-good .0) (w .cells-good .1))
     (event-elapsed (g .event) (w .time-good)) (answers-elapsed 0 (w .answers-good .0) (g .statuses) (g .leftovers) (w .answers-good .1))
 

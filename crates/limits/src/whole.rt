@@ -1,9 +1,11 @@
 // Whole times, and the ticks that a limit takes by itself.
 use crate::ticks::Ticks;
+use rules::cleaned;
 ghost use mathlib.Core.Path.{_≡_};
 ghost use mathlib.Core.Bool.{true};
 ghost use Prim.Native.Nat.{_≤_, _^_};
 ghost use lib.Ieee.{binary64};
+ghost use Rattle.rules.specs.Table.{cleaned};
 ghost use Rattle.rules.specs.Bound.{wholeTime, within, ownTicks};
 ghost use Rattle.limits.specs.Ticks.{clipped};
 ghost use Rattle.limits.specs.Whole.{wholeOf};
@@ -34,14 +36,21 @@ impl Whole {
         }
         Whole::No
     }
+
+    // A limit as it is lent: minus zero is taken as plus zero.
+    pub fn of_limit(limit: f64) -> Whole
+        ensures { λ r. ⌜ r ≡ wholeOf (cleaned limit) ⌝ }
+    {
+        Whole::of(cleaned(limit))
+    }
 }
 
 // "Wait and Timeout's own limit L: the larger of 1 and L/d rounded up".
 pub fn own_ticks(limit: f64, step: u64) -> Ticks
     requires { ⌜ (1 ≤ step) × (step ≤ 2 ^ 40) ⌝ }
-    ensures { λ r. ⌜ (wholeTime binary64 limit ≡ true → r ≡ clipped (within (ownTicks step limit))) ⌝ }
+    ensures { λ r. ⌜ (wholeTime binary64 (cleaned limit) ≡ true → r ≡ clipped (within (ownTicks step (cleaned limit)))) ⌝ }
 {
-    match Whole::of(limit) {
+    match Whole::of_limit(limit) {
         Whole::No => Ticks::Never,
         Whole::Yes(l) => {
             let ticks = (l + (step - 1)) / step;

@@ -9,10 +9,11 @@ use lib.ListN.{getD, length, drop}
 use lib.Seq.{drop-nil}
 use Rattle.rules.specs.Tree.{zeroTime}
 use Rattle.rules.specs.Outcome.{statusOf}
+use Rattle.rules.specs.Table.{cleaned}
 use Rattle.rules.specs.Call.{answers}
 
 pub answer-at : (u : ℕ) (ss : List ℕ) (ls : List Float) → u < length ss → u < length ls
-    → drop u (answers ss ls) ≡ List._∷_ (statusOf (getD ss u 0), getD ls u zeroTime) (drop (suc u) (answers ss ls))
+    → drop u (answers ss ls) ≡ List._∷_ (statusOf (getD ss u 0), cleaned (getD ls u zeroTime)) (drop (suc u) (answers ss ls))
 unfolding answers
 answer-at u List.[] ls h k = absurd (not-suc-le-zero h)
 answer-at u (List._∷_ s ss) List.[] h k = absurd (not-suc-le-zero k)

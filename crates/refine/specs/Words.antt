@@ -9,6 +9,7 @@ use lib.ListN.{getD, replicate}
 use Rattle.rules.specs.declared.behavior.Kind.{Kind}
 use Rattle.rules.specs.Kinds.{code, fewest, most}
 use Rattle.rules.specs.Tree.{zeroTime, Cell, Tree, node, Forest, [], _∷_, size, sizes, count}
+use Rattle.rules.specs.Table.{cleaned}
 use Rattle.rules.specs.Cells.{placeOf, markOf}
 
 -- the word of a node: nodes below it, kind, place, mark, board
@@ -48,7 +49,7 @@ unfoldable mutual
 -- the row of a node with so many children
 pub record Row (ns : List ℕ) (limits : List Float) (q : ℕ) (k : Kind) (n : ℕ) (l : Float) (kids : ℕ) : Type 0 where
   pub number : getD ns q 0 ≡ n
-  pub limit : getD limits q zeroTime ≡ l
+  pub limit : cleaned (getD limits q zeroTime) ≡ l
   pub enough : fewest k ≤ kids
   pub few : kids ≤ most k
 

@@ -19,7 +19,7 @@ use Rattle.rules.specs.declared.answer.Said.{Said}
 use Rattle.rules.specs.Tree.{zeroTime, Tree, size}
 use Rattle.rules.specs.Outcome.{world, Out, done, asks, short, byte, statusOf}
 use Rattle.rules.specs.State.{tick}
-use Rattle.rules.specs.Table.{mostDeep, number, good, bad, table}
+use Rattle.rules.specs.Table.{mostDeep, cleaned, number, good, bad, table}
 use Rattle.rules.specs.Cells.{cells, withCells, column, timeOf, placeOf, markOf, boardOf, Found, faulty, none, badCell}
 
 -- a run of cells, as it is lent
@@ -67,10 +67,10 @@ left a r c s b = record { answer = a; record' = r; cells' = c; spare = s; board 
 unfoldable pub answers : List ℕ → List Float → List (Status × Float)
 answers List.[] ls = List.[]
 answers (List._∷_ s ss) List.[] = List.[]
-answers (List._∷_ s ss) (List._∷_ l ls) = List._∷_ (statusOf s, l) (answers ss ls)
+answers (List._∷_ s ss) (List._∷_ l ls) = List._∷_ (statusOf s, cleaned l) (answers ss ls)
 
 abbrev pub answerAllowed : ℕ → Float → Bool
-answerAllowed s l = cond (leb 1 s) (cond (leb s 3) (number l) false) false
+answerAllowed s l = cond (leb 1 s) (cond (leb s 3) (number (cleaned l)) false) false
 
 -- the first answer with a status other than 1 to 3, or a leftover that is no number; or none
 unfoldable pub badAnswer : ℕ → List ℕ → List Float → Found
@@ -78,8 +78,13 @@ badAnswer i List.[] ls = none i
 badAnswer i (List._∷_ s ss) List.[] = none i
 badAnswer i (List._∷_ s ss) (List._∷_ l ls) = cond (answerAllowed s l) (badAnswer (suc i) ss ls) (faulty i)
 
+-- the event that a walk gets
+abbrev pub cleanedEvent : Event → Event
+cleanedEvent (Update x) = Update (cleaned x)
+cleanedEvent Other = Other
+
 abbrev pub timeAllowed : Event → Bool
-timeAllowed (Update x) = number x
+timeAllowed (Update x) = number (cleaned x)
 timeAllowed Other = true
 
 -- ---- what is left
@@ -119,7 +124,7 @@ tickTree g t = cond (timeAllowed (g .event))
       | faulty i ↦ refused g (BadAnswer i)
       | none _ ↦ cond (g .record' .finished)
           (refused g Finished)
-          (walked g t (tick binary64 mostDeep t (g .event) (world (g .fuel) (answers (g .statuses) (g .leftovers)))))
+          (walked g t (tick binary64 mostDeep t (cleanedEvent (g .event)) (world (g .fuel) (answers (g .statuses) (g .leftovers)))))
     ])
     (refused g BadTime)
 

@@ -1,11 +1,11 @@
 -- Document 01, "Trees to try": what calls of fresh trees say. The marked cases, the errors to shut out and some finish bounds, as one list.
 use mathlib.Core.Path.{_≡_, refl}
-use mathlib.Core.Bool.{false}
+use mathlib.Core.Bool.{true, false}
 use mathlib.Core.List.{List, map}
 use mathlib.Core.List
 use Prim.Native.Nat.{ℕ}
 use lib.IntN.{pos}
-use lib.Ieee.{Float, binary64, ofInt, toUnsigned, whole}
+use lib.Ieee.{Float, fin, binary64, ofInt, toUnsigned, whole}
 use Rattle.rules.specs.declared.behavior.Kind.{Kind}
 use Rattle.rules.specs.declared.behavior.Kind.the-variants.{Wait, WaitForever, Action, Timeout, Select, Sequence, MemorylessSequence, While, WhileAll, WhenAll, WhenAny, After, Race}
 use Rattle.rules.specs.declared.status.Status.{Status}
@@ -26,6 +26,9 @@ use Rattle.rules.specs.Bound.{boundCall}
 -- ---- trees, and their tables
 abbrev sec : ℕ → Float
 sec n = ofInt binary64 (pos n)
+
+abbrev minusZero : Float
+minusZero = fin true 0 (pos 0)
 
 -- a fresh node with a limit
 abbrev timed : Kind → ℕ → Forest → Tree
@@ -170,6 +173,11 @@ cases =
     and ticks (of While (forever ∷ act 1 ∷ act 2 ∷ [])) (giving Other Success 0 and other and nil) (Ticked Running (sec 0) 3 1 and Asked 1 (sec 0) and nil)
     -- an Action's answer is passed unchanged
     and one (act 1) (giving (Update (sec 1)) Running 7) (Ticked Running (sec 7) 1 1)
+    -- minus zero is taken as plus zero: dt, limits and leftovers
+    and one (act 1) (call (Update minusZero) 256 nil) (Asked 1 (sec 0))
+    and one (act 1) (call (Update (sec 1)) 256 ((Success, minusZero) and nil)) (Ticked Success (sec 0) 1 1)
+    and ticks (node After 2 minusZero freshCell 0 (node Wait 0 minusZero freshCell 0 [] ∷ wait 5 ∷ [])) (update 1 and update 1 and nil) (says Running 0 3 and says Running 0 2 and nil)
+    and bound (node Wait 0 minusZero freshCell 0 []) 1 (Within 1)
     -- finish bounds; the ticks that follow some of them need all of the bound
     and bound loop 1 (Within 6)
     and bound (of Sequence (wait 1 ∷ loop ∷ [])) 1 (Within 7)

@@ -8,7 +8,7 @@ use lib.Dec.{leb, ltb, eqb}
 use lib.Ieee.{Float, nan, inf, fin}
 use Rattle.rules.specs.declared.behavior.Kind.{Kind}
 use Rattle.rules.specs.Kinds.{kindOf, fewest, most, children, timed}
-use Rattle.rules.specs.Tree.{freshCell, Tree, node, Forest, [], _∷_}
+use Rattle.rules.specs.Tree.{zeroTime, freshCell, Tree, node, Forest, [], _∷_}
 
 abbrev pub mostNodes : ℕ
 mostNodes = 256
@@ -16,7 +16,14 @@ mostNodes = 256
 abbrev pub mostDeep : ℕ
 mostDeep = 16
 
--- a number that a host may give: "finite with the sign bit clear"
+-- the number to use of one that a host gives: minus zero is taken as plus zero
+abbrev pub cleaned : Float → Float
+cleaned nan = nan
+cleaned (inf s) = inf s
+cleaned (fin s zero e) = zeroTime
+cleaned (fin s (suc m) e) = fin s (suc m) e
+
+-- a number to use: "finite with the sign bit clear"
 abbrev pub number : Float → Bool
 number nan = false
 number (inf s) = false
@@ -32,12 +39,12 @@ zeroBits (fin s m e) = not s && eqb m 0
 pub data Row : Type 0 where
   row : ℕ → ℕ → Float → Row
 
--- "a run lent as several slices is as long as the shortest"
+-- the rows that are lent; "a run lent as several slices is as long as the shortest"
 unfoldable pub rows : List ℕ → List ℕ → List Float → List Row
 rows List.[] ns ls = List.[]
 rows (List._∷_ k ks) List.[] ls = List.[]
 rows (List._∷_ k ks) (List._∷_ n ns) List.[] = List.[]
-rows (List._∷_ k ks) (List._∷_ n ns) (List._∷_ l ls) = List._∷_ (row k n l) (rows ks ns ls)
+rows (List._∷_ k ks) (List._∷_ n ns) (List._∷_ l ls) = List._∷_ (row k n (cleaned l)) (rows ks ns ls)
 
 -- as many children as the kind allows
 abbrev pub countAllowed : Kind → ℕ → Bool

@@ -3,6 +3,7 @@
 mod answer;
 mod behavior;
 mod event;
+mod number;
 mod status;
 
 pub use answer::Answer;
@@ -12,4 +13,5 @@ pub use answer::ResetAnswer;
 pub use answer::Said;
 pub use behavior::Kind;
 pub use event::Event;
+pub use number::cleaned;
 pub use status::Status;

@@ -8,7 +8,7 @@ use borrow.Author.Tests.{not-true, not-false}
 use lib.Ieee.{Float}
 use lib.ListN.{length, getD, drop, drop-of-length-le}
 use lib.Seq.{drop-cons}
-use Rattle.rules.specs.Table.{number}
+use Rattle.rules.specs.Table.{cleaned, number}
 use Rattle.rules.specs.Call.{answerAllowed, badAnswer}
 use Rattle.tables.specs.declared.number.Number.the-variants.{Good, Bad}
 use Rattle.tables.specs.declared.answers.Answered.the-variants as answered
@@ -18,15 +18,15 @@ good-test : (b : Bool) (x y : Float) → cond b (Good x) Bad ≡ Good y → b �
 good-test true x y e = refl
 good-test false x y e = cc
 
-pub is-good : (x y : Float) → numberOf x ≡ Good y → number x ≡ true
-is-good x y e = good-test (number x) x y e
+pub is-good : (x y : Float) → numberOf x ≡ Good y → number (cleaned x) ≡ true
+is-good x y e = good-test (number (cleaned x)) (cleaned x) y e
 
 bad-test : (b : Bool) (x : Float) → cond b (Good x) Bad ≡ Bad → b ≡ false
 bad-test true x e = cc
 bad-test false x e = refl
 
-pub is-bad : (x : Float) → numberOf x ≡ Bad → number x ≡ false
-is-bad x e = bad-test (number x) x e
+pub is-bad : (x : Float) → numberOf x ≡ Bad → number (cleaned x) ≡ false
+is-bad x e = bad-test (number (cleaned x)) (cleaned x) e
 
 module _ (ss : List ℕ) (ls : List Float) (i : ℕ) (inv : badAnswer i (drop i ss) (drop i ls) ≡ badAnswer 0 ss ls) where
   pub ends-first : length ss ≤ i → answered.Good ≡ firstBad ss ls

@@ -1,16 +1,16 @@
 -- A float told by its bits, of which the sign is the top one, and by comparisons.
 use mathlib.Core.Path.{_≡_, refl, sym, ap, subst, _∙_}
-use mathlib.Core.Bool.{Bool, true, false, not, cond}
-use Prim.Native.Nat.{ℕ, zero, suc, _+_, _*_, _/_, _%_, _^_, _≤_}
+use mathlib.Core.Bool.{Bool, true, false, not, cond, and-false}
+use Prim.Native.Nat.{ℕ, zero, suc, _+_, _*_, _/_, _%_, _^_}
 use native.Mathlib.Nat.{zero-mul, zero-div, mul-pos, zero-lt-suc}
 use native.Mathlib.Omega.{arith}
-use borrow.Author.Tests.{lt-ltb, le-ltb, leb-true, ne-eqb, eqb-true, eqb-false, ltb-false, leb-false}
+use borrow.Author.Tests.{lt-ltb, le-ltb, leb-true, ne-eqb, eqb-true, eqb-false, leb-false}
 use lib.Dec.{T, leb, ltb, eqb}
-use lib.Ieee.{Float, nan, inf, fin, binary64, fits, isNan, odd, ofFields, ofBits, toBits, ne, lt, up, down}
+use lib.Ieee.{Float, nan, inf, fin, binary64, fits, isNan, odd, ofFields, ofBits, toBits, ne, lt, eq, le, up, down}
 use lib.Ieee.Bits.{ofBits-toBits}
 use lib.Ieee.Compare.{differs-from-itself}
 use lib.Ieee.Fits.{up-pos}
-use Rattle.rules.specs.Table.{number, zeroBits}
+use Rattle.rules.specs.Table.{cleaned, number, zeroBits}
 use Rattle.rules.specs.Cells.{elapsed}
 
 -- ---- what `x != x` tells
@@ -46,6 +46,25 @@ unfolding ofFields
 elapsed-fields s zero t h = elapsed-odd s t 0
 elapsed-fields s (suc x) t h = elapsed-at s x t (2 ^ 52 + t) (eqb (suc x) 2047) h
 
+number-odd : (s : Bool) (t k : ℕ) → number (odd 53 s t k 1074) ≡ not s
+unfolding odd
+number-odd s zero k = refl
+number-odd s (suc t) k = refl
+
+number-special : (s b : Bool) → number (cond b (inf s) nan) ≡ false
+number-special s true = refl
+number-special s false = refl
+
+number-at : (s : Bool) (x t u : ℕ) (b : Bool) → number (cond b (cond (eqb t 0) (inf s) nan) (odd 53 s u x 1074)) ≡ cond b false (not s)
+number-at s x t u true = number-special s (eqb t 0)
+number-at s x t u false = number-odd s u x
+
+-- only the largest exponent is no number's
+number-fields : (s : Bool) (x t : ℕ) → number (ofFields binary64 s x t) ≡ cond (eqb x 2047) false (not s)
+unfolding ofFields
+number-fields s zero t = number-odd s t 0
+number-fields s (suc x) t = number-at s x t (2 ^ 52 + t) (eqb (suc x) 2047)
+
 -- ---- of the bits
 abbrev signBit : ℕ
 signBit = 0x8000000000000000
@@ -56,6 +75,17 @@ fieldOf b = b % signBit / 0x10000000000000
 sign-test : (b : ℕ) (p : Bool) → leb signBit b ≡ p → not p ≡ ltb b signBit
 sign-test b true e = sym (le-ltb b signBit (leb-true signBit b e))
 sign-test b false e = sym (lt-ltb b signBit (leb-false signBit b e))
+
+abbrev infinityBits : ℕ
+infinityBits = 0x7ff0000000000000
+
+number-test : (b : ℕ) (p q : Bool) → leb signBit b ≡ p → eqb (fieldOf b) 2047 ≡ q → cond q false (not p) ≡ ltb b infinityBits
+number-test b true true e f = sym (le-ltb b infinityBits (omega (arith, leb-true signBit b e)))
+number-test b true false e f = sym (le-ltb b infinityBits (omega (arith, leb-true signBit b e)))
+number-test b false true e f = sym (le-ltb b infinityBits (omega (arith, leb-false signBit b e, eqb-true (fieldOf b) 2047 f)))
+number-test b false false e f =
+    let other = eqb-false (fieldOf b) 2047 f in
+    sym (lt-ltb b infinityBits (omega (arith, leb-false signBit b e, other)))
 
 -- only zero with the sign bit clear has no bit
 zero-bits : (x : Float) → (toBits binary64 x ≡ 0 → ⊥) → zeroBits x ≡ false
@@ -75,6 +105,12 @@ module _ (x : Float) (ok : T (fits binary64 x)) where
       let fields = elapsed-fields (leb signBit b) (fieldOf b) (b % 0x10000000000000) (subst (λ (y : Float). T (not (isNan y))) (sym back) h) in
       ap elapsed (sym back) ∙ fields ∙ sign-test b _ refl
 
+  pub number-bits : number x ≡ ltb (toBits binary64 x) infinityBits
+  unfolding ofBits
+  number-bits =
+      let b = toBits binary64 x in
+      ap number (sym (ofBits-toBits binary64 x ok)) ∙ number-fields (leb signBit b) (fieldOf b) (b % 0x10000000000000) ∙ number-test b _ _ refl refl
+
   zero-test : (b : Bool) → eqb (toBits binary64 x) 0 ≡ b → zeroBits x ≡ b
   unfolding ofBits
   zero-test true e = ap zeroBits (sym (ofBits-toBits binary64 x ok)) ∙ ap (λ (b : ℕ). zeroBits (ofBits binary64 b)) (eqb-true (toBits binary64 x) 0 e)
@@ -83,39 +119,17 @@ module _ (x : Float) (ok : T (fits binary64 x)) where
   pub zero-bits-test : zeroBits x ≡ eqb (toBits binary64 x) 0
   zero-bits-test = zero-test _ refl
 
--- ---- what comparisons tell
+-- ---- a number
 abbrev nought : Float
 nought = ofBits binary64 0
 
-abbrev endless : Float
-endless = ofBits binary64 0x7ff0000000000000
-
-pub is-number : (x : Float) → lt x endless ≡ true → lt nought x ≡ true → number x ≡ true
-unfolding lt ofBits ofFields odd
-is-number nan below above = below
-is-number (inf true) below above = above
-is-number (inf false) below above = below
-is-number (fin true m e) below above = above
-is-number (fin false m e) below above = refl
-
-pub zero-number : (x : Float) → zeroBits x ≡ true → number x ≡ true
-zero-number nan e = e
-zero-number (inf s) e = e
-zero-number (fin true m d) e = e
-zero-number (fin false m d) e = refl
-
-pub not-above : (x : Float) → lt nought x ≡ false → zeroBits x ≡ false → number x ≡ false
-unfolding lt ofBits ofFields odd
-not-above nan low e = refl
-not-above (inf s) low e = refl
-not-above (fin true m d) low e = refl
-not-above (fin false zero d) low e = e
-not-above (fin false (suc m) d) low e =
-    let f : suc m * up d * 1 ≤ 0 * 1 * down d = ltb-false (0 * 1 * down d) (suc m * up d * 1) low in
-    absurd (omega (arith, mul-pos (zero-lt-suc m) (up-pos d), zero-mul (down d)))
-
-pub not-below : (x : Float) → lt x endless ≡ false → number x ≡ false
-unfolding lt ofBits ofFields
-not-below nan h = refl
-not-below (inf s) h = refl
-not-below (fin s m e) h = let z : _≡_ {A = Bool} true false = h in cc
+-- ---- a limit where none is allowed
+pub no-limit : (x : Float) → eq x nought ≡ zeroBits (cleaned x)
+unfolding eq ofBits ofFields odd
+no-limit nan = refl
+no-limit (inf s) = refl
+no-limit (fin true zero d) = rw (zero-mul (up d), zero-mul (down d))
+no-limit (fin false zero d) = rw (zero-mul (up d), zero-mul (down d))
+no-limit (fin s (suc m) d) =
+    let more = mul-pos (zero-lt-suc m) (up-pos d) in
+    rw (zero-mul (down d), ne-eqb (suc m * up d * 1) 0 (omega arith), ne-eqb (suc m) 0 (omega arith), and-false (not s))

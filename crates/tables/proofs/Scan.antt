@@ -14,14 +14,14 @@ use lib.Seq.{getD-set-same, getD-set-other}
 use Rattle.rules.specs.declared.behavior.Kind.{Kind}
 use Rattle.rules.specs.Kinds.{kindOf, children}
 use Rattle.rules.specs.Tree.{zeroTime, freshCell, Tree, node, Forest, [], _∷_, size, count}
-use Rattle.rules.specs.Table.{row, rows, rowAllowed, Read, got, fault, _andThen_, readChildren, readTree}
+use Rattle.rules.specs.Table.{cleaned, row, rows, rowAllowed, Read, got, fault, _andThen_, readChildren, readTree}
 use Rattle.rules.specs.Table as T
 use Rattle.tables.specs.At.{Row, At, Ats}
 use Rattle.tables.proofs.Placed.{size-pos, at-end, Alike, Same, at-keeps}
 
 -- ---- the rows
 abbrev rowAt : List ℕ → List ℕ → List Float → ℕ → T.Row
-rowAt ks ns ls i = row (getD ks i 0) (getD ns i 0) (getD ls i zeroTime)
+rowAt ks ns ls i = row (getD ks i 0) (getD ns i 0) (cleaned (getD ls i zeroTime))
 
 drop-rows :
     (ks ns : List ℕ) (ls : List Float) (i : ℕ) → i < length (rows ks ns ls) →
@@ -240,7 +240,7 @@ module _ (kinds ns : List ℕ) (limits : List Float) where
       n = getD ns at 0
 
       abbrev l : Float
-      l = getD limits at zeroTime
+      l = cleaned (getD limits at zeroTime)
 
       level-up : r .deep ≡ suc (r .deep - 1)
       level-up = omega (arith, r .level, r .levels)

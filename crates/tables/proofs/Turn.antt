@@ -10,7 +10,7 @@ use lib.Seq.{drop-cons, getD-set-other}
 use Rattle.rules.specs.Kinds.{kindOf, children}
 use Rattle.rules.specs.Tree.{zeroTime}
 use Rattle.rules.specs.Table as T
-use Rattle.rules.specs.Table.{rows, rowAllowed, got, fault, readTree, table}
+use Rattle.rules.specs.Table.{cleaned, rows, rowAllowed, got, fault, readTree, table}
 use Rattle.tables.specs.declared.table.Checked.the-variants.{Good, Bad}
 use Rattle.tables.specs.declared.table.Row.{Row}
 use Rattle.tables.specs.declared.table.Row.the-variants as row
@@ -122,19 +122,19 @@ module _ {kinds ns : List ℕ} {limits : List Float} {ends₀ begins owed ends :
     -- the code reads the limit with a default of its own
     module _ (d : Float) where
       abbrev told : Row
-      told = rowOf (getD kinds at 0) (getD ns at 0) (getD limits at d)
+      told = rowOf (getD kinds at 0) (getD ns at 0) (cleaned (getD limits at d))
 
-      same : rowOf (getD kinds at 0) (getD ns at 0) (getD limits at zeroTime) ≡ told
+      same : rowOf (getD kinds at 0) (getD ns at 0) (cleaned (getD limits at zeroTime)) ≡ told
       same =
           let long = length-rows kinds ns limits in
-          ap (rowOf (getD kinds at 0) (getD ns at 0)) (any-default limits at zeroTime d (omega (arith, in-rows)))
+          ap (λ (l : Float). rowOf (getD kinds at 0) (getD ns at 0) (cleaned l)) (any-default limits at zeroTime d (omega (arith, in-rows)))
 
       pub row-refused : told ≡ row.Bad → Tabled kinds ns limits ends₀ ends (Bad at)
       row-refused h =
           refused v (refuses kinds ns limits begins owed ends open' left at (v .state) low in-rows (v .room) (row-bad _ _ _ (same ∙ h)))
 
       module _ (c : ℕ) (is : told ≡ row.Children c) where
-        ok : rowAllowed (getD kinds at 0) (getD ns at 0) (getD limits at zeroTime) ≡ true
+        ok : rowAllowed (getD kinds at 0) (getD ns at 0) (cleaned (getD limits at zeroTime)) ≡ true
         ok = row-allowed _ _ _ c (same ∙ is)
 
         e : c ≡ children (kindOf (getD kinds at 0)) (getD ns at 0)

@@ -8,13 +8,13 @@ use lib.ListN.{getD}
 use Rattle.rules.specs.declared.behavior.Kind.{Kind}
 use Rattle.rules.specs.Kinds.{kindOf, children}
 use Rattle.rules.specs.Tree.{zeroTime, Tree, node, Forest, [], _∷_, count}
-use Rattle.rules.specs.Table.{rowAllowed}
+use Rattle.rules.specs.Table.{cleaned, rowAllowed}
 
 -- the row at q is a node's, with so many children
 pub record Row (kinds ns : List ℕ) (limits : List Float) (q : ℕ) (k : Kind) (n : ℕ) (l : Float) (many : ℕ) : Type 0 where
   pub kind : kindOf (getD kinds q 0) ≡ k
   pub number : getD ns q 0 ≡ n
-  pub limit : getD limits q zeroTime ≡ l
+  pub limit : cleaned (getD limits q zeroTime) ≡ l
   pub allowed : rowAllowed (getD kinds q 0) n l ≡ true
   pub kids : many ≡ children k n
 

@@ -7,7 +7,7 @@ use lib.Ieee.{Float}
 use lib.ListN.{length, getD}
 use Rattle.rules.specs.Kinds.{kindOf, children}
 use Rattle.rules.specs.Tree.{Tree, size, depth}
-use Rattle.rules.specs.Table.{number, rowAllowed, Table, good, bad, rows, table}
+use Rattle.rules.specs.Table.{cleaned, number, rowAllowed, Table, good, bad, rows, table}
 use Rattle.rules.specs.Cells.{Found, faulty, none}
 use Rattle.rules.specs.Call.{badAnswer}
 use Rattle.tables.specs.declared.number.Number.{Number}
@@ -22,7 +22,7 @@ use Rattle.tables.specs.At.{At}
 
 -- the number to use
 abbrev pub numberOf : Float → Number
-numberOf x = cond (number x) (Good x) Bad
+numberOf x = cond (number (cleaned x)) (Good (cleaned x)) Bad
 
 abbrev pub answeredOf : Found → Answered
 answeredOf (faulty i) = answered.Bad i

@@ -1,11 +1,12 @@
-// Numbers that a host gives. A comparison does not tell -0.0 from 0.0, and so the bits do: the sign is
-// the top bit.
+// Numbers that a host gives, and times in its cells. A comparison does not tell -0.0 from 0.0: in a
+// cell the bits do, of which the sign is the top one.
+use rules::cleaned;
 ghost use mathlib.Core.Path.{_≡_};
 ghost use Rattle.rules.specs.Table.{zeroBits};
 ghost use Rattle.rules.specs.Cells.{elapsed};
 ghost use Rattle.tables.specs.Checks.{numberOf};
 
-// The number to use, where it is finite with the sign bit clear.
+// The number to use: finite with the sign bit clear, once minus zero is taken as plus zero.
 pub enum Number {
     Good(f64),
     Bad,
@@ -16,17 +17,17 @@ const SIGN: u64 = 0x8000000000000000;
 
 const INFINITY: u64 = 0x7ff0000000000000;
 
-// Finite and above 0, or 0 with the sign bit clear.
+// From zero, whatever its sign, up to any that is finite. The bits tell it in one comparison, where
+// two of floats are compiled to twenty instructions more.
 pub fn number_of(x: f64) -> Number
     ensures { λ r. ⌜ r ≡ numberOf x ⌝ }
 {
-    if x < f64::from_bits(INFINITY) {
-        if 0.0 < x {
-            return Number::Good(x);
-        }
+    let number = cleaned(x);
+    if number != number {
+        return Number::Bad;
     }
-    if zero_bits(x) {
-        Number::Good(x)
+    if f64::to_bits(number) < INFINITY {
+        Number::Good(number)
     } else {
         Number::Bad
     }

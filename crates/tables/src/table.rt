@@ -1,7 +1,6 @@
 // The table check: one pass from left to right, with the open nodes on a stack of fixed size.
 use crate::number::Number;
 use crate::number::number_of;
-use crate::number::zero_bits;
 use rules::Kind;
 ghost use mathlib.Core.Path.{_≡_};
 ghost use mathlib.Core.Bool.{_&&_};
@@ -9,7 +8,7 @@ ghost use Prim.Native.Nat.{min};
 ghost use lib.Dec.{leb};
 ghost use lib.ListN.{length};
 ghost use Rattle.rules.specs.Kinds.{fewest, most};
-ghost use Rattle.rules.specs.Table.{rows, limitAllowed};
+ghost use Rattle.rules.specs.Table.{rows, cleaned, limitAllowed};
 ghost use Rattle.tables.specs.Checks.{rowOf, Tabled};
 
 // How many nodes a good table has, or the smallest faulty place.
@@ -37,11 +36,12 @@ fn rows_of(kinds: &[u8], ns: &[u16], limits: &[f64]) -> usize
     least(kinds.len(), least(ns.len(), limits.len()))
 }
 
+// Only Wait and Timeout have a limit; in any other kind it is zero.
 fn limit_allowed(kind: Kind, limit: f64) -> bool
-    ensures { λ r. ⌜ r ≡ limitAllowed kind limit ⌝ }
+    ensures { λ r. ⌜ r ≡ limitAllowed kind (cleaned limit) ⌝ }
 {
     if !kind.timed() {
-        return zero_bits(limit);
+        return limit == 0.0;
     }
     match number_of(limit) {
         Number::Good(_) => true,
@@ -63,7 +63,7 @@ fn count_allowed(kind: Kind, children: u16) -> bool
 }
 
 fn row_of(number: u8, n: u16, limit: f64) -> Row
-    ensures { λ r. ⌜ r ≡ rowOf number n limit ⌝ }
+    ensures { λ r. ⌜ r ≡ rowOf number n (cleaned limit) ⌝ }
 {
     if Kind::LAST < number {
         return Row::Bad;

@@ -21,7 +21,7 @@ use Rattle.rules.proofs.behavior.Kind.{the-type}
 use Rattle.work.specs.declared.result.Seen.{Seen}
 use Rattle.work.specs.declared.result.Seen.the-variants.{Stopped, Running, Success, Failure}
 use Rattle.work.specs.Word.{kindIn, placeOf}
-use Rattle.work.specs.Array.{wordAt, timeAt, fuelOf, passed, endOf, setSeen, childFrom, decidedWords, chosenWords, chosenTimes}
+use Rattle.work.specs.Array.{wordAt, timeAt, numberAt, fuelOf, passed, endOf, setSeen, childFrom, decidedWords, chosenWords, chosenTimes}
 use Rattle.work.specs.Flat.{Out, out, Lent, Visitor, seenNo, stopped, andThen, turnOut, turning, isLeaf, isDecorator, choiceOf, seen}
 use Rattle.work.specs.Flat.{leaf, sequence, memoryless, whenAll, race, after, whileLoop, whileAll, exchangesOf, branch, chosen, ifNode, timesOut, decorated, decorator, byKind, visit, tick}
 use Rattle.rules.specs.declared.behavior.Kind.the-variants.{Wait, WaitForever, Action, Invert, AlwaysSucceed, Timeout, Select, If, Sequence, MemorylessSequence, MemorylessSelector, While, WhileAll, WhenAll, WhenAny, After, Race}
@@ -214,7 +214,7 @@ module _ (F : Format) (T : Lent) (p : ℕ) (dt l : Float) (ws : List ℕ) (ts : 
 
   times-out-gave : GaveOut (timesOut F T p dt ws ts)
   unfolding timesOut
-  times-out-gave = gave-if (le (timeAt (T .limits) p) (add F (timeAt ts p) (passed ws dt))) _ _ (status.Failure, refl) (status.Running, refl)
+  times-out-gave = gave-if (le (numberAt (T .limits) p) (add F (timeAt ts p) (passed ws dt))) _ _ (status.Failure, refl) (status.Running, refl)
 
   decorated-gave : (t : Status) → GaveOut (decorated F T p dt t l ws ts)
   unfolding decorated

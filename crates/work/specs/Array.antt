@@ -7,6 +7,7 @@ use lib.Dec.{leb, ltb, eqb}
 use lib.Ieee.{Float}
 use lib.ListN.{getD, set}
 use Rattle.rules.specs.Tree.{zeroTime}
+use Rattle.rules.specs.Table.{cleaned}
 use Rattle.work.specs.Word.{belowOf, withPlace, withMark, withSeen, freshWord}
 
 abbrev pub wordAt : List ℕ → ℕ → ℕ
@@ -14,6 +15,10 @@ wordAt ws p = getD ws p 0
 
 abbrev pub timeAt : List Float → ℕ → Float
 timeAt ts p = getD ts p zeroTime
+
+-- a number as it is lent, and used
+abbrev pub numberAt : List Float → ℕ → Float
+numberAt xs p = cleaned (timeAt xs p)
 
 abbrev pub fuelOf : List ℕ → ℕ
 fuelOf ws = wordAt ws 256

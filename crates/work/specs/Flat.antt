@@ -16,7 +16,7 @@ use Rattle.work.specs.declared.result.Seen.{Seen}
 use Rattle.work.specs.declared.result.Result.{Result}
 use Rattle.work.specs.declared.result.Seen.the-variants.{Stopped, Running, Success, Failure}
 use Rattle.work.specs.Word.{kindIn, placeOf, markOf}
-use Rattle.work.specs.Array.{wordAt, timeAt, fuelOf, usedOf, updates, passed, endOf, setPlace, setSeen, setMark, freshWords, freshTimes, childFrom, indexAfter, childAfter, upOn}
+use Rattle.work.specs.Array.{wordAt, timeAt, numberAt, fuelOf, usedOf, updates, passed, endOf, setPlace, setSeen, setMark, freshWords, freshTimes, childFrom, indexAfter, childAfter, upOn}
 
 -- what was seen, leftover, words, times
 pub data Out : Type 0 where
@@ -112,7 +112,7 @@ module _ (F : Format) (T : Lent) where
   unfoldable pub wait : Visitor
   wait p dt ws ts = cond (updates ws)
       (let now = add F (timeAt ts p) dt in
-      let limit = timeAt (T .limits) p in
+      let limit = numberAt (T .limits) p in
       cond (le limit now) (out Success (sub F now limit) ws (set ts p limit)) (waiting ws (set ts p now)))
       (waiting ws ts)
 
@@ -120,7 +120,7 @@ module _ (F : Format) (T : Lent) where
   action p dt ws ts =
       let used = usedOf ws in
       cond (ltb used (length (T .statuses)) && (ltb used (length (T .leftovers)) && ltb used 4294967295))
-      (out (seenAs (statusOf (getD (T .statuses) used 0))) (timeAt (T .leftovers) used) (set ws 257 (used + 1)) ts)
+      (out (seenAs (statusOf (getD (T .statuses) used 0))) (numberAt (T .leftovers) used) (set ws 257 (used + 1)) ts)
       (out Stopped (passed ws dt) (set ws 258 (p + 1)) ts)
 
   -- Wait, Action and WaitForever
@@ -135,7 +135,7 @@ module _ (F : Format) (T : Lent) where
   unfoldable pub timesOut : Visitor
   timesOut p dt ws ts =
       let now = add F (timeAt ts p) (passed ws dt) in
-      let limit = timeAt (T .limits) p in
+      let limit = numberAt (T .limits) p in
       cond (le limit now) (out Failure (sub F now limit) ws (set ts p now)) (waiting ws (set ts p now))
 
   -- a decorator's rule, once its child has given a result

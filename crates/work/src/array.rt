@@ -6,10 +6,11 @@ use crate::word::fresh_word;
 use crate::word::with_mark;
 use crate::word::with_place;
 use crate::word::with_seen;
+use rules::cleaned;
 ghost use mathlib.Core.Path.{_≡_};
 ghost use Prim.Native.Nat.{_+_, _-_, _<_, _≤_};
 ghost use lib.ListN.{set};
-ghost use Rattle.work.specs.Array.{timeAt, updates, passed, endOf, setPlace, setMark, setSeen, freshWords, freshTimes, childFrom};
+ghost use Rattle.work.specs.Array.{timeAt, numberAt, updates, passed, endOf, setPlace, setMark, setSeen, freshWords, freshTimes, childFrom};
 ghost use Rattle.work.specs.Flat.{seenNo};
 
 // The fuel that is left, the answers that are used, the place of the action that asks and 1, and 1 for
@@ -96,12 +97,16 @@ pub fn put_time(times: &mut [f64], p: usize, v: f64)
     }
 }
 
-// A limit or a leftover.
+// A limit or a leftover, as it stands where the host lent it: minus zero is taken as plus zero.
 pub fn number_at(numbers: &&[f64], p: usize) -> f64
     requires { ⌜ p < 4294967296 ⌝ }
-    ensures { λ r. ⌜ r ≡ timeAt (now (now (numbers .entry))) p ⌝ }
+    ensures { λ r. ⌜ r ≡ numberAt (now (now (numbers .entry))) p ⌝ }
 {
-    if p < numbers.len() { numbers[p] } else { 0.0 }
+    if p < numbers.len() {
+        cleaned(numbers[p])
+    } else {
+        0.0
+    }
 }
 
 // The nodes from `from` to `to` are made fresh.

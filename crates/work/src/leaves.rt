@@ -13,6 +13,7 @@ use crate::result::Seen;
 use crate::result::stopped;
 use crate::result::waiting;
 use rules::Kind;
+use rules::cleaned;
 ghost use mathlib.Core.Path.{_≡_};
 ghost use mathlib.Core.List.{List};
 ghost use Prim.Native.Nat.{ℕ, _<_};
@@ -62,9 +63,11 @@ fn action(work: &mut [u32; 260], statuses: &&[u8], leftovers: &&[f64], p: usize,
         if at < leftovers.len() {
             if used < 4294967295 {
                 work[USED] = used + 1;
+                let given = leftovers[at];
+                let leftover = cleaned(given);
                 return Result {
                     seen: Seen::of(statuses[at]),
-                    left: number_at(leftovers, at),
+                    left: leftover,
                 };
             }
         }

@@ -31,7 +31,7 @@ pub fn compare(random: &mut Random, count: &mut Count) -> Result<(), String> {
     }
     if random.one_in(50) {
         let place = random.below(tree.len());
-        tree.limits[place] = random.pick(&[0.5, TOP + 1.0, f64::NAN, f64::MAX, -0.0, TOP * 2.0]);
+        tree.limits[place] = random.pick(&[0.5, TOP + 1.0, f64::NAN, f64::MAX, -1.0, TOP * 2.0]);
     }
     let step = match random.below(12) {
         0 => random.pick(&[0.0, -1.0, 0.5, 1.5, TOP + 1.0, f64::NAN, f64::INFINITY, -0.0, f64::MAX]),
@@ -51,7 +51,7 @@ fn limit(random: &mut Random, large: bool) -> f64 {
     if large {
         random.pick(&[TOP, TOP - 1.0, 1048576.0, 9007199.0, 8192.0, 4096.0, 2.0])
     } else {
-        random.below(9) as f64
+        random.pick(&[-0.0, 0.0, 1.0, 2.0, 3.0, 4.0, 5.0, 6.0, 7.0, 8.0])
     }
 }
 

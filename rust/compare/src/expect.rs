@@ -4,9 +4,9 @@ use crate::ours::{Call, Cells};
 use crate::tree::{children_of, ACTION, AFTER, IF, TIMEOUT, WAIT, WHEN_ALL, WHEN_ANY};
 use lemboraw::raw::{Said, Table};
 
-/// Finite, with the sign bit clear.
+/// Finite, with the sign bit clear once minus zero is taken as plus zero.
 pub fn is_time(x: f64) -> bool {
-    x.is_finite() && x.is_sign_positive()
+    x.is_finite() && x >= 0.0
 }
 
 /// A run lent as several slices is as long as the shortest.
@@ -36,7 +36,7 @@ pub fn table_fault(table: &Table) -> Option<usize> {
         };
         let children = if kind == ACTION { 0 } else { n };
         let limited = kind == WAIT || kind == TIMEOUT;
-        let limit_good = if limited { is_time(limit) } else { limit.to_bits() == 0 };
+        let limit_good = if limited { is_time(limit) } else { limit == 0.0 };
         if children < fewest || children > most || !limit_good {
             return Some(place);
         }

@@ -53,7 +53,7 @@ pub fn write(folder: &Path) -> io::Result<()> {
 
 fn time(random: &mut Random) -> f64 {
     match random.below(12) {
-        0 => 0.0,
+        0 => random.pick(&[0.0, -0.0]),
         1 => random.pick(&[0.1, 0.25, 2.7]),
         2 => random.pick(&[f64::MAX, 1e308, f64::from_bits(1), f64::from_bits(3)]),
         _ => random.below(5) as f64,
@@ -84,7 +84,7 @@ fn run(random: &mut Random) -> Option<Run> {
         }
         theirs.cells(&tree, &mut before);
         let watched = theirs.watch(&tree, ev, FUEL, &mut |_| {
-            (random.pick(&[Status::Running, Status::Success, Status::Failure]), random.below(3) as f64)
+            (random.pick(&[Status::Running, Status::Success, Status::Failure]), random.pick(&[-0.0, 0.0, 1.0, 2.0]))
         });
         let trace = &watched.trace;
         let ((status, left), visits) = trace.end.filter(|_| trace.asks.len() <= 4)?;

@@ -7,9 +7,9 @@ use crate::{Count, Status};
 use lemboraw::raw::Said;
 
 const LIMITS: [f64; 3] = [0.0, 1.0, 2.0];
-const EVENTS: [Ev; 3] = [Ev::Other, Ev::Update(1.0), Ev::Update(2.5)];
+const EVENTS: [Ev; 4] = [Ev::Other, Ev::Update(-0.0), Ev::Update(1.0), Ev::Update(2.5)];
 const ANSWERS: [Answer; 4] =
-    [(Status::Running, 7.0), (Status::Success, 0.0), (Status::Success, 1.0), (Status::Failure, 1.0)];
+    [(Status::Running, 7.0), (Status::Success, -0.0), (Status::Success, 1.0), (Status::Failure, 1.0)];
 const TICKS: usize = 3;
 /// Enough for four nodes without loops, and for some rounds of a loop; one that never ends stops here.
 const FUEL: u32 = 12;
@@ -26,10 +26,13 @@ pub fn trees(size: usize) -> Vec<Vec<Node>> {
                     let n = if kind == ACTION { 7 } else { n };
                     let mut nodes = vec![(kind, n, limit)];
                     nodes.extend(&rest);
-                    // Actions are told apart by where they stand.
+                    // Actions are told apart by where they stand; every other zero is minus zero.
                     for (place, node) in nodes.iter_mut().enumerate() {
                         if node.0 == ACTION {
                             node.1 = place as u16;
+                        }
+                        if node.2 == 0.0 {
+                            node.2 = [-0.0, 0.0][place % 2];
                         }
                     }
                     all.push(nodes);

@@ -24,6 +24,19 @@ impl Ev {
             Ev::Other => None,
         }
     }
+
+    fn cleaned(self) -> Self {
+        self.dt().map_or(Ev::Other, |dt| Ev::Update(cleaned(dt)))
+    }
+}
+
+/// bonsai is given plus zero where this library is given minus zero.
+pub fn cleaned(x: f64) -> f64 {
+    if x == 0.0 {
+        0.0
+    } else {
+        x
+    }
 }
 
 impl UpdateEvent for Ev {
@@ -159,8 +172,9 @@ impl Theirs {
             let given = answer(asks.len());
             asks.push(Ask { number: args.action.number, dt: args.dt, entered });
             answers.push(given);
-            given
+            (given.0, cleaned(given.1))
         };
+        let ev = ev.cleaned();
         let ticked = || state.tick(0, &self.metas, &ev, &mut (), &mut act, &mut watch);
         let result = catch_unwind(AssertUnwindSafe(ticked)).ok();
         let trace = Trace { asks, answers, end: result.map(|result| (result, ended.get())) };
@@ -170,8 +184,8 @@ impl Theirs {
     /// Ticks by `BT::tick` itself, and takes over what the watched copy showed besides.
     pub fn tick(&mut self, ev: Ev, watched: &Watched) -> Result<(), String> {
         let mut given = watched.trace.answers.iter();
-        let result = self.bt.tick(&ev, &mut |_: ActionArgs<Ev, Act>, _: &mut ()| {
-            given.next().copied().unwrap_or((Status::Running, 0.0))
+        let result = self.bt.tick(&ev.cleaned(), &mut |_: ActionArgs<Ev, Act>, _: &mut ()| {
+            given.next().map_or((Status::Running, 0.0), |&(status, left)| (status, cleaned(left)))
         });
         self.seen.clone_from(&watched.seen);
         if result == watched.trace.end.map(|end| end.0) && self.bt.state == watched.state {

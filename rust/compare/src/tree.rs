@@ -1,6 +1,7 @@
 //! Trees as tables, and as bonsai's `Behavior`.
 
 use crate::random::Random;
+use crate::theirs::cleaned;
 use crate::Behavior;
 use std::fmt;
 
@@ -102,7 +103,7 @@ impl Tree {
     pub fn behavior(&self, place: usize) -> Behavior<Act> {
         let child = |i| Box::new(self.behavior(self.child(place, i)));
         let all = || self.body(place, 0);
-        let limit = self.limits[place];
+        let limit = cleaned(self.limits[place]);
         match self.kinds[place] {
             0 => Behavior::Wait(limit),
             1 => Behavior::WaitForever,
@@ -164,7 +165,7 @@ fn grow(
         2 => random.pick(&[3, 4, 5, 6, 8, 9, 10, 11, 12, 13, 14, 15, 16]),
         _ => 3 + random.below(14) as u8,
     };
-    let time = if kind == WAIT || kind == TIMEOUT { limit(random) } else { 0.0 };
+    let time = if kind == WAIT || kind == TIMEOUT { limit(random) } else { random.pick(&[0.0, -0.0]) };
     let (fewest, most) = children_of(kind).unwrap_or((0, 0));
     let most = usize::from(most).min(below);
     let wish = 1 + random.below(if few { 3 } else { most });

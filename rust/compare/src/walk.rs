@@ -30,7 +30,7 @@ const SOURCES: [Source; 6] =
 impl Source {
     fn time(self, random: &mut Random) -> f64 {
         let source = if random.one_in(12) { random.pick(&SOURCES) } else { self };
-        match source {
+        let time = match source {
             Source::Zero => 0.0,
             Source::Whole => random.below(6) as f64,
             Source::Tenths => random.below(40) as f64 * 0.1,
@@ -44,6 +44,11 @@ impl Source {
                     1.5
                 }
             }
+        };
+        if time == 0.0 {
+            random.pick(&[0.0, -0.0])
+        } else {
+            time
         }
     }
 }
@@ -143,7 +148,7 @@ fn tick(
 ) -> Result<(), String> {
     let (mut statuses, mut leftovers) = split(&trace.answers[..given]);
     statuses.resize(given + unused, 3);
-    leftovers.resize(given + unused, 0.5);
+    leftovers.resize(given + unused, -0.0);
     let call = Call { table: tree.table(), ev, fuel, statuses: &statuses, leftovers: &leftovers, lent: ALL };
     let said = trace.said(fuel, given);
     count.said(said.no);
@@ -165,7 +170,7 @@ fn spoiled(
     let mut statuses = vec![1, 2, 3];
     let mut leftovers = vec![0.0, 1.0, f64::MAX];
     let mut lent = ALL;
-    let no_time = [f64::NAN, f64::INFINITY, f64::NEG_INFINITY, -0.0, -1.0, -f64::NAN];
+    let no_time = [f64::NAN, f64::INFINITY, f64::NEG_INFINITY, -5e-324, -1.0, -f64::NAN];
     for _ in 0..1 + random.below(2) {
         let place = random.below(len);
         match random.below(6) {
@@ -187,7 +192,7 @@ fn spoiled(
             4 => match random.below(3) {
                 0 => tree.kinds[place] = random.below(18) as u8,
                 1 => tree.ns[place] = random.pick(&[0, 1, 2, 3, 65535]),
-                _ => tree.limits[place] = random.pick(&[0.0, -0.0, 1.0, f64::NAN, f64::INFINITY]),
+                _ => tree.limits[place] = random.pick(&[0.0, -5e-324, 1.0, f64::NAN, f64::INFINITY]),
             },
             // A column that is too short or too long; the others say whether that matters.
             _ => match random.below(6) {

@@ -19,12 +19,12 @@ pub enum Refusal {
         /// What is wrong with it.
         fault: Fault,
     },
-    /// An update by a time that is not finite, or that has its sign bit set as -1.0 and -0.0 do.
+    /// An update by a time that is not finite or is below zero. Minus zero is taken as plus zero.
     BadTime {
         /// The time.
         dt: f64,
     },
-    /// An action left over a time that is not finite, or that has its sign bit set.
+    /// An action left over a time that is not finite or is below zero.
     BadAnswer {
         /// Which of the tick's questions, counted from 0.
         index: usize,
@@ -79,7 +79,7 @@ pub enum Fault {
     TooDeep,
     /// It is the 257th.
     TooMany,
-    /// A limit that is not finite, or that has its sign bit set.
+    /// A limit that is not finite or is below zero.
     Limit {
         /// The limit.
         limit: f64,
@@ -131,7 +131,7 @@ impl fmt::Display for Refusal {
     }
 }
 
-const A_TIME: &str = "a time has to be finite, with its sign bit clear";
+const A_TIME: &str = "a time has to be finite, and not below zero";
 
 impl fmt::Display for Fault {
     fn fmt(&self, f: &mut fmt::Formatter<'_>) -> fmt::Result {

@@ -63,7 +63,8 @@ impl<A> Tree<A> {
                 let n = if action.is_some() { tree.actions.len() } else { children.len() };
                 tree.kinds.push(kind.number());
                 tree.ns.push(u16::try_from(n).unwrap_or(u16::MAX));
-                tree.limits.push(limit);
+                // Minus zero is taken as plus zero, also in what is written from this tree.
+                tree.limits.push(if limit == 0.0 { 0.0 } else { limit });
                 tree.actions.extend(action);
             }
             due.extend(children.into_iter().rev());
@@ -112,7 +113,7 @@ impl<A> Tree<A> {
             Fault::TooMany
         } else if depth > Some(MOST_DEEP) {
             Fault::TooDeep
-        } else if !limit.is_finite() || limit.is_sign_negative() {
+        } else if !limit.is_finite() || limit < 0.0 {
             Fault::Limit { limit }
         } else {
             Fault::Empty

@@ -173,7 +173,7 @@ fn indented(rows: &[Row], parent: usize) -> Result<usize, WordsError> {
 }
 
 fn behavior(row: &Row, children: Vec<Behavior<u16>>) -> Result<Behavior<u16>, WordsError> {
-    if row.limit.to_bits() != 0 && !row.kind.timed() {
+    if row.limit != 0.0 && !row.kind.timed() {
         return Err(row.wrong(format!("limit: {} has none", row.kind)));
     }
     let n = children.len();

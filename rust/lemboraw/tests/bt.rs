@@ -158,7 +158,7 @@ fn trees_are_refused_where_they_are_faulty() {
     let body = |behavior| WhenAny(vec![Wait(1.0), behavior]);
     assert_eq!(refused(body(While(boxed(WaitForever), vec![]))), at(2, Kind::While, Fault::Empty));
     assert_eq!(refused(body(WhileAll(boxed(WaitForever), vec![]))), at(2, Kind::WhileAll, Fault::Empty));
-    for limit in [f64::INFINITY, f64::NEG_INFINITY, -1.0, -0.0] {
+    for limit in [f64::INFINITY, f64::NEG_INFINITY, -1.0, -5e-324] {
         assert_eq!(refused(body(Wait(limit))), at(2, Kind::Wait, Fault::Limit { limit }));
         assert_eq!(refused(Timeout(limit, boxed(WaitForever))), at(0, Kind::Timeout, Fault::Limit { limit }));
     }
@@ -180,10 +180,33 @@ fn trees_are_refused_where_they_are_faulty() {
 }
 
 #[test]
+fn minus_zero_is_taken_as_plus_zero() {
+    // The wait has ended, and its cell is looked at again.
+    let mut bt = tree(After(vec![Wait(-0.0), Timeout(-0.0, boxed(Action("a")))]));
+    let mut seen = vec![];
+    let mut answer = |args: ActionArgs<Event, &str>, _: &mut ()| {
+        seen.push(args.dt.to_bits());
+        (Success, -0.0)
+    };
+    assert_eq!(bt.tick(&update(-0.0), &mut answer), Ok((Failure, 0.0)));
+    assert_eq!(seen, [0]);
+    assert!(bt.state().cells.iter().all(|cell| cell.time.to_bits() == 0));
+    assert!(bt.nodes().all(|node| node.limit.unwrap_or(0.0).to_bits() == 0));
+    let mut bt = tree(Action("a"));
+    let left = |bt: &mut BT<&'static str, ()>, answer| {
+        let (_, left) = bt.tick(&update(1.0), &mut |_: ActionArgs<Event, &str>, _: &mut ()| answer).unwrap();
+        left.to_bits()
+    };
+    assert_eq!(left(&mut bt, (Running, -0.0)), 0);
+    assert_eq!(bt.finish_bound(1.0), Ok(FinishBound::None));
+    assert_eq!(tree(Wait(-0.0)).finish_bound(1.0), Ok(FinishBound::Ticks(1)));
+}
+
+#[test]
 fn a_refused_tick_leaves_the_tree() {
     let mut bt = tree(Sequence(vec![Wait(2.0), Action("a")]));
     quiet(&mut bt, update(1.0)).unwrap();
-    for dt in [f64::NAN, f64::INFINITY, -1.0, -0.0] {
+    for dt in [f64::NAN, f64::INFINITY, -1.0, -5e-324] {
         assert!(matches!(quiet(&mut bt, update(dt)), Err(Refusal::BadTime { .. })));
     }
     let mut bad = |_: ActionArgs<Event, &str>, _: &mut ()| (Success, -1.0);
@@ -332,12 +355,12 @@ fn refusals_say_what_and_where() {
         (refused(wide), "behavior 256 in preorder (Wait) is one too many: a tree has at most 256"),
         (
             refused(Wait(f64::NAN)),
-            "behavior 0 in preorder (Wait) has the limit NaN: a time has to be finite, with its sign bit clear",
+            "behavior 0 in preorder (Wait) has the limit NaN: a time has to be finite, and not below zero",
         ),
-        (time, "an update by -1.0: a time has to be finite, with its sign bit clear"),
+        (time, "an update by -1.0: a time has to be finite, and not below zero"),
         (
-            Refusal::BadAnswer { index: 2, leftover: -0.0 },
-            "question 2 of this tick left over -0.0: a time has to be finite, with its sign bit clear",
+            Refusal::BadAnswer { index: 2, leftover: -2.0 },
+            "question 2 of this tick left over -2.0: a time has to be finite, and not below zero",
         ),
         (
             Refusal::OutOfFuel { fuel: 9, questions: 4 },

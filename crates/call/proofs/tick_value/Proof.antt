@@ -1,6 +1,6 @@
 -- A refusal, or the walk.
 use mathlib.Core.Path.{sym}
-use Rattle.call.proofs.Gates.{passed-refused, passed-open}
+use Rattle.call.proofs.Gates.{passed-refused, passed-open, passed-on}
 use borrow.Author.Needs.{needs}
 use Rattle.call.proofs.tick_value.Statement.{statement}
 use Rattle.call.proofs.tick_value.Tie as tie
@@ -15,13 +15,13 @@ enum-known-n : tie.Need-enum-known-n
 enum-known-n c = search needs
 
 slice-aggregate-carry-out : tie.Need-slice-aggregate-carry-out
-slice-aggregate-carry-out c = sym (passed-open _ _ _ (c .before .before .before .before .checks .ensures 0) _ (c .before .before .n .given .1) .ends-long)
+slice-aggregate-carry-out c = sym (passed-open _ _ _ (c .before .before .before .before .checks .ensures 0) _ _ (c .before .before .n .given .1) .1 .ends-long)
 
 carry-out-requires : tie.Need-carry-out-requires
 carry-out-requires c κs = passed-open _ _ _ (c .before .before .before .before .before .before .before .before .before .before .before .checks .ensures (c .before
     .before .before .before .before .before .before .before .before .before .before .before .before .before .before .before .before .before .before .before .before
-    .before .before .before .before .before .before .before .before .before .before .before .args .fuel)) _ (c .before .before .before .before .before .before .before
-    .before .before .n .given .1)
+    .before .before .before .before .before .before .before .before .before .before .before .args .fuel)) _ _ (c .before .before .before .before .before .before .before
+    .before .before .n .given .1) .1
 
 same-length : tie.Need-same-length
 same-length c = search needs
@@ -70,7 +70,14 @@ same-length-14 : tie.Need-same-length-14
 same-length-14 c = search needs
 
 returns-2 : tie.Need-returns-2
-returns-2 c = search needs
+returns-2 c =
+    let carried = c .before .before .before .before .before .before .before .before .before .before .before .before .before .before in
+    let entered = carried .before in
+    let opened = entered .before .before .before .before .before .before .before .before .before in
+    let checked = opened .before .before in
+    let fuel = entered .before .before .before .before .before .before .before .before .before .before .before .before .before .before .before .before .before .before
+    .before .before .before .before .before .before .before .before .before .before .before .before .before .before .args .fuel in
+    passed-on _ _ _ (checked .checks .ensures fuel) _ _ _ (opened .n .given .1) (carried .carry-out .ensures)
 
 pub tick-value-spec : {M : Type 1} → statement M
 tick-value-spec =

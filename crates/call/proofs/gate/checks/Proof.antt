@@ -6,9 +6,11 @@ use Prim.Native.Nat.{ℕ}
 use borrow.Author.Needs.{needs}
 use borrow.Author.Tests.{not-true, not-false}
 use lib.Dec.{leb}
+use Rattle.rules.specs.declared.event.Event.{Event}
 use Rattle.rules.specs.Call.{Given, given, run, runLength}
 use Rattle.call.proofs.Good.{Good, found-good, found-bad}
-use Rattle.call.proofs.Gates.{Fit, Held, Timed, Answerable, bad-table, short-cells, short-spare, short-board, room, bad-cell, fine-cells, bad-time, bad-answer, fine-answers, finished, due}
+use Rattle.call.proofs.Gates.{Fit, Held, Timed, Answerable, bad-table, short-cells, short-spare, short-board}
+use Rattle.call.proofs.Gates.{room, bad-cell, fine-cells, bad-time, fine-time, bad-answer, fine-answers, finished, due}
 use Rattle.call.proofs.gate.checks.Statement.{statement}
 use Rattle.call.proofs.gate.checks.Tie as tie
 
@@ -27,6 +29,9 @@ ends c = c .check-table .last .1 .1 .1 .0
 
 abbrev nodes : tie.After-n → ℕ
 nodes c = c .n .given .0 .0
+
+abbrev used : tie.After-known-told4 → Event
+used c = c .before .used .given .0 .0
 
 module _ (fuel : ℕ) where
   abbrev Known : ((g : Given) → List ℕ → ℕ → Type 0) → tie.After-n → Type 0
@@ -50,11 +55,12 @@ module _ (fuel : ℕ) where
   held : (c : tie.After-enum-told) → Known Held (c .before .before .before .before .before .before .before .before .before .before)
   held c = fine-cells (fit (c .before .before .before .before)) (c .before .before .check-cells .ensures) (c .enum-told .given .1)
 
-  timed : (c : tie.Else4) → Known Timed (c .before .before .before .before .before .before .before .before .before .before .before .before)
-  timed c = record { held = held (c .before .before); time = sym (c .before .time-allowed .ensures) ∙ not-false _ (c .if4 .left) }
+  timed : (c : tie.After-known-told4) → Known (λ g ends n. Timed g ends n (used c)) (c .before .before .before .before .before .before .before .before .before .before .before .before .before .before)
+  timed c = fine-time (held (c .before .before .before .before)) (c .before .before .before .event-of .ensures) _ (c .before .used .given .1)
 
-  answerable : (c : tie.After-enum-told2) → Known Answerable (c .before .before .before .before .before .before .before .before .before .before .before .before .before .before .before)
-  answerable c = fine-answers (timed (c .before .before .before)) (c .before .before .bad-answer .ensures) (c .enum-told2 .given .1)
+  answerable : (c : tie.After-enum-told3)
+      → Known (λ g ends n. Answerable g ends n (used (c .before .before .before))) (c .before .before .before .before .before .before .before .before .before .before .before .before .before .before .before .before .before)
+  answerable c = fine-answers (timed (c .before .before .before)) (c .before .before .bad-answer .ensures) (c .enum-told3 .given .1)
 
 -- ---- the needs
 check-table-requires : tie.Need-check-table-requires
@@ -93,11 +99,17 @@ returns-4 c fuel = bad-cell (fit fuel (c .before .before .before .before .before
 enum-told : tie.Need-enum-told
 enum-told c = search needs
 
-time-allowed-requires : tie.Need-time-allowed-requires
-time-allowed-requires c κs = search needs
+event-of-requires : tie.Need-event-of-requires
+event-of-requires c κs = search needs
+
+enum-known-used : tie.Need-enum-known-used
+enum-known-used c = search needs
+
+enum-told-2 : tie.Need-enum-told-2
+enum-told-2 c = search needs
 
 returns-5 : tie.Need-returns-5
-returns-5 c fuel = bad-time (held fuel (c .before .before)) (sym (c .before .time-allowed .ensures) ∙ not-true _ (c .if4 .taken))
+returns-5 c fuel = bad-time (held fuel (c .before .before .before)) (c .before .before .event-of .ensures) (c .enum-told2 .given .1)
 
 bad-answer-requires : tie.Need-bad-answer-requires
 bad-answer-requires c κs = search needs
@@ -108,17 +120,17 @@ enum-known-i c = search needs
 returns-6 : tie.Need-returns-6
 returns-6 c fuel = bad-answer (timed fuel (c .before .before .before .before)) (c .before .before .before .bad-answer .ensures) _ (c .before .i .given .1)
 
-enum-told-2 : tie.Need-enum-told-2
-enum-told-2 c = search needs
+enum-told-3 : tie.Need-enum-told-3
+enum-told-3 c = search needs
 
 returns-7 : tie.Need-returns-7
-returns-7 c fuel = finished (answerable fuel (c .before)) (c .if5 .taken)
+returns-7 c fuel = finished (answerable fuel (c .before)) (c .if4 .taken)
 
 returns-8 : tie.Need-returns-8
 returns-8 c fuel = bad-table (call (start (c .before .before .before)) fuel) _ (found-bad _ _ _ _ _ _ (c .before .before .before .check-table .ensures) _ (c .before .p .given .1))
 
 returns-9 : tie.Need-returns-9
-returns-9 c fuel = due (answerable fuel (c .before)) (c .if5 .left)
+returns-9 c fuel = due (answerable fuel (c .before)) (c .if4 .left)
 
 pub checks-spec : {M : Type 1} → statement M
 checks-spec =
@@ -136,12 +148,14 @@ checks-spec =
     enum-known-p-2
     returns-4
     enum-told
-    time-allowed-requires
+    event-of-requires
+    enum-known-used
+    enum-told-2
     returns-5
     bad-answer-requires
     enum-known-i
     returns-6
-    enum-told-2
+    enum-told-3
     returns-7
     returns-8
     returns-9)

@@ -6,7 +6,7 @@ use Rattle.limits.proofs.whole.own_ticks.Statement.{statement}
 use Rattle.limits.proofs.whole.own_ticks.Tie as tie
 
 add-ticks : tie.Need-add-ticks
-add-ticks c = omega (arith, whole-known _ _ (c .before .before .before .of .ensures) _ (c .before .l .given .1) .2)
+add-ticks c = omega (arith, whole-known _ _ (c .before .before .before .of-limit .ensures) _ (c .before .l .given .1) .2)
 
 returns : tie.Need-returns
 returns c = λ h. search no-ticks

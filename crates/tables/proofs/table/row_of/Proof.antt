@@ -1,5 +1,6 @@
 -- The tests of a row, in their order.
 use borrow.Author.Needs.{needs}
+use Rattle.rules.specs.Table.{cleaned}
 use Rattle.tables.proofs.Rows.{no-kind, no-limit, no-count, all-allowed}
 use Rattle.tables.proofs.table.row_of.Statement.{statement}
 use Rattle.tables.proofs.table.row_of.Tie as tie
@@ -9,7 +10,7 @@ no-more c =
     let limit = c .before in
     let kind = limit .before in
     let a = kind .before .before .args in
-    no-limit (a .number) (a .n) (a .limit) (kind .of .ensures) (kind .before .if1 .left) (limit .limit-allowed .ensures) (c .if2 .taken)
+    no-limit (a .number) (a .n) (cleaned (a .limit)) (kind .of .ensures) (kind .before .if1 .left) (limit .limit-allowed .ensures) (c .if2 .taken)
 
 counted : tie.Need-returns-3
 counted c =
@@ -18,7 +19,7 @@ counted c =
     let limit = kids .before .before in
     let kind = limit .before in
     let a = kind .before .before .args in
-    all-allowed (a .number) (a .n) (a .limit) (kind .of .ensures) (kind .before .if1 .left) (limit .limit-allowed .ensures)
+    all-allowed (a .number) (a .n) (cleaned (a .limit)) (kind .of .ensures) (kind .before .if1 .left) (limit .limit-allowed .ensures)
     (kids .before .if2 .left) (kids .children .ensures) (count .count-allowed .ensures) (c .if3 .taken)
 
 miscounted : tie.Need-returns-4
@@ -28,14 +29,14 @@ miscounted c =
     let limit = kids .before .before in
     let kind = limit .before in
     let a = kind .before .before .args in
-    no-count (a .number) (a .n) (a .limit) (kind .of .ensures) (kind .before .if1 .left) (limit .limit-allowed .ensures)
+    no-count (a .number) (a .n) (cleaned (a .limit)) (kind .of .ensures) (kind .before .if1 .left) (limit .limit-allowed .ensures)
     (kids .before .if2 .left) (kids .children .ensures) (count .count-allowed .ensures) (c .if3 .left)
 
 pub row-of-spec : {M : Type 1} → statement M
 row-of-spec =
     tie.close
     (tie.spec
-    (λ c. no-kind (c .before .args .number) (c .before .args .n) (c .before .args .limit) (c .if1 .taken))
+    (λ c. no-kind (c .before .args .number) (c .before .args .n) (cleaned (c .before .args .limit)) (c .if1 .taken))
     (λ c κs. search needs)
     (λ c κs. search needs)
     no-more

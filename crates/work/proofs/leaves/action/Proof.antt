@@ -1,12 +1,16 @@
 -- The next answer, or one of the three ways to have none.
-use mathlib.Core.Path.{_≡_}
+use mathlib.Core.Path.{_≡_, ap, _∙_}
 use mathlib.Core.Bool.{false, _&&_}
 use mathlib.Core.Logic.{⊎-elim}
 use native.Mathlib.Omega.{arith}
 use lib.Dec.{ltb}
+use lib.Ieee.{Float}
 use lib.ListN.{length}
 use borrow.Author.Tests.{lt-ltb, le-ltb}
+use Rattle.rules.specs.Tree.{zeroTime}
+use Rattle.rules.specs.Table.{cleaned}
 use Rattle.work.specs.Flat.{action}
+use Rattle.work.proofs.Laws.{any-default}
 use borrow.Author.Needs.{needs}
 use Rattle.work.proofs.leaves.action.Statement.{statement}
 use Rattle.work.proofs.leaves.action.Tie as tie
@@ -14,12 +18,15 @@ use Rattle.work.proofs.leaves.action.Tie as tie
 returns : tie.Need-returns
 unfolding action
 returns c =
-    let at = c .before .before .before .before .before .before in
+    let at = c .before .before .before .before .before .before .before in
     let a = at .before .before .args in
     let u = at .wide .result in
-    let status = lt-ltb u (length (a .statuses .now .now)) (c .before .before .before .before .before .if1 .taken) in
-    let leftover = lt-ltb u (length (a .leftovers .now .now)) (c .before .before .before .before .if2 .taken) in
-    λ x ts. rw (← at .wide .ensures, status, leftover, lt-ltb u 4294967295 (omega arith), c .before .of .ensures, c .number-at .ensures)
+    let status = lt-ltb u (length (a .statuses .now .now)) (c .before .before .before .before .before .before .if1 .taken) in
+    let within = c .before .before .before .before .before .if2 .taken in
+    let leftover = lt-ltb u (length (a .leftovers .now .now)) within in
+    let few = lt-ltb u 4294967295 (omega arith) in
+    let clean = c .before .before .cleaned .ensures ∙ ap (λ (x : Float). cleaned x) (any-default (a .leftovers .now .now) u _ zeroTime within) in
+    λ x ts. rw (← at .wide .ensures, status, leftover, few, c .of .ensures, clean)
 
 returns-2 : tie.Need-returns-2
 unfolding action
@@ -43,7 +50,9 @@ action-spec =
     (λ c. search needs)
     (λ c. search needs)
     (λ c. search needs)
+    (λ c. search needs)
     (λ c κs. search needs)
+    (λ c. search needs)
     (λ c κs. search needs)
     returns
     (λ c κs. search needs)
