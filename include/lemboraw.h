@@ -74,7 +74,7 @@ enum lemboraw_kind {
     LEMBORAW_RACE = 16                 /* 0 or more */
 };
 
-/* A status, in an answer and on the board; there 0 says that the node was not visited. */
+/* A status, in an answer and on the board, where 0 is none: see lemboraw_tick. */
 enum lemboraw_status {
     LEMBORAW_RUNNING = 1,
     LEMBORAW_SUCCESS = 2,
@@ -147,8 +147,17 @@ struct lemboraw_bound_said {
 /* One tick: an update by dt (update true) or another event (update false; dt is not looked at).
  *
  * The cells are the tree's state: a time, a place and a mark for each node, all 0 in a new tree.
- * The spare is room of the same shape, whose contents do not matter. The board gets a status, or 0,
- * for each node. Fuel bounds the visits; without loops the number of nodes is always enough.
+ * The spare is room of the same shape, whose contents do not matter. Fuel bounds the visits; without
+ * loops the number of nodes is always enough.
+ *
+ * The board gets a byte for each node, for displays: the status of its last visit in this tick. A
+ * child that was not visited in it but has ended before shows how, by the cells after the tick:
+ *
+ *   2   marked under a WhenAll, or before the place of a Sequence or an After
+ *   3   marked under a WhenAny, or before the place of a Select
+ *
+ * That a child is marked says its mark; which children are before the place says the place of the
+ * node above, from 0. The nodes below such a child do not show it. All others not visited are 0.
  *
  * Actions take the answers in the order in which they are met. Where they are used up the call
  * says 1, with the action's number and the dt it sees: act, add one answer at the end, and call
@@ -223,7 +232,7 @@ struct lemboraw_tree {
     uint16_t *spare_places;
     uint8_t *spare_marks;
 
-    uint8_t *board; /* a status for each node, or 0, as the last tick carried out left it */
+    uint8_t *board; /* a status for each node, or 0: see lemboraw_tick; left by the last tick carried out */
 };
 
 /* What a tree writes to, for the largest tree that there can be. */

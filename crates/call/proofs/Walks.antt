@@ -24,6 +24,7 @@ use Rattle.rules.specs.Outcome.{eventOf, dt, world, Out, done, asks, short}
 use Rattle.rules.specs.State.{tick}
 use Rattle.rules.specs.Table.{mostDeep}
 use Rattle.rules.specs.Cells.{cells, column, columns, timeOf, placeOf, markOf}
+use Rattle.rules.specs.Board.{shown}
 use Rattle.rules.specs.Call.{Given, Run, run, left, answers, counted, ontoRun, ontoBoard, walked, tickCall}
 use Rattle.calls.specs.Shape.{size-shape, depth-shape}
 use Rattle.calls.specs.Memory.{held-shape}
@@ -35,12 +36,14 @@ use Rattle.work.specs.Word as word
 use Rattle.work.specs.Array.{askedOf}
 use Rattle.work.specs.Flat.{out, seenAs, lent}
 use Rattle.work.specs.Flat as flat
-use Rattle.refine.specs.Words.{bit, working}
+use Rattle.refine.specs.Words.{bit, working, Fits}
 use Rattle.refine.specs.Start.{fuel-left, used-up}
 use Rattle.refine.specs.Whole.{Ended, Gives, whole}
 use Rattle.load.specs.Load.{loadWords, over}
 use Rattle.load.specs.Trees.{holds, fits, put-places, put-marks, put-board}
 use Rattle.load.specs.Trees as trees
+use Rattle.board.specs.Show.{endedWords}
+use Rattle.board.specs.Trees.{shown-words, size-shown, fits-shown, places-shown, marks-shown}
 use Rattle.call.specs.Onto.{onto, ontoCells}
 use Rattle.call.specs.Due.{loaded, Due}
 use Rattle.call.specs.Enter.{updates}
@@ -162,9 +165,10 @@ module _ {g : Given} {ends : List ℕ} {n : ℕ} (due : Due g ends n) where
     spare-left = spared ∙ sym copied
 
     -- ---- a walk to its end
-    module _ (goes : Goes (r .seen)) (a : Answer) (lent : ℕ) (all : lent ≡ length given-answers) (says : a ≡ toldDone ws r (g .fuel) lent)
+    module _ (goes : Goes (r .seen)) (ws' : List ℕ) (shows : ws' ≡ endedWords 0 n ws)
+        (a : Answer) (lent : ℕ) (all : lent ≡ length given-answers) (says : a ≡ toldDone ws' r (g .fuel) lent)
         (rec : Record) (counts : rec ≡ counted (statusIn (r .seen)) (g .record'))
-        (ps ms bs : List ℕ) (puts : ps ≡ over word.placeOf n ws (g .cells' .places)) (putm : ms ≡ over word.markOf n ws (g .cells' .marks)) (putb : bs ≡ over word.seenOf n ws (g .board)) where
+        (ps ms bs : List ℕ) (puts : ps ≡ over word.placeOf n ws' (g .cells' .places)) (putm : ms ≡ over word.markOf n ws' (g .cells' .marks)) (putb : bs ≡ over word.seenOf n ws' (g .board)) where
       module _ (s : Status) (x : Float) (t : Tree) (f : ℕ) (ans : List (Status × Float))
           (e : Ended (g .statuses) (g .leftovers) (g .fuel) (updates (g .event)) List.[] n s x t f ans (out (r .seen) (r .left) ws (take n ts))) where
         seen-is : r .seen ≡ seenAs s
@@ -182,21 +186,43 @@ module _ {g : Given} {ends : List ℕ} {n : ℕ} (due : Due g ends n) where
         few : size t ≤ 256
         few = omega (arith, e .sized, due .few)
 
+        -- the tree that is shown
+        words-shown : ws' ≡ working (shown t) f (e .used) (updates (g .event))
+        words-shown = rw (shows, words-are, ← e .sized) (shown-words t f (e .used) (updates (g .event)) (e .fits) few)
+
+        few-shown : size (shown t) ≤ 256
+        few-shown = rw (size-shown 0 t) few
+
+        sized : size (shown t) ≡ n
+        sized = size-shown 0 t ∙ e .sized
+
+        fits-then : Fits (shown t)
+        fits-then = fits-shown 0 t (e .fits)
+
         used : length given-answers - length ans ≡ min (e .used) lent
         used = rw (e .left, length-drop (e .used) given-answers, all) (omega arith)
 
         says-ticked : Ticked s x (g .fuel - f) (length given-answers - length ans) ≡ a
-        says-ticked = rw (says, seen-is, status-back s, left-is, words-are, fuel-left t f (e .used) (updates (g .event)) few, used-up t f (e .used) (updates (g .event)) few, used)
+        says-ticked = rw (
+          says,
+          seen-is,
+          status-back s,
+          left-is,
+          words-shown,
+          fuel-left (shown t) f (e .used) (updates (g .event)) few-shown,
+          used-up (shown t) f (e .used) (updates (g .event)) few-shown,
+          used,
+        )
 
         places-left : column placeOf t (drop (size t) (g .cells' .places)) ≡ ps
-        places-left = rw (puts, words-are, ← e .sized) (sym (put-places t f (e .used) (updates (g .event)) (g .cells' .places) (e .fits) few))
+        places-left = rw (puts, words-shown, ← sized, ← places-shown t, ← size-shown 0 t) (sym (put-places (shown t) f (e .used) (updates (g .event)) (g .cells' .places) fits-then few-shown))
 
         marks-left : column markOf t (drop (size t) (g .cells' .marks)) ≡ ms
-        marks-left = rw (putm, words-are, ← e .sized) (sym (put-marks t f (e .used) (updates (g .event)) (g .cells' .marks) (e .fits) few))
+        marks-left = rw (putm, words-shown, ← sized, ← marks-shown t, ← size-shown 0 t) (sym (put-marks (shown t) f (e .used) (updates (g .event)) (g .cells' .marks) fits-then few-shown))
 
-        board-left : ontoBoard t (g .board) ≡ bs
+        board-left : ontoBoard (shown t) (g .board) ≡ bs
         unfolding ontoBoard
-        board-left = rw (putb, words-are, ← e .sized) (sym (put-board t f (e .used) (updates (g .event)) (g .board) (e .fits) few))
+        board-left = rw (putb, words-shown, ← sized) (sym (put-board (shown t) f (e .used) (updates (g .event)) (g .board) fits-then few-shown))
 
         cells-left : ontoRun t (g .cells') ≡ run ts ps ms
         unfolding ontoRun

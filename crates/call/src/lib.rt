@@ -5,6 +5,7 @@ mod enter;
 mod gate;
 mod told;
 
+use board::show_ended;
 use copy::copy_cells;
 use copy::copy_times;
 use enter::enter;
@@ -100,6 +101,7 @@ fn carry_out(
             record,
         };
     }
+    show_ended(&mut work, n);
     put_back(&work, places, marks, board, n);
     Called {
         answer: told_done(&work, result, fuel, lent(statuses, leftovers)),

@@ -15,6 +15,7 @@ use Rattle.rules.specs.Outcome.{statusOf, world, Out, done, asks, short}
 use Rattle.rules.specs.State.{tick}
 use Rattle.rules.specs.Table.{mostDeep, cleaned, Row, row, rows, good, bad, whole, readTree, table}
 use Rattle.rules.specs.Cells.{cells, withCells, Found, faulty, none, badCell}
+use Rattle.rules.specs.Board.{shown}
 use Rattle.rules.specs.Call.{Run, Given, left, answers, answerAllowed, badAnswer, cleanedEvent, timeAllowed, counted, ontoRun, ontoBoard, refused, walked, tickTree, tooShort, tickCall, resetCall}
 use Rattle.rules.specs.Bound.{boundCall}
 
@@ -88,7 +89,7 @@ module _ (g : Given) (e : Event) (ls xs : List Float)
     (fine : badAnswer 0 (g .statuses) xs ≡ badAnswer 0 (g .statuses) (g .leftovers)) where
   walked-alike : (t : Tree) (o : Out Tree) → walked (lending g e ls xs) t o ≡ walked g t o
   walked-alike t (done s r t' (world f ans)) =
-      λ i. left (Ticked s r (g .fuel - f) (length (lent i) - length ans)) (counted s (g .record')) (ontoRun t' (g .cells')) (ontoRun t (g .spare)) (ontoBoard t' (g .board))
+      λ i. left (Ticked s r (g .fuel - f) (length (lent i) - length ans)) (counted s (g .record')) (ontoRun t' (g .cells')) (ontoRun t (g .spare)) (ontoBoard (shown t') (g .board))
   walked-alike t (asks n x) = refl
   walked-alike t short = refl
 

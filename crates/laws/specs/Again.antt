@@ -16,6 +16,7 @@ use Rattle.rules.specs.Outcome.{statusOf, world, Out, done, asks, short}
 use Rattle.rules.specs.State.{tick}
 use Rattle.rules.specs.Table.{mostDeep, cleaned}
 use Rattle.rules.specs.Cells.{none}
+use Rattle.rules.specs.Board.{shown}
 use Rattle.rules.specs.Call.{Given, Left, left, counted, ontoRun, ontoBoard, answers, cleanedEvent, answerAllowed, badAnswer, walked, tickCall}
 use Rattle.calls.specs.View.{heldBy, walk, Walked, NotWalked, not-walked, View, walking, refusing, view}
 use Rattle.calls.specs.Walks.{walks}
@@ -72,7 +73,7 @@ module _ (g : Given) (k : ℕ) (ss : List ℕ) (ls : List Float) (even : Paired 
   left-again t (done s r t' (world f ans)) o' h a = ap (λ (u : Out Tree). walked (again k ss ls g) t u) h ∙ same
     where
       same : walked (again k ss ls g) t (done s r t' (world (f + k) (ans ++ answers ss ls))) ≡ walked g t (done s r t' (world f ans))
-      same = λ z. left (Ticked s r (visits (g .fuel) f z) (used-again ans z)) (counted s (g .record')) (ontoRun t' (g .cells')) (ontoRun t (g .spare)) (ontoBoard t' (g .board))
+      same = λ z. left (Ticked s r (visits (g .fuel) f z) (used-again ans z)) (counted s (g .record')) (ontoRun t' (g .cells')) (ontoRun t (g .spare)) (ontoBoard (shown t') (g .board))
   left-again t (asks n x) o' h a = absurd a
   left-again t short o' h a = absurd a
 

@@ -22,11 +22,11 @@ use Rattle.rules.specs.Table.{zeroBits, countAllowed, limitAllowed, rowAllowed}
 use Rattle.rules.specs.Cells.{cells, withCells, withCellsAll, column, columns, elapsed, lastPlace, cellAllowed, Found, faulty, none, badCell, badCells, boardOf}
 use Rattle.rules.specs.Cells as inCell
 use Rattle.tables.specs.At.{Row, At, Ats}
-use Rattle.work.specs.Word.{withSeen, seenOf}
+use Rattle.work.specs.Word.{seenOf}
 use Rattle.work.specs.Word as inWord
 use Rattle.refine.specs.Words.{pack, words, wordsAll, bit, behind, working, Fits, FitsAll, Holds, HoldsAll}
 use Rattle.refine.specs.Words as refined
-use Rattle.refine.specs.Packed.{place-pack, mark-pack, put-seen}
+use Rattle.refine.specs.Packed.{place-pack, mark-pack, seen-pack}
 use Rattle.refine.specs.Stand.{count-sizes}
 use Rattle.load.specs.Load.{loadWords, over}
 
@@ -372,10 +372,6 @@ module _ (f : ℕ → ℕ) (g : Cell → ℕ → ℕ) (same : (s : ℕ) (k : Kin
   put-over : (t : Tree) (fuel used : ℕ) (b : Bool) (l : List ℕ) → Fits t → size t ≤ 256 → over f (size t) (working t fuel used b) l ≡ column g t (drop (size t) l)
   unfolding working
   put-over t fuel used b l v h = rw (add-zero (size t)) at (put-tree t 0 (behind (size t) fuel used 0 b) (drop (size t) l) v h)
-
-seen-pack : (s : ℕ) (k : Kind) (p m b : ℕ) → seenOf (pack s (code k) p m b) ≡ b
-unfolding pack withSeen seenOf
-seen-pack s k p m b = omega (arith, put-seen s k p m b 0 (omega arith))
 
 pub put-places : (t : Tree) (f u : ℕ) (b : Bool) (l : List ℕ)
     → Fits t

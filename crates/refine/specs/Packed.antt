@@ -6,7 +6,7 @@ use Rattle.rules.specs.declared.behavior.Kind.{Kind}
 use Rattle.rules.specs.declared.behavior.Kind.the-variants.{Wait, WaitForever, Action, Invert, AlwaysSucceed, Timeout, Select, If, Sequence}
 use Rattle.rules.specs.declared.behavior.Kind.the-variants.{MemorylessSequence, MemorylessSelector, While, WhileAll, WhenAll, WhenAny, After, Race}
 use Rattle.rules.specs.Kinds.{code, kindOf}
-use Rattle.work.specs.Word.{belowOf, codeOf, kindIn, placeOf, markOf, withPlace, withMark, withSeen, freshWord}
+use Rattle.work.specs.Word.{belowOf, codeOf, kindIn, placeOf, markOf, seenOf, withPlace, withMark, withSeen, freshWord}
 use Rattle.refine.specs.Words.{pack}
 
 code-small : (k : Kind) → code k < 256
@@ -67,6 +67,10 @@ module _ (s : ℕ) (k : Kind) (p m b : ℕ) where
   pub mark-pack : m < 2 → markOf (pack s (code k) p m b) ≡ m
   unfolding pack markOf
   mark-pack l = omega (arith, code-small k)
+
+  pub seen-pack : seenOf (pack s (code k) p m b) ≡ b
+  unfolding pack seenOf
+  seen-pack = omega (arith, code-small k)
 
   pub put-place : (i : ℕ) → withPlace (pack s (code k) p m b) i ≡ pack s (code k) i m b
   unfolding pack withPlace

@@ -148,17 +148,23 @@ unrolled pre ts post b f u = aux-append pre (runs wordOf ts post) (tail b f u) �
     aux-append (List._∷_ a pre) post z = aux-append pre (List._∷_ a post) z
 
 -- the node at q: its word, and where it ends
+module _ (pre : List ℕ) (post : List ℕ) (q : ℕ) (h : length pre ≡ q) where
+  pub end-in : (t : Tree) → q + size t ≤ 256 → endOf (reverseAux pre (run wordOf t post)) q ≡ q + size t
+  unfolding endOf size run
+  end-in (node k n l c bd ts) j = rw (get-here pre (wordOf (node k n l c bd ts)) (runs wordOf ts post) q h 0, below-pack (sizes ts) k (placeOf c bd) (markOf c bd) bd (omega arith))
+      (elim (decLt (q + 1 + sizes ts) 256) [
+        | yes i ↦ rw (lt-ltb (q + 1 + sizes ts) 256 i) (omega arith)
+        | no i ↦ rw (le-ltb (q + 1 + sizes ts) 256 (omega arith)) (omega arith)
+      ])
+
 module _ (pre : List ℕ) (post : List ℕ) (q : ℕ) (h : length pre ≡ q) (b : Bool) (f u : ℕ) where
   pub word-here : (t : Tree) → wordAt (array (reverseAux pre (run wordOf t post)) b f u) q ≡ wordOf t
   unfolding run
   word-here (node k n l c bd ts) = rw (unrolled pre (node k n l c bd ts ∷ []) post b f u) (get-here pre _ _ q h 0)
 
   pub end-here : (t : Tree) → q + size t ≤ 256 → endOf (array (reverseAux pre (run wordOf t post)) b f u) q ≡ q + size t
-  unfolding endOf size
-  end-here (node k n l c bd ts) j = rw (word-here (node k n l c bd ts), below-pack (sizes ts) k (placeOf c bd) (markOf c bd) bd (omega arith)) (elim (decLt (q + 1 + sizes ts) 256) [
-    | yes i ↦ rw (lt-ltb (q + 1 + sizes ts) 256 i) (omega arith)
-    | no i ↦ rw (le-ltb (q + 1 + sizes ts) 256 (omega arith)) (omega arith)
-  ])
+  unfolding run
+  end-here t j = rw (unrolled pre (t ∷ []) post b f u) (end-in pre (post ++ tail b f u) q h t j)
 
 module _ (ts : Forest) (q n : ℕ) (e : n ≡ sizes ts) where
   pub words-freshen : (pre post : List ℕ) → length pre ≡ q → (b : Bool) (f u : ℕ)

@@ -19,7 +19,7 @@ use Rattle.refine.specs.Frame.{Frame, wordsIn, timesIn}
 mutual
   unfolding words run
 
-  words-run : (t : Tree) (post : List ℕ) → run wordOf t post ≡ words t post
+  pub words-run : (t : Tree) (post : List ℕ) → run wordOf t post ≡ words t post
   words-run (node k n l c b ts) post = ap (λ (r : List ℕ). List._∷_ (wordOf (node k n l c b ts)) r) (words-runs ts post)
 
   words-runs : (ts : Forest) (post : List ℕ) → runs wordOf ts post ≡ wordsAll ts post

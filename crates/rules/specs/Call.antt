@@ -21,6 +21,7 @@ use Rattle.rules.specs.Outcome.{world, Out, done, asks, short, byte, sta
 use Rattle.rules.specs.State.{tick}
 use Rattle.rules.specs.Table.{mostDeep, cleaned, number, good, bad, table}
 use Rattle.rules.specs.Cells.{cells, withCells, column, timeOf, placeOf, markOf, boardOf, Found, faulty, none, badCell}
+use Rattle.rules.specs.Board.{shownAs, shown}
 
 -- a run of cells, as it is lent
 pub record Run : Type 0 where
@@ -112,13 +113,13 @@ refused g a = left a (g .record') (g .cells') (g .spare) (g .board)
 abbrev pub walked : Given → Tree → Out Tree → Left
 walked g t (done s r t' (world f ans)) = left
     (Ticked s r (g .fuel - f) (length (answers (g .statuses) (g .leftovers)) - length ans))
-    (counted s (g .record')) (ontoRun t' (g .cells')) (ontoRun t (g .spare)) (ontoBoard t' (g .board))
+    (counted s (g .record')) (ontoRun t' (g .cells')) (ontoRun t (g .spare)) (ontoBoard (shown t') (g .board))
 walked g t (asks n x) = left (Asked n x) (g .record') (g .cells') (ontoRun t (g .spare)) (g .board)
 walked g t short = left OutOfFuel (g .record') (g .cells') (ontoRun t (g .spare)) (g .board)
 
 -- the tree with its cells; 5, 6 and 2, and then the walk
 unfoldable pub tickTree : Given → Tree → Left
-unfolding tick answers badAnswer counted ontoRun ontoBoard
+unfolding tick answers badAnswer counted ontoRun ontoBoard shownAs
 tickTree g t = cond (timeAllowed (g .event))
     (elim (badAnswer 0 (g .statuses) (g .leftovers)) [
       | faulty i ↦ refused g (BadAnswer i)

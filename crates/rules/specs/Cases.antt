@@ -1,4 +1,4 @@
--- Document 01, "Trees to try": what calls of fresh trees say. The marked cases, the errors to shut out and some finish bounds, as one list.
+-- Document 01, "Trees to try": what calls of fresh trees say. The marked cases, the errors to shut out, some finish bounds and some boards, as one list.
 use mathlib.Core.Path.{_≡_, refl}
 use mathlib.Core.Bool.{true, false}
 use mathlib.Core.List.{List, map}
@@ -95,28 +95,38 @@ unfolding given tickCall
 said t now List.[] = List.[]
 said t now (List._∷_ c cs) = let next = tickCall (given t now c) in List._∷_ (next .answer) (said t next cs)
 
+-- the board after each call
+unfoldable pub seen : Tree → Left → List Call → List (List ℕ)
+unfolding given tickCall
+seen t now List.[] = List.[]
+seen t now (List._∷_ c cs) = let next = tickCall (given t now c) in List._∷_ (next .board) (seen t next cs)
+
 -- the finish bound of a step
 unfoldable pub bounds : Tree → ℕ → BoundAnswer
 unfolding fields boundCall
 bounds t d = boundCall (fields (λ k n l. code k) t List.[]) (fields (λ k n l. n) t List.[]) (fields (λ k n l. l) t List.[]) (sec d)
 
 -- ---- the list
--- ticks TREE CALLS ANSWERS; bound TREE STEP ANSWER
+-- ticks TREE CALLS ANSWERS; boards TREE CALLS BOARDS; bound TREE STEP ANSWER
 pub data Case : Type 0 where
   ticks : Tree → List Call → List Answer → Case
+  boards : Tree → List Call → List (List ℕ) → Case
   bound : Tree → ℕ → BoundAnswer → Case
 
 pub data Shown : Type 0 where
   answers : List Answer → Shown
+  bytes : List (List ℕ) → Shown
   within : BoundAnswer → Shown
 
 unfoldable pub shown : Case → Shown
-unfolding said atFirst bounds
+unfolding said seen atFirst bounds
 shown (ticks t cs a) = answers (said t (atFirst t) cs)
+shown (boards t cs b) = bytes (seen t (atFirst t) cs)
 shown (bound t d a) = within (bounds t d)
 
 abbrev pub expected : Case → Shown
 expected (ticks t cs a) = answers a
+expected (boards t cs b) = bytes b
 expected (bound t d a) = within a
 
 infixr 40 _and_
@@ -151,6 +161,10 @@ giveUp = of Select (timed Timeout 2 (of Sequence (act 1 ∷ act 2 ∷ []) ∷ []
 -- its condition is looked at when the body is through
 abbrev loop : Tree
 loop = of WhileAll (wait 2 ∷ wait 3 ∷ [])
+
+-- it fails after 1
+abbrev failing : Tree
+failing = timed Timeout 1 (forever ∷ [])
 
 pub cases : List Case
 cases =
@@ -198,6 +212,21 @@ cases =
     and bound (of MemorylessSequence (wait 1 ∷ [])) 1 Never
     and bound (of After []) 1 NoBound
     and bound (wait 1) 0 NoBound
+    -- a child that has ended and is not visited any more; the nodes below it stay 0
+    and boards (of WhenAll (wait 1 ∷ wait 3 ∷ []))
+    (update 1 and update 1 and update 1 and nil)
+    ((1 and 2 and 1 and nil) and (1 and 2 and 1 and nil) and (2 and 2 and 2 and nil) and nil)
+    and boards (of WhenAny (failing ∷ forever ∷ [])) (update 1 and update 1 and nil) ((1 and 3 and 1 and 1 and nil) and (1 and 3 and 0 and 1 and nil) and nil)
+    and boards (of Select (failing ∷ forever ∷ [])) (update 1 and update 1 and nil) ((1 and 3 and 1 and 1 and nil) and (1 and 3 and 0 and 1 and nil) and nil)
+    and boards (of After (wait 1 ∷ wait 3 ∷ wait 4 ∷ [])) (update 1 and update 1 and nil) ((1 and 2 and 1 and 1 and nil) and (1 and 2 and 1 and 1 and nil) and nil)
+    -- by the cells after the tick: a Sequence that has ended under WhenAll is fresh
+    and boards (of WhenAll (of Sequence (wait 1 ∷ wait 1 ∷ []) ∷ wait 9 ∷ []))
+    (update 1 and update 1 and nil)
+    ((1 and 1 and 2 and 1 and 1 and nil) and (1 and 2 and 0 and 2 and 1 and nil) and nil)
+    -- also where its parent is not visited
+    and boards (of While (wait 2 ∷ of Sequence (wait 1 ∷ wait 9 ∷ []) ∷ []))
+    (update 1 and update 1 and nil)
+    ((1 and 1 and 1 and 2 and 1 and nil) and (2 and 2 and 0 and 2 and 0 and nil) and nil)
     and nil
 
 pub trees-to-try : map shown cases ≡ map expected cases

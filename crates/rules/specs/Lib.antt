@@ -7,6 +7,7 @@ pub mod Loops
 pub mod State
 pub mod Table
 pub mod Cells
+pub mod Board
 pub mod Call
 pub mod Bound
 pub mod Cases

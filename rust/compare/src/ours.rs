@@ -1,6 +1,6 @@
 //! This library, with all the memory that it is lent, and what each call must leave there.
 
-use crate::theirs::{Ev, Theirs};
+use crate::theirs::{Ev, Left, Theirs};
 use lemboraw::raw::{self, Record, Said, Table};
 
 /// Cells of a tree, and perhaps of more room behind them.
@@ -126,14 +126,14 @@ impl Ours {
     }
 
     /// Calls the library and compares what it says and leaves. `then` is bonsai after the tick,
-    /// with its state as cells; it is looked at for answer 0 alone.
-    pub fn tick(&mut self, call: &Call, said: Said, then: Option<(&Theirs, &Cells)>) -> Result<(), String> {
+    /// with what that left; it is looked at for answer 0 alone.
+    pub fn tick(&mut self, call: &Call, said: Said, then: Option<(&Theirs, &Left)>) -> Result<(), String> {
         self.must.copy_all(&self.now);
         match (said.no, then) {
-            (0, Some((theirs, cells))) => {
+            (0, Some((theirs, left))) => {
                 self.must.spare.copy(&self.now.cells, self.len);
-                self.must.cells.copy(cells, self.len);
-                self.must.board[..self.len].copy_from_slice(&theirs.seen.board);
+                self.must.cells.copy(&left.cells, self.len);
+                self.must.board[..self.len].copy_from_slice(&left.board);
                 self.must.record = Record { finished: theirs.bt.finished, ticks: theirs.bt.tick_count };
             }
             (1 | 7, _) => self.must.spare.copy(&self.now.cells, self.len),

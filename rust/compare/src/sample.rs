@@ -66,8 +66,6 @@ fn run(random: &mut Random) -> Option<Run> {
     let tree = Tree::random(random, most, &mut time);
     let mut theirs = Theirs::new(&tree);
     let mut run = Run::default();
-    let mut before = Cells::fresh(tree.len());
-    let mut after = Cells::fresh(tree.len());
     for place in 0..tree.len() {
         let bits = tree.limits[place].to_bits();
         line(&mut run.stdin, format_args!("01 {:02x} {:04x} {bits:016x}", tree.kinds[place], tree.ns[place]));
@@ -82,7 +80,7 @@ fn run(random: &mut Random) -> Option<Run> {
             line(&mut run.stdin, format_args!("03"));
             line(&mut run.stdout, format_args!("83 00"));
         }
-        theirs.cells(&tree, &mut before);
+        let before = theirs.left(&tree).cells;
         let watched = theirs.watch(&tree, ev, FUEL, &mut |_| {
             (random.pick(&[Status::Running, Status::Success, Status::Failure]), random.pick(&[-0.0, 0.0, 1.0, 2.0]))
         });
@@ -97,7 +95,7 @@ fn run(random: &mut Random) -> Option<Run> {
         let (bits, used) = (left.to_bits(), trace.asks.len());
         line(&mut run.stdout, format_args!("82 00 {:02x} {bits:016x} {visits:08x} {used:04x} 0000", number(status)));
         theirs.tick(ev, &watched).ok()?;
-        theirs.cells(&tree, &mut after);
+        let after = theirs.left(&tree).cells;
         show(&mut run.shown, &tree, ev, &theirs.seen.board, &before, &after);
     }
     Some(run)

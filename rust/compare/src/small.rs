@@ -1,7 +1,7 @@
 //! Every tree of few nodes, with every answer and both events, for three ticks.
 
-use crate::ours::{Call, Cells, Ours, ALL};
-use crate::theirs::{number, Answer, Ev, Theirs, Trace};
+use crate::ours::{Call, Ours, ALL};
+use crate::theirs::{number, Answer, Ev, Left, Theirs, Trace};
 use crate::tree::{children_of, Node, Tree, ACTION, TIMEOUT, WAIT};
 use crate::{Count, Status};
 use lemboraw::raw::Said;
@@ -87,7 +87,6 @@ pub fn explore(nodes: &[Node], count: &mut Count) -> Result<(), String> {
 }
 
 fn follow(tree: &Tree, point: &mut Point, ev: Ev, next: &mut Vec<Point>, count: &mut Count) -> Result<(), String> {
-    let mut room = Cells::fresh(tree.len());
     // The answers as indices, counted up like the digits of a number.
     let mut digits: Vec<usize> = vec![];
     let mut known = 0;
@@ -108,10 +107,10 @@ fn follow(tree: &Tree, point: &mut Point, ev: Ev, next: &mut Vec<Point>, count: 
             tick(tree, point, ev, trace, visits - 1, all, None, count)?;
             let mut after = point.clone();
             after.theirs.tick(ev, &watched)?;
-            after.theirs.cells(tree, &mut room);
+            let left = after.theirs.left(tree);
             let fuel = visits + all as u32 % 2;
             let theirs = after.theirs.clone();
-            tick(tree, &mut after, ev, trace, fuel, all, Some((&theirs, &room)), count)?;
+            tick(tree, &mut after, ev, trace, fuel, all, Some((&theirs, &left)), count)?;
             if after.theirs.bt.finished {
                 restart(tree, &mut after, ev, trace, count)?;
             } else if next.iter().all(|other| other.theirs.state_differs(&after.theirs)) {
@@ -150,7 +149,7 @@ fn tick(
     trace: &Trace,
     fuel: u32,
     given: usize,
-    then: Option<(&Theirs, &Cells)>,
+    then: Option<(&Theirs, &Left)>,
     count: &mut Count,
 ) -> Result<(), String> {
     let (statuses, leftovers) = split(&trace.answers[..given]);

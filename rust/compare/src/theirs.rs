@@ -112,9 +112,25 @@ pub struct Theirs {
 /// What a watched tick shows besides its state.
 #[derive(Clone)]
 pub struct Seen {
+    /// The status of each node's last visit, 0 for those not visited.
     pub board: Vec<u8>,
     /// For each memoryless node the child that its cursor stands on: bonsai's state does not say.
     cursors: Vec<usize>,
+}
+
+/// What a tick leaves, as this library lays it out: bonsai's state as cells, and the board.
+pub struct Left {
+    pub cells: Cells,
+    pub board: Vec<u8>,
+}
+
+impl Left {
+    /// A child that has ended: the board shows its status where the tick did not visit it.
+    fn ended(&mut self, place: usize, status: Status) {
+        if self.board[place] == 0 {
+            self.board[place] = number(status);
+        }
+    }
 }
 
 /// A watched tick: what happened, and the state that it left.
@@ -124,7 +140,7 @@ pub struct Watched {
     seen: Seen,
 }
 
-/// Counts visits as they end and keeps the board.
+/// Counts visits as they end and keeps their statuses.
 struct Watch<'a> {
     tree: &'a Tree,
     ended: &'a Cell<u64>,
@@ -200,21 +216,23 @@ impl Theirs {
         self.bt.state != other.bt.state || self.seen.cursors != other.seen.cursors
     }
 
-    /// bonsai's state as cells.
-    pub fn cells(&self, tree: &Tree, cells: &mut Cells) {
-        cells.clear(tree.len());
-        self.decode(tree, &self.bt.state, 0, cells);
+    /// What the last tick left.
+    pub fn left(&self, tree: &Tree) -> Left {
+        let mut left = Left { cells: Cells::fresh(tree.len()), board: self.seen.board.clone() };
+        self.decode(tree, &self.bt.state, 0, &mut left);
+        left
     }
 
-    fn decode(&self, tree: &Tree, state: &State<Act>, place: usize, cells: &mut Cells) {
+    fn decode(&self, tree: &Tree, state: &State<Act>, place: usize, left: &mut Left) {
         let child = |i| tree.child(place, i);
+        let cells = &mut left.cells;
         match state {
             State::Action(_) | State::WaitForever => {}
             State::Wait { elapsed_time, .. } => cells.times[place] = *elapsed_time,
-            State::Invert(below) | State::AlwaysSucceed(below) => self.decode(tree, below, child(0), cells),
+            State::Invert(below) | State::AlwaysSucceed(below) => self.decode(tree, below, child(0), left),
             State::Timeout { elapsed_time, child: below, .. } => {
                 cells.times[place] = *elapsed_time;
-                self.decode(tree, below, child(0), cells);
+                self.decode(tree, below, child(0), left);
             }
             State::If { status, current_state, .. } => {
                 let chosen = match status {
@@ -223,37 +241,43 @@ impl Theirs {
                     Status::Failure => 2,
                 };
                 cells.places[place] = chosen as u16;
-                self.decode(tree, current_state, child(chosen), cells);
+                self.decode(tree, current_state, child(chosen), left);
             }
             State::Select { behaviors, current_index, current_state }
             | State::Sequence { behaviors, current_index, current_state } => {
                 cells.places[place] = *current_index as u16;
                 // Past the end the state is still that of the last child.
                 let index = (*current_index).min(behaviors.len() - 1);
-                self.decode(tree, current_state, child(index), cells);
+                self.decode(tree, current_state, child(index), left);
+                let ended = if matches!(state, State::Select { .. }) { Status::Failure } else { Status::Success };
+                (0..*current_index).for_each(|i| left.ended(child(i), ended));
             }
             State::MemorylessSequence { cursor, .. } | State::MemorylessSelector { cursor, .. } => {
                 // A cursor that never moved stands on a WaitForever of its own, which has no cells.
                 if **cursor != State::WaitForever {
-                    self.decode(tree, cursor, self.seen.cursors[place], cells);
+                    self.decode(tree, cursor, self.seen.cursors[place], left);
                 }
             }
             State::While { condition_state, loop_body_index, loop_body_state, .. } => {
                 cells.places[place] = *loop_body_index as u16;
-                self.decode(tree, condition_state, child(0), cells);
-                self.decode(tree, loop_body_state, child(1 + loop_body_index), cells);
+                self.decode(tree, condition_state, child(0), left);
+                self.decode(tree, loop_body_state, child(1 + loop_body_index), left);
             }
             State::WhileAll { condition_state, check_condition, loop_body_index, loop_body_state, .. } => {
                 cells.places[place] = if *check_condition { 0 } else { 1 + *loop_body_index as u16 };
-                self.decode(tree, condition_state, child(0), cells);
-                self.decode(tree, loop_body_state, child(1 + loop_body_index), cells);
+                self.decode(tree, condition_state, child(0), left);
+                self.decode(tree, loop_body_state, child(1 + loop_body_index), left);
             }
             State::WhenAll(states) | State::WhenAny(states) | State::Race(states) => {
+                let ended = if matches!(state, State::WhenAny(_)) { Status::Failure } else { Status::Success };
                 let mut q = place + 1;
                 for state in states {
                     match state {
-                        Some(state) => self.decode(tree, state, q, cells),
-                        None => cells.marks[q] = 1,
+                        Some(state) => self.decode(tree, state, q, left),
+                        None => {
+                            left.cells.marks[q] = 1;
+                            left.ended(q, ended);
+                        }
                     }
                     q = tree.ends[q];
                 }
@@ -262,9 +286,10 @@ impl Theirs {
                 cells.places[place] = *next_success_index as u16;
                 let mut q = place + 1;
                 for state in states {
-                    self.decode(tree, state, q, cells);
+                    self.decode(tree, state, q, left);
                     q = tree.ends[q];
                 }
+                (0..*next_success_index).for_each(|i| left.ended(child(i), Status::Success));
             }
         }
     }

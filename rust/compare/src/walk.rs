@@ -2,10 +2,10 @@
 
 use crate::bound;
 use crate::expect;
-use crate::ours::{Call, Cells, Ours, ALL};
+use crate::ours::{Call, Ours, ALL};
 use crate::random::Random;
 use crate::small::split;
-use crate::theirs::{Answer, Ev, Theirs, Trace};
+use crate::theirs::{Answer, Ev, Left, Theirs, Trace};
 use crate::tree::{Tree, ACTION};
 use crate::wrapped::Wrapped;
 use crate::{Count, Status};
@@ -71,7 +71,6 @@ fn walk(tree: &Tree, source: Source, random: &mut Random, count: &mut Count) -> 
     // Some trees have ticked nearly forever, so that the count goes round.
     theirs.bt.tick_count = random.pick(&[0, 0, 5, u64::MAX - 1, u64::MAX]);
     let mut ours = Ours::new(tree.len(), random.below(3), theirs.bt.tick_count);
-    let mut room = Cells::fresh(tree.len());
     // The crate walks once for each action that is asked: small trees show the same in less time.
     let mut wrapped = if tree.len() <= 40 { Some(Wrapped::new(tree)?) } else { None };
     // Some hosts say Running most of the time, so that trees grow old.
@@ -110,13 +109,13 @@ fn walk(tree: &Tree, source: Source, random: &mut Random, count: &mut Count) -> 
                 let visits = visits as u32;
                 tick(tree, &mut ours, ev, trace, visits - 1, all, 0, None, count)?;
                 theirs.tick(ev, &watched)?;
-                theirs.cells(tree, &mut room);
+                let left = theirs.left(tree);
                 if let Some(wrapped) = &mut wrapped {
                     wrapped.tick(ev, trace)?;
                 }
                 let fuel = random.pick(&[visits, visits, visits + 1, u32::MAX]);
                 let unused = random.pick(&[0, 0, 0, 3]);
-                tick(tree, &mut ours, ev, trace, fuel, all, unused, Some((&theirs, &room)), count)?;
+                tick(tree, &mut ours, ev, trace, fuel, all, unused, Some((&theirs, &left)), count)?;
             }
             _ => tick(tree, &mut ours, ev, trace, most, all, 0, None, count)?,
         }
@@ -143,7 +142,7 @@ fn tick(
     fuel: u32,
     given: usize,
     unused: usize,
-    then: Option<(&Theirs, &Cells)>,
+    then: Option<(&Theirs, &Left)>,
     count: &mut Count,
 ) -> Result<(), String> {
     let (mut statuses, mut leftovers) = split(&trace.answers[..given]);

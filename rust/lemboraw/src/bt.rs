@@ -180,8 +180,11 @@ impl<A, B> BT<A, B> {
         self.tree.kinds.len()
     }
 
-    /// The status of a behavior's last visit in the last tick carried out, or none if it was not
-    /// visited then. Behaviors count from 0 in preorder; a place past the last is refused.
+    /// The status of a behavior's last visit in the last tick carried out. If it was not visited
+    /// then, that with which it has ended: success under `WhenAll`, and before the child that is due
+    /// in `Sequence` and `After`; failure under `WhenAny`, and before that child in `Select`. Else
+    /// none, also for the behaviors below one that has ended. Behaviors count from 0 in preorder; a
+    /// place past the last is refused.
     pub fn last_status(&self, place: usize) -> Result<Option<Status>, Refusal> {
         match self.board.get(place) {
             Some(&seen) => Ok(Status::from_number(seen)),

@@ -19,7 +19,7 @@ pub struct Node<'a, A> {
     pub limit: Option<f64>,
     /// The time that has passed in a `Wait` or `Timeout`.
     pub elapsed: Option<f64>,
-    /// The status of its last visit in the last tick carried out; none if it was not visited then.
+    /// Its status after the last tick carried out: see [`BT::last_status`].
     pub status: Option<Status>,
 }
 
@@ -43,8 +43,8 @@ impl<A, B> BT<A, B> {
     }
 
     /// The tree in the language of [Graphviz](https://graphviz.org), each behavior coloured by its
-    /// status in the last tick: gold for running, green for success, red for failure, white for not
-    /// visited.
+    /// status after the last tick ([`BT::last_status`]): gold for running, green for success, red for
+    /// failure, white for none.
     pub fn dot(&self) -> String
     where
         A: Debug,
@@ -86,8 +86,8 @@ impl<A: Debug> Display for Node<'_, A> {
     }
 }
 
-/// A line for each behavior: its status in the last tick, `-` if it was not visited, and what it is,
-/// indented by its depth.
+/// A line for each behavior: its status after the last tick, `-` for none, and what it is, indented by
+/// its depth.
 impl<A: Debug, B> Display for BT<A, B> {
     fn fmt(&self, f: &mut fmt::Formatter<'_>) -> fmt::Result {
         for node in self.nodes() {

@@ -116,6 +116,24 @@ fn each_action_is_called_once_and_in_order() {
 }
 
 #[test]
+fn a_child_that_has_ended_shows_how() {
+    let statuses = |bt: &Tree| -> Vec<_> { (0..bt.len()).map(|place| bt.last_status(place).unwrap()).collect() };
+    let mut all = tree(WhenAll(vec![Wait(1.0), Wait(3.0)]));
+    for seen in [[Running, Success, Running], [Running, Success, Running], [Success, Success, Success]] {
+        quiet(&mut all, update(1.0)).unwrap();
+        assert_eq!(statuses(&all), seen.map(Some));
+    }
+    // Not the behaviors below it.
+    let failing = Timeout(1.0, boxed(WaitForever));
+    for behavior in [Select(vec![failing.clone(), WaitForever]), WhenAny(vec![failing, WaitForever])] {
+        let mut any = tree(behavior);
+        quiet(&mut any, update(1.0)).unwrap();
+        quiet(&mut any, update(1.0)).unwrap();
+        assert_eq!(statuses(&any), [Some(Running), Some(Failure), None, Some(Running)]);
+    }
+}
+
+#[test]
 fn the_blackboard_is_shared() {
     let mut bt = BT::new(WhenAll(vec![Action(2), Action(3)]), vec![]).unwrap();
     let mut act = |args: ActionArgs<Event, i32>, board: &mut Vec<i32>| {

@@ -38,29 +38,35 @@ returns c =
     put-back pre (enter .result) _ (enter .last .0) (enter .last .1 .1 .1 .1 .0) (load .ensures) (enter .ensures .0) (enter .ensures .1) (omega (arith, fits .fuel)) _
     (copy-cells .ensures) (enum-told .given .1) _ (told-stopped .ensures) _ (copy-times .ensures)
 
+show-ended-requires : tie.Need-show-ended-requires
+show-ended-requires c κs =
+    let pre = c .before .before .before .before .before .before .before .before .before .before .before .before .before .before .before .before .before .before
+    .before .before .before .before .before .before .before .before .before .before .before .before .before .before .before .before .before .before .before .pre in
+    pre .few
+
 put-back-requires : tie.Need-put-back-requires
 put-back-requires c κs =
     let pre = c .before .before .before .before .before .before .before .before .before .before .before .before .before .before .before .before .before .before
     .before .before .before .before .before .before .before .before .before .before .before .before .before .before .before .before .before .before .before .before
-    .before .before .pre in
+    .before .before .before .before .pre in
     (omega (arith, pre .few), omega (arith, pre .cells-long .places), omega (arith, pre .cells-long .marks), omega (arith, pre .board-long))
 
 same-length-10 : tie.Need-same-length-10
 same-length-10 c =
-    let copy-cells = c .before .before .before .before .before .before .before .before .before .before .before .before .before .before .before .before .before .before
-    .before .before .before .before .before .before .before .before .before .before .before .before .before .copy-cells in
+    let copy-cells = c .before .before .before .before .before .before .before .before .before .before .before .before .before .before .before .before .before
+    .before .before .before .before .before .before .before .before .before .before .before .before .before .before .before .before .copy-cells in
     copy-cells .kept .1 .1 .1 .0
 
 same-length-11 : tie.Need-same-length-11
 same-length-11 c =
-    let copy-cells = c .before .before .before .before .before .before .before .before .before .before .before .before .before .before .before .before .before .before
-    .before .before .before .before .before .before .before .before .before .before .before .before .before .copy-cells in
+    let copy-cells = c .before .before .before .before .before .before .before .before .before .before .before .before .before .before .before .before .before
+    .before .before .before .before .before .before .before .before .before .before .before .before .before .before .before .before .copy-cells in
     copy-cells .kept .1 .1 .1 .1 .0
 
 same-length-12 : tie.Need-same-length-12
 same-length-12 c =
-    let copy-cells = c .before .before .before .before .before .before .before .before .before .before .before .before .before .before .before .before .before .before
-    .before .before .before .before .before .before .before .before .before .before .before .before .before .copy-cells in
+    let copy-cells = c .before .before .before .before .before .before .before .before .before .before .before .before .before .before .before .before .before
+    .before .before .before .before .before .before .before .before .before .before .before .before .before .before .before .before .copy-cells in
     copy-cells .kept .1 .1 .1 .1 .1 .0
 
 returns-2 : tie.Need-returns-2
@@ -69,19 +75,21 @@ returns-2 c =
     let told-done = c .before .told-done in
     let lent = c .before .before .lent in
     let put-back = c .before .before .before .before .before .before .before .before .before .before .put-back in
-    let match = c .before .before .before .before .before .before .before .before .before .before .before .before .before .before .before .match in
-    let enter = c .before .before .before .before .before .before .before .before .before .before .before .before .before .before .before .before .before .before .enter in
-    let load = c .before .before .before .before .before .before .before .before .before .before .before .before .before .before .before .before .before .before .before .before .before .load in
-    let copy-cells = c .before .before .before .before .before .before .before .before .before .before .before .before .before .before .before .before .before .before
-    .before .before .before .before .before .before .before .before .before .before .before .before .before .copy-cells in
+    let show-ended = c .before .before .before .before .before .before .before .before .before .before .before .before .before .before .before .show-ended in
+    let match = c .before .before .before .before .before .before .before .before .before .before .before .before .before .before .before .before .before .match in
+    let enter = c .before .before .before .before .before .before .before .before .before .before .before .before .before .before .before .before .before .before .before .before .enter in
+    let load = c .before .before .before .before .before .before .before .before .before .before .before .before .before .before .before .before .before .before
+    .before .before .before .before .before .load in
+    let copy-cells = c .before .before .before .before .before .before .before .before .before .before .before .before .before .before .before .before .before
+    .before .before .before .before .before .before .before .before .before .before .before .before .before .before .before .before .copy-cells in
     let pre = c .before .before .before .before .before .before .before .before .before .before .before .before .before .before .before .before .before .before
     .before .before .before .before .before .before .before .before .before .before .before .before .before .before .before .before .before .before .before .before
-    .before .before .before .before .before .before .before .before .before .before .before .before .before .pre in
+    .before .before .before .before .before .before .before .before .before .before .before .before .before .before .before .pre in
     let fits = c .before .before .before .before .before .before .before .before .before .before .before .before .before .before .before .before .before .before
     .before .before .before .before .before .before .before .before .before .before .before .before .before .before .before .before .before .before .before .before
-    .before .before .before .before .before .before .before .before .before .before .before .before .before .fits in
+    .before .before .before .before .before .before .before .before .before .before .before .before .before .before .before .fits in
     carried pre (enter .result) _ (enter .last .0) (enter .last .1 .1 .1 .1 .0) (load .ensures) (enter .ensures .0) (enter .ensures .1) (omega (arith, fits .fuel)) _
-    (copy-cells .ensures) (goes-told _ (match .keys2)) _ _ (lent .ensures) (told-done .ensures) _ (counted .ensures) _ _ _ (put-back .ensures .0)
+    (copy-cells .ensures) (goes-told _ (match .keys2)) _ (show-ended .ensures) _ _ (lent .ensures) (told-done .ensures) _ (counted .ensures) _ _ _ (put-back .ensures .0)
     (put-back .ensures .1 .0) (put-back .ensures .1 .1)
 
 pub carry-out-spec : {M : Type 1} → statement M
@@ -101,6 +109,7 @@ carry-out-spec =
     (λ c. search needs)
     (λ c. search needs)
     returns
+    show-ended-requires
     put-back-requires
     (λ c κs. search needs)
     (λ c κs. search needs)

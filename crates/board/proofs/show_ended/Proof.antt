@@ -1,0 +1,31 @@
+-- What is still to be shown gives the same words.
+use mathlib.Core.Path.{_≡_, refl, sym, _∙_}
+use Prim.Native.Nat.{_-_, _≤_}
+use native.Mathlib.Omega.{arith}
+use native.Mathlib.Nat.{sub-zero}
+use Rattle.board.specs.Show.{endedWords}
+use Rattle.board.proofs.Laws.{words-one, words-none}
+use borrow.Author.Needs.{needs}
+use Rattle.board.proofs.show_ended.Statement.{statement}
+use Rattle.board.proofs.show_ended.Tie as tie
+
+abbrev Inv-loop : tie.InvT-loop
+Inv-loop work₀ n p₀ work p = (p ≤ n) × (endedWords p (n - p) work ≡ endedWords 0 n work₀)
+
+abbrev μ-loop : tie.MeasureT-loop
+μ-loop work₀ n p₀ work p = n - p
+
+loop-holds : tie.Need-loop-holds Inv-loop μ-loop
+loop-holds c = (omega arith, rw sub-zero)
+
+loop-again : tie.Need-loop-again Inv-loop μ-loop
+loop-again c =
+    let at = c .before .before .before in
+    (omega arith, words-one _ _ _ _ _ (omega arith) (c .show-below .ensures) ∙ at .loop .inv .1)
+
+returns : tie.Need-returns Inv-loop μ-loop
+returns c = sym (words-none _ _ _ (omega arith)) ∙ c .before .loop .inv .1
+
+pub show-ended-spec : {M : Type 1} → statement M
+show-ended-spec =
+    tie.close (tie.spec Inv-loop μ-loop loop-holds (λ c κs. search needs) (λ c. search needs) (λ c. search needs) loop-again returns)
