@@ -73,8 +73,10 @@ static void memory(void) {
     said = lemboraw_tree_tick(&tree, true, -1, NODES, none);
     CHECK(said.no == LEMBORAW_BAD_TIME && tree.times[4] == 3 && tree.board[2] == LEMBORAW_SUCCESS);
     CHECK(lemboraw_tree_bound(&tree, 1).kind == LEMBORAW_UNBOUNDED);
-    said = lemboraw_tree_reset(&tree);
-    CHECK(said.no == LEMBORAW_DONE && tree.marks[1] == 0 && tree.times[4] == 0 && tree.record.ticks == 1);
+    said = lemboraw_tree_restart(&tree, true, 1, NODES, none);
+    CHECK(said.no == LEMBORAW_ASKS && tree.marks[2] == 1 && tree.times[4] == 3 && tree.spare_times[4] == 3);
+    said = lemboraw_tree_restart(&tree, true, 1, NODES, one);
+    CHECK(said.no == LEMBORAW_DONE && tree.marks[2] == 0 && tree.times[4] == 1 && tree.record.ticks == 2);
 }
 
 /* Each of the runs, null and empty, in place of one that is long enough. */
@@ -85,19 +87,18 @@ static void empty_runs(void) {
         size_t len[13];
         for (int i = 0; i < 13; i++) len[i] = i == run ? 0 : i < 10 ? NODES : 1;
 #define RUN(i, pointer) (run == i ? NULL : pointer), len[i]
-        struct lemboraw_said said = lemboraw_tick(
-            &t.record, RUN(0, t.kinds), RUN(1, t.ns), RUN(2, t.limits), RUN(3, t.times), RUN(4, t.places), RUN(5, t.marks),
-            RUN(6, t.spare_times), RUN(7, t.spare_places), RUN(8, t.spare_marks), RUN(9, t.board), true, 1.0, NODES,
-            RUN(10, statuses), RUN(11, leftovers));
+#define ALL \
+    &t.record, RUN(0, t.kinds), RUN(1, t.ns), RUN(2, t.limits), RUN(3, t.times), RUN(4, t.places), RUN(5, t.marks), \
+    RUN(6, t.spare_times), RUN(7, t.spare_places), RUN(8, t.spare_marks), RUN(9, t.board), true, 1.0, NODES, \
+    RUN(10, statuses), RUN(11, leftovers)
+        struct lemboraw_said said = lemboraw_tick(ALL);
         uint8_t must = run < 3 ? LEMBORAW_BAD_TABLE : run < 10 ? LEMBORAW_TOO_SHORT : run < 12 ? LEMBORAW_ASKS : LEMBORAW_DONE;
         CHECK(said.no == must);
         CHECK(t.times[4] == (must == LEMBORAW_DONE ? 8 : 7) && t.record.ticks == (must == LEMBORAW_DONE));
-        if (run < 6) {
-            said = lemboraw_reset(
-                &t.record, RUN(0, t.kinds), RUN(1, t.ns), RUN(2, t.limits), RUN(3, t.times), RUN(4, t.places), RUN(5, t.marks));
-            CHECK(said.no == must && t.times[4] == 7);
-        }
+        said = lemboraw_restart(ALL);
+        CHECK(said.no == must && t.times[4] == (must == LEMBORAW_DONE ? 1 : 7));
         if (run < 3) CHECK(lemboraw_bound(RUN(0, t.kinds), RUN(1, t.ns), RUN(2, t.limits), 1.0).no == LEMBORAW_BAD_TABLE);
+#undef ALL
 #undef RUN
     }
     struct lemboraw_record record = {true, 9};
@@ -121,7 +122,7 @@ static void places_of_bad_tables(void) {
     CHECK(said.no == LEMBORAW_BAD_TABLE && said.extra == 3);
     /* The tree itself is too large, and its 257th node is there. */
     counts[0] = 299;
-    said = lemboraw_tree_reset(&tree);
+    said = lemboraw_tree_restart(&tree, true, 1, 9, none);
     CHECK(said.no == LEMBORAW_BAD_TABLE && said.extra == 256);
     /* It ends too early. */
     tree.len = 200;

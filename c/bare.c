@@ -24,7 +24,8 @@ static int run(void) {
     struct lemboraw_said second = lemboraw_tree_tick(&tree, true, 3, 3, none);
     as_it_must = as_it_must && second.no == LEMBORAW_DONE && second.status == LEMBORAW_SUCCESS && second.time == 1;
     as_it_must = as_it_must && tree.record.finished && lemboraw_tree_bound(&tree, 1).ticks == 3;
-    return as_it_must && lemboraw_tree_reset(&tree).no == LEMBORAW_DONE ? 0 : 1;
+    struct lemboraw_said again = lemboraw_tree_restart(&tree, true, 1, 3, none);
+    return as_it_must && again.no == LEMBORAW_DONE && again.status == LEMBORAW_RUNNING ? 0 : 1;
 }
 
 /* Called by _start below, and ends by the system's own call. */

@@ -1,4 +1,4 @@
-/* The four functions as they are, each run with its length: a wait, an action that is asked for, the refusals. */
+/* The four functions as they are, each run with its length: a wait, an action that is asked for, a restart, the refusals. */
 #include "lemboraw.h"
 #include <stdio.h>
 
@@ -23,6 +23,13 @@ static struct lemboraw_said tick(size_t nodes, bool update, double dt, uint32_t 
                          &status, answers, &leftover, answers);
 }
 
+static struct lemboraw_said restart(double dt, uint32_t fuel, uint8_t status, size_t answers, size_t spare) {
+    double leftover = 0.25;
+    return lemboraw_restart(&record, kinds, LEN, ns, LEN, limits, LEN, times, LEN, places, LEN, marks, LEN,
+                            spare_times, spare, spare_places, LEN, spare_marks, LEN, board, LEN, true, dt, fuel,
+                            &status, answers, &leftover, answers);
+}
+
 int main(void) {
     struct lemboraw_said said = tick(LEN, true, 1.0, 3, LEMBORAW_RUNNING, 0);
     CHECK(said.no == LEMBORAW_DONE && said.status == LEMBORAW_RUNNING && said.visits == 2 && said.used == 0);
@@ -44,10 +51,22 @@ int main(void) {
     said = tick(LEN, false, 0.0, 3, LEMBORAW_RUNNING, 0);
     CHECK(said.no == LEMBORAW_FINISHED);
 
-    said = lemboraw_reset(&record, kinds, LEN, ns, LEN, limits, LEN, times, LEN, places, LEN, marks, LEN);
-    CHECK(said.no == LEMBORAW_DONE && !record.finished && record.ticks == 2 && places[0] == 0 && times[1] == 0.0);
-    said = lemboraw_reset(&record, kinds, LEN, ns, LEN, limits, LEN, times, LEN, places, LEN, marks, 2);
-    CHECK(said.no == LEMBORAW_TOO_SHORT);
+    /* A cell that no tick takes; a restart does not look at it, and a question or too little fuel leaves it. */
+    times[0] = -1.0;
+    said = tick(LEN, true, 1.0, 3, LEMBORAW_RUNNING, 0);
+    CHECK(said.no == LEMBORAW_BAD_CELL && said.extra == 0);
+    said = restart(1.0, 3, LEMBORAW_RUNNING, 0, 2);
+    CHECK(said.no == LEMBORAW_TOO_SHORT && spare_times[0] == 0.0);
+    said = restart(-1.0, 3, LEMBORAW_RUNNING, 0, LEN);
+    CHECK(said.no == LEMBORAW_BAD_TIME && spare_times[0] == 0.0);
+    said = restart(4.0, 2, LEMBORAW_RUNNING, 0, LEN);
+    CHECK(said.no == LEMBORAW_OUT_OF_FUEL && record.finished && times[0] == -1.0 && spare_times[0] == -1.0);
+    said = restart(4.0, 3, LEMBORAW_RUNNING, 0, LEN);
+    CHECK(said.no == LEMBORAW_ASKS && said.extra == 40000 && said.time == 2.0);
+    CHECK(record.finished && record.ticks == 2 && places[0] == 2 && board[2] == LEMBORAW_SUCCESS);
+    said = restart(4.0, 3, LEMBORAW_RUNNING, 1, LEN);
+    CHECK(said.no == LEMBORAW_DONE && said.status == LEMBORAW_RUNNING && said.visits == 3 && said.used == 1);
+    CHECK(!record.finished && record.ticks == 3 && times[0] == 0.0 && places[0] == 1 && spare_places[0] == 2);
 
     struct lemboraw_bound_said bound = lemboraw_bound(kinds, LEN, ns, LEN, limits, LEN, 1.0);
     CHECK(bound.no == LEMBORAW_DONE && bound.kind == LEMBORAW_UNBOUNDED && bound.ticks == 0);

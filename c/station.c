@@ -1,7 +1,7 @@
 /* A sequencing station: take the broadcast, wait for the lane, scan, send the set. After 8 s it gives
  * that up and calls for hand rework, and after 3 s more it gives that up too. Times are milliseconds.
  * Here no action ever ends, which is the worst that can happen: the station finishes all the same, at
- * or before its bound.
+ * or before its bound. Then it is restarted for the next set.
  *
  *   cc c/station.c -I include -L target/staticlib -llemboraw -o station && ./station
  */
@@ -36,16 +36,20 @@ static uint8_t act(size_t action, double dt, double *leftover) {
     return LEMBORAW_RUNNING;
 }
 
-/* One tick: asks until the tree has all its answers. Without loops no tick asks more than once a node. */
-static struct lemboraw_said tick(struct lemboraw_tree *tree, double dt) {
+/* What a tick and a restart have in common. */
+typedef struct lemboraw_said lemboraw_call(
+    struct lemboraw_tree *tree, bool update, double dt, uint32_t fuel, struct lemboraw_answers answers);
+
+/* One call: asks until the tree has all its answers. Without loops no call asks more than once a node. */
+static struct lemboraw_said until_answered(lemboraw_call *call, struct lemboraw_tree *tree, double dt) {
     uint8_t statuses[NODES];
     double leftovers[NODES];
     struct lemboraw_answers answers = {statuses, leftovers, 0};
-    struct lemboraw_said said = lemboraw_tree_tick(tree, true, dt, NODES, answers);
+    struct lemboraw_said said = call(tree, true, dt, NODES, answers);
     while (said.no == LEMBORAW_ASKS && answers.len < NODES) {
         statuses[answers.len] = act(said.extra, said.time, &leftovers[answers.len]);
         answers.len++;
-        said = lemboraw_tree_tick(tree, true, dt, NODES, answers);
+        said = call(tree, true, dt, NODES, answers);
     }
     return said;
 }
@@ -59,12 +63,18 @@ int main(void) {
 
     while (!station.record.finished) {
         printf("tick %llu\n", (unsigned long long)station.record.ticks + 1);
-        struct lemboraw_said said = tick(&station, step);
+        struct lemboraw_said said = until_answered(lemboraw_tree_tick, &station, step);
         if (said.no != LEMBORAW_DONE) {
             printf("refused: %d\n", said.no);
             return 1;
         }
     }
     printf("gave up at tick %llu of %llu\n", (unsigned long long)station.record.ticks, (unsigned long long)bound.ticks);
-    return station.record.ticks > bound.ticks;
+    if (station.record.ticks > bound.ticks) return 1;
+
+    /* Until the restart has all its answers, the station stands as it ended. */
+    printf("restart: tick %llu\n", (unsigned long long)station.record.ticks + 1);
+    struct lemboraw_said said = until_answered(lemboraw_tree_restart, &station, step);
+    printf("%s\n", station.record.finished ? "finished" : "under way again");
+    return said.no != LEMBORAW_DONE;
 }

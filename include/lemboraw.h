@@ -89,7 +89,7 @@ enum lemboraw_status {
  *   9   a bad cell                                       its place     everything as it was
  *   5   update whose dt is not finite or below zero                    everything as it was
  *   6   a bad status or leftover among the answers       its index     everything as it was
- *   2   the tree is finished: reset it first                           everything as it was
+ *   2   the tree is finished: restart it                               everything as it was
  *   7   more visits than fuel                                          cells, record and board as they were;
  *                                                                      the spare holds the cells
  *   1   an Action is visited and the answers are used up action number as 7
@@ -98,9 +98,9 @@ enum lemboraw_status {
  *
  * A place is an index into the table: the smallest faulty one. Where the table ends before its tree
  * does that is the table's length; where it goes on behind its tree, the first node there; where the
- * tree has more than 256 nodes, 256. A reset says 3, 4 (cells alone) or 0. The bound says 3, 8 or 0;
- * 8 stands for a step that is not whole or not from 1 to 2^40, a limit that is not whole or above
- * 2^40, or an After without children, anywhere in the tree. */
+ * tree has more than 256 nodes, 256. A restart says the same in the same order, but never 9 or 2. The
+ * bound says 3, 8 or 0; 8 stands for a step that is not whole or not from 1 to 2^40, a limit that is not
+ * whole or above 2^40, or an After without children, anywhere in the tree. */
 enum lemboraw_no {
     LEMBORAW_DONE = 0,
     LEMBORAW_ASKS = 1,
@@ -117,10 +117,10 @@ enum lemboraw_no {
 /* The standing record of one tree. A new tree has {false, 0}. */
 struct lemboraw_record {
     bool finished;  /* the last tick ended in success or failure */
-    uint64_t ticks; /* ticks carried out; goes from its largest number to 0; a reset leaves it */
+    uint64_t ticks; /* ticks carried out; restarts too; goes from its largest number to 0 */
 };
 
-/* What a tick or a reset says. A field that the line of `no` does not name is 0. */
+/* What a tick or a restart says. A field that the line of `no` does not name is 0. */
 struct lemboraw_said {
     uint8_t no;      /* enum lemboraw_no */
     uint8_t status;  /* of 0: the root's status */
@@ -178,18 +178,30 @@ struct lemboraw_said lemboraw_tick(
     const uint8_t *statuses, size_t statuses_len,
     const double *leftovers, size_t leftovers_len);
 
-/* Makes the cells of the table's nodes fresh and the record unfinished; the tick count stays. */
-struct lemboraw_said lemboraw_reset(
+/* A restart and its first tick in one call: it ticks as from a fresh tree, finished or not.
+ *
+ * Where it does not end in 0, cells and record are as they were before it, finished included: so a
+ * question does not reset a tree that a display shows, and the restart is called again with one more
+ * answer, as a tick is. The cells at entry are not checked and may hold anything; the spare gets them
+ * as they are on 0, 7 and 1. On 0 the tick count goes up by one, as in any tick. */
+struct lemboraw_said lemboraw_restart(
     struct lemboraw_record *record,
     const uint8_t *kinds, size_t kinds_len,
     const uint16_t *ns, size_t ns_len,
     const double *limits, size_t limits_len,
     double *times, size_t times_len,
     uint16_t *places, size_t places_len,
-    uint8_t *marks, size_t marks_len);
+    uint8_t *marks, size_t marks_len,
+    double *spare_times, size_t spare_times_len,
+    uint16_t *spare_places, size_t spare_places_len,
+    uint8_t *spare_marks, size_t spare_marks_len,
+    uint8_t *board, size_t board_len,
+    bool update, double dt, uint32_t fuel,
+    const uint8_t *statuses, size_t statuses_len,
+    const double *leftovers, size_t leftovers_len);
 
-/* The most ticks that a fresh tree takes to finish, whatever statuses its actions answer. It holds if,
- * from the fresh tree on,
+/* The most ticks that a fresh tree takes to finish, whatever statuses its actions answer; a restart that
+ * says 0 is the first of them. It holds if, from the fresh tree on,
  *
  * - each tick carried out (answer 0) is an update by a whole dt from `step` to 2^40,
  * - each answer that it used has a whole leftover up to 2^40,
@@ -288,12 +300,16 @@ static inline struct lemboraw_said lemboraw_tree_tick(
         answers.statuses, answers.len, answers.leftovers, answers.len);
 }
 
-/* lemboraw_reset of a tree. */
-static inline struct lemboraw_said lemboraw_tree_reset(struct lemboraw_tree *tree) {
+/* lemboraw_restart of a tree. */
+static inline struct lemboraw_said lemboraw_tree_restart(
+    struct lemboraw_tree *tree, bool update, double dt, uint32_t fuel, struct lemboraw_answers answers) {
     const size_t len = tree->len, room = len < LEMBORAW_MOST_NODES ? len : LEMBORAW_MOST_NODES;
-    return lemboraw_reset(
+    return lemboraw_restart(
         &tree->record, tree->kinds, len, tree->ns, len, tree->limits, len,
-        tree->times, room, tree->places, room, tree->marks, room);
+        tree->times, room, tree->places, room, tree->marks, room,
+        tree->spare_times, room, tree->spare_places, room, tree->spare_marks, room,
+        tree->board, room, update, dt, fuel,
+        answers.statuses, answers.len, answers.leftovers, answers.len);
 }
 
 /* lemboraw_bound of a tree. */

@@ -2,7 +2,7 @@
 """A file of words or frames and what the programs answer it, told tick by tick with actions by name.
 
   explain.py ask FILE               the file's frames, for the bench program
-  explain.py ask FILE ANSWERS       the same with each tick asked as a host asks: first without answers, then with one more
+  explain.py ask FILE ANSWERS       the same with each call asked as a host asks: first without answers, then with one more
   explain.py bound FILE             the tree and one tick of its shortest step, for the program give_up
   explain.py tell FILE ANSWERS BOUND      the tree, its bound and each tick beside its answer
 
@@ -19,23 +19,23 @@ def answers_of(path):
     """The numbers of each answer."""
     with open(path, newline="\n", encoding="latin-1") as lines:
         read = [f.numbered(i, f.read, line) for i, line in enumerate(lines, 1)]
-    if any(kind not in (0x82, 0x83) for kind, _ in read):
+    if any(kind not in f.SAID for kind, _ in read):
         raise f.Wrong("the bench program calls an input line malformed")
     return [numbers for _, numbers in read]
 
 
 def given(numbers):
-    """The answers that a tick lends, each a status and a leftover."""
+    """The answers that a call lends, each a status and a leftover."""
     return list(zip(numbers[4::2], numbers[5::2]))
 
 
 def lending(numbers, count):
-    """The same tick with its first answers alone."""
+    """The same call with its first answers alone."""
     return numbers[:3] + [count] + numbers[4 : 4 + 2 * count]
 
 
 def questions(numbers, answer):
-    """How many of a tick's answers were taken: before that many it asks, and nothing changes."""
+    """How many of a call's answers were taken: before that many it asks, and nothing changes."""
     no, used = answer[0], answer[4]
     return used if no == 0 else len(given(numbers)) if no == 1 else 0
 
@@ -47,7 +47,7 @@ def nodes(file):
 def ask(file, first=None):
     lines = nodes(file)
     for i, (_, kind, numbers) in enumerate(file.script):
-        if kind == 0x02 and first:
+        if first:
             lines += [f.write(kind, lending(numbers, count)) for count in range(questions(numbers, first[i]))]
         lines.append(f.write(kind, numbers))
     return "".join(lines)
@@ -72,7 +72,7 @@ def left(leftover):
 
 ENDS = {1: "The tree goes on", 2: "The tree ends in Success", 3: "The tree ends in Failure"}
 REFUSED = {
-    2: "the tree has finished, and a reset comes first",
+    2: "the tree has finished, and only a restart ticks it",
     3: "the table is no tree, at place %d",
     5: "the time is not finite, or below zero",
     6: "answer %d has no such status, or its leftover is not finite or below zero",
@@ -81,7 +81,7 @@ REFUSED = {
 
 
 def result(file, answer):
-    """What a tick came to."""
+    """What a call came to."""
     no, status, time, _, _, extra = answer
     if no == 0:
         return ENDS[status] + left(time) + "."
@@ -112,11 +112,14 @@ class Teller:
     def fresh(self):
         self.ticks, self.outside = 0, None
 
-    def tick(self, numbers, asked, answer):
-        heard = []
+    def call(self, kind, numbers, asked, answer):
+        heard, carried = [], answer[0] == 0
+        if f.CALLS[kind] == "restart":
+            yield "  restart"
+            if carried:
+                self.fresh()
         for (_, _, time, _, _, extra), (status, leftover) in zip(asked, given(numbers)):
             heard.append("%s (%s): %s%s." % (self.file.action(extra), ms(time), f.status_words(status), left(leftover)))
-        carried = answer[0] == 0
         self.ticks += carried
         if carried and not self.outside:
             self.outside = outside(numbers, self.step)
@@ -129,10 +132,6 @@ class Teller:
             yield "  ======== finished at tick %d; %s" % (self.ticks, against)
         elif promised is not None and self.ticks >= promised:
             raise f.Wrong("tick %d is past the bound, %d, and the tree goes on" % (self.ticks, promised))
-
-    def reset(self, answer):
-        self.fresh()
-        yield "  reset" + (": refused with %d" % answer[0] if answer[0] else "")
 
 
 def promise(bound, step):
@@ -173,10 +172,10 @@ def tell(file, answers, said):
             yield ""
             yield from textwrap.wrap(heading, 100)
         asked = []
-        while kind == 0x02 and answers[i][0] == 1 and len(asked) < len(given(numbers)):
+        while answers[i][0] == 1 and len(asked) < len(given(numbers)):
             asked.append(answers[i])
             i += 1
-        yield from teller.tick(numbers, asked, answers[i]) if kind == 0x02 else teller.reset(answers[i])
+        yield from teller.call(kind, numbers, asked, answers[i])
         i += 1
 
 

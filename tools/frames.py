@@ -10,11 +10,10 @@ Words:
                                          number of children, which is counted by the indentation where it is left out
   tick update TIME fuel N                a tick; its answers follow: answers Success TIME Running TIME ..
   tick other fuel N                      statuses by name, else status:09; minus-zero after other keeps that dt
-  reset
+  restart update TIME fuel N, restart other fuel N      a restart, with answers as a tick has them
   ticked STATUS leftover TIME visits N used N, asked ACTION dt TIME, finished, bad-table at PLACE, too-short, bad-time,
-  bad-answer at INDEX, out-of-fuel, bad-cell at PLACE      what a tick answers
+  bad-answer at INDEX, out-of-fuel, bad-cell at PLACE      what a tick answers; after the word of-restart, what a restart does
   answer NO status STATUS time TIME visits N used N extra N      the same of any other fields
-  was-reset, was-reset refused NO        what a reset answers
   malformed line N
 
 TIME is a decimal number that an f64 holds exactly, as 0.5; or ~ and a number, as ~0.1, for the nearest f64; or the 16 digits
@@ -34,6 +33,8 @@ KINDS = (
 ACTION = KINDS.index("Action")
 STATUSES = {1: "Running", 2: "Success", 3: "Failure"}
 ANSWERS = {2: "finished", 3: "bad-table", 4: "too-short", 5: "bad-time", 6: "bad-answer", 7: "out-of-fuel", 9: "bad-cell"}
+CALLS = {0x02: "tick", 0x03: "restart"}  # a restart has the fields of a tick, and its answer those of a tick's
+SAID = {0x82: "", 0x83: "of-restart "}
 PLACED = {3: "place", 6: "index", 9: "place"}  # answers whose extra field says where
 NODES, MOST = 257, 1024
 MINUS_ZERO = 1 << 63
@@ -50,18 +51,13 @@ def short(word):
 
 # ---- frames as numbers
 
-SHAPES = {
-    0x01: (("kind", 2), ("n", 4), ("limit", 16)),
-    0x02: (("event", 2), ("dt", 16), ("fuel", 8), ("count", 4)),
-    0x03: (),
-    0x82: (("no", 2), ("status", 2), ("time", 16), ("visits", 8), ("used", 4), ("extra", 4)),
-    0x83: (("no", 2),),
-    0x8F: (("line", 4),),
-}
+CALL = (("event", 2), ("dt", 16), ("fuel", 8), ("count", 4))
+ANSWER = (("no", 2), ("status", 2), ("time", 16), ("visits", 8), ("used", 4), ("extra", 4))
+SHAPES = {0x01: (("kind", 2), ("n", 4), ("limit", 16)), 0x02: CALL, 0x03: CALL, 0x82: ANSWER, 0x83: ANSWER, 0x8F: (("line", 4),)}
 
 
 def shape(kind, count):
-    """The fields of a frame, each with its name and width; a tick has count answers."""
+    """The fields of a frame, each with its name and width; a call has count answers."""
     answers = (((("status of answer %d" % i), 2), (("leftover of answer %d" % i), 16)) for i in range(1, count + 1))
     return SHAPES[kind] + tuple(field for pair in answers for field in pair)
 
@@ -73,8 +69,8 @@ def read(line):
     first, *rest = line[:-1].split(" ")
     kind = int(first, 16) if re.fullmatch("[0-9a-f]{2}", first) else None
     if kind not in SHAPES:
-        raise Wrong("%s begins no frame; 01 (node), 02 (tick), 03 (reset), 82, 83 and 8f do" % short(first))
-    count = min((len(rest) - 4) // 2, MOST) if kind == 0x02 and len(rest) > 4 else 0
+        raise Wrong("%s begins no frame; 01 (node), 02 (tick), 03 (restart), 82, 83 and 8f do" % short(first))
+    count = min((len(rest) - 4) // 2, MOST) if kind in CALLS and len(rest) > 4 else 0
     fields = shape(kind, count)
     numbers = []
     for (name, width), field in zip(fields, rest):
@@ -85,7 +81,7 @@ def read(line):
         numbers.append(int(field, 16))
     if len(rest) < len(fields):
         raise Wrong("%s is missing" % fields[len(rest)][0])
-    if kind == 0x02:
+    if kind in CALLS:
         event, dt, _, told = numbers[:4]
         if told > MOST:
             raise Wrong("count: %d, and %d is the most" % (told, MOST))
@@ -103,7 +99,7 @@ def read(line):
 def write(kind, numbers):
     """The line of a frame."""
     line = "%02x" % kind
-    for (name, width), number in zip(shape(kind, len(numbers[4:]) // 2 if kind == 0x02 else 0), numbers):
+    for (name, width), number in zip(shape(kind, len(numbers[4:]) // 2 if kind in CALLS else 0), numbers):
         if not 0 <= number < 16**width:
             raise Wrong("%s: %d is above %d, the largest" % (name, number, 16**width - 1))
         line += " %0*x" % (width, number)
@@ -163,17 +159,18 @@ def words(kind, numbers):
     if kind == 0x01:
         node, n, limit = numbers
         return "node " + kind_words(node) + ("" if n is None else " %d" % n) + (" limit %s" % time_words(limit) if limit else "")
-    if kind == 0x02:
+    if kind in CALLS:
         event, dt, fuel, count = numbers[:4]
-        text = ("tick update %s" % time_words(dt) if event else "tick other" + (" minus-zero" if dt else "")) + " fuel %d" % fuel
+        text = CALLS[kind] + (" update %s" % time_words(dt) if event else " other" + (" minus-zero" if dt else "")) + " fuel %d" % fuel
         answers = zip(numbers[4::2], numbers[5::2])
         return text + (" answers" if count else "") + "".join(" %s %s" % (status_words(s), time_words(t)) for s, t in answers)
-    if kind == 0x03:
-        return "reset"
-    if kind == 0x83:
-        return "was-reset" + (" refused %d" % numbers[0] if numbers[0] else "")
     if kind == 0x8F:
         return "malformed line %d" % numbers[0]
+    return SAID[kind] + answer_words(numbers)
+
+
+def answer_words(numbers):
+    """The words of what a call answers."""
     number, status, time, visits, used, extra = numbers
     if number == 0 and status in STATUSES and not extra:
         return "ticked %s leftover %s visits %d used %d" % (STATUSES[status], time_words(time), visits, used)
@@ -267,45 +264,49 @@ class Words:
         return [len(numbers) // 2] + numbers
 
 
-VERBS = "node, tick, reset, ticked, asked, %s, answer, was-reset and malformed" % ", ".join(ANSWERS.values())
+VERBS = "node, tick, restart, ticked, asked, %s, answer, of-restart and malformed" % ", ".join(ANSWERS.values())
 
 
 def frame(line):
     """The kind and the numbers that words say; a node's n that is left out is None."""
     w = Words(line)
     verb = w.next("a first word")
-    named = {name: number for number, name in ANSWERS.items()}
+    calls = {name: kind for kind, name in CALLS.items()}
     if verb == "node":
         kind = w.kind()
         result = 0x01, [kind, w.n(kind), w.time("limit") if w.maybe("limit") else 0]
-    elif verb == "tick":
+    elif verb in calls:
         numbers = w.event() + [w.number("fuel", "fuel")]
-        result = 0x02, numbers + (w.answers() if w.maybe("answers") else [0])
-    elif verb == "reset":
-        result = 0x03, []
-    elif verb == "was-reset":
-        result = 0x83, [w.number("refused") if w.maybe("refused") else 0]
+        result = calls[verb], numbers + (w.answers() if w.maybe("answers") else [0])
     elif verb == "malformed":
         result = 0x8F, [w.number("line", "line")]
-    elif verb == "ticked":
-        status = w.status()
-        result = 0x82, [0, status, w.time("leftover", "leftover"), w.number("visits", "visits"), w.number("used", "used"), 0]
-    elif verb == "asked":
-        action = w.number("the action's number")
-        result = 0x82, [1, 0, w.time("dt", "dt"), 0, 0, action]
-    elif verb in named:
-        number = named[verb]
-        result = 0x82, [number, 0, 0, 0, 0, w.number(PLACED[number], "at") if number in PLACED else 0]
-    elif verb == "answer":
-        number = w.number("no")
-        w.expect("status")
-        status = w.status()
-        result = 0x82, [number, status, w.time("time", "time"), w.number("visits", "visits"), w.number("used", "used"), w.number("extra", "extra")]
+    elif verb == "of-restart":
+        result = 0x83, answer(w, w.next("an answer"))
     else:
-        raise Wrong("%s begins no line of words; %s do" % (short(verb), VERBS))
+        result = 0x82, answer(w, verb)
     if w.left:
         raise Wrong("%s is one word too many" % short(w.left[0]))
     return result
+
+
+def answer(w, verb):
+    """The numbers of what a call answers, from the words behind its first."""
+    named = {name: number for number, name in ANSWERS.items()}
+    if verb == "ticked":
+        status = w.status()
+        return [0, status, w.time("leftover", "leftover"), w.number("visits", "visits"), w.number("used", "used"), 0]
+    if verb == "asked":
+        action = w.number("the action's number")
+        return [1, 0, w.time("dt", "dt"), 0, 0, action]
+    if verb in named:
+        number = named[verb]
+        return [number, 0, 0, 0, 0, w.number(PLACED[number], "at") if number in PLACED else 0]
+    if verb == "answer":
+        number = w.number("no")
+        w.expect("status")
+        status = w.status()
+        return [number, status, w.time("time", "time"), w.number("visits", "visits"), w.number("used", "used"), w.number("extra", "extra")]
+    raise Wrong("%s begins no line of words; %s do" % (short(verb), VERBS))
 
 
 # ---- whole files

@@ -41,7 +41,7 @@ static int deep(uint8_t kind) {
     struct lemboraw_tree tree = tree_of(len);
     int done = lemboraw_tree_tick(&tree, true, 1.0, LEMBORAW_MOST_NODES, none).no == LEMBORAW_DONE;
     done = done && lemboraw_tree_bound(&tree, 1.0).no == LEMBORAW_DONE;
-    return done && lemboraw_tree_reset(&tree).no == LEMBORAW_DONE;
+    return done && lemboraw_tree_restart(&tree, true, 1.0, LEMBORAW_MOST_NODES, none).no == LEMBORAW_DONE;
 }
 
 static void *run(void *unused) {

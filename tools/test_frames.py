@@ -34,12 +34,12 @@ def some_frame(r):
     byte = lambda: r.choice([r.randrange(4), r.randrange(18), r.randrange(256)])
     if kind == 0x01:
         return kind, [byte(), r.choice([0, 1, 2, r.randrange(65536)]), some_time(r)]
-    if kind == 0x02:
+    if kind in f.CALLS:
         count = r.choice([0, 0, 1, 2, r.randrange(20)])
         event = r.randrange(2)
         answers = [x for _ in range(count) for x in (byte(), some_time(r))]
         return kind, [event, some_time(r) if event else 0, r.getrandbits(32), count] + answers
-    if kind == 0x82:
+    if kind in f.SAID:
         if r.randrange(2):
             return kind, [byte(), byte(), some_time(r), r.getrandbits(32), r.randrange(65536), r.randrange(65536)]
         return kind, [r.randrange(10), r.choice([0, 0, 1, 2, 3]), r.choice([0, some_time(r)]), r.choice([0, 5]), r.choice([0, 3]), r.choice([0, 7])]
@@ -90,11 +90,14 @@ class RoundTrips(unittest.TestCase):
             ("tick other minus-zero fuel 5", "02 00 8000000000000000 00000005 0000\n"),
             ("tick other fuel 5 answers Success 0 Running 7", "02 00 0000000000000000 00000005 0002 02 0000000000000000 01 401c000000000000\n"),
             ("tick update 0x7ff8000000000000 fuel 1", "02 01 7ff8000000000000 00000001 0000\n"),
-            ("reset", "03\n"),
+            ("restart update 1 fuel 16 answers Failure 0", "03 01 3ff0000000000000 00000010 0001 03 0000000000000000\n"),
+            ("restart other fuel 5", "03 00 0000000000000000 00000005 0000\n"),
             ("ticked Running leftover 0 visits 2 used 0", "82 00 01 0000000000000000 00000002 0000 0000\n"),
             ("bad-table at 256", "82 03 00 0000000000000000 00000000 0000 0100\n"),
             ("asked 17 dt 1.5", "82 01 00 3ff8000000000000 00000000 0000 0011\n"),
-            ("was-reset", "83 00\n"),
+            ("of-restart ticked Success leftover 1 visits 3 used 1", "83 00 02 3ff0000000000000 00000003 0001 0000\n"),
+            ("of-restart asked 17 dt 1.5", "83 01 00 3ff8000000000000 00000000 0000 0011\n"),
+            ("of-restart out-of-fuel", "83 07 00 0000000000000000 00000000 0000 0000\n"),
             ("malformed line 258", "8f 0102\n"),
         ]:
             self.assertEqual(f.write(*f.frame(said)), line)
@@ -110,10 +113,11 @@ class RoundTrips(unittest.TestCase):
 
     def test_children_are_counted(self):
         lines = ["# the station", "node Select        # once", "  node Timeout limit 8", "", "      node Sequence", "        node Action 7", "  # between",
-                 "        node Wait limit 2", "  node Wait", "tick update 1 fuel 9 # the first", "reset"]
+                 "        node Wait limit 2", "  node Wait", "tick update 1 fuel 9 # the first", "restart other fuel 9"]
         self.assertEqual(list(f.to_frames(lines)), [
             "01 06 0002 0000000000000000\n", "01 05 0001 4020000000000000\n", "01 08 0002 0000000000000000\n", "01 02 0007 0000000000000000\n",
-            "01 00 0000 4000000000000000\n", "01 00 0000 0000000000000000\n", "02 01 3ff0000000000000 00000009 0000\n", "03\n"])
+            "01 00 0000 4000000000000000\n", "01 00 0000 0000000000000000\n", "02 01 3ff0000000000000 00000009 0000\n",
+            "03 00 0000000000000000 00000009 0000\n"])
         # a number that is given stands, whatever the indentation is
         self.assertEqual(list(f.to_frames(["node Sequence 3", "\tnode Wait 0"])), ["01 08 0003 0000000000000000\n", "01 00 0000 0000000000000000\n"])
         # a table that is none keeps its numbers in words
@@ -142,13 +146,16 @@ class RoundTrips(unittest.TestCase):
             ("tick often fuel 2", "event: update and a time is wanted, or other, and not 'often'"),
             ("node Wait 65536", "n: 65536 is above 65535"),
             ("node Action", "n (the action's number) is missing"),
-            ("reset now", "'now' is one word too many"),
+            ("restart", "event is missing"),
+            ("restart other fuel 1 now", "'now' is one word too many"),
+            ("of-restart", "an answer is missing"),
+            ("of-restart tick", "'tick' begins no line of words"),
             ("asked 1", "the word 'dt' is missing"),
             ("bad-table at", "place is missing"),
             ("bad-answer at x", "index: 'x' is no number"),
             ("ticked Running leftover 0 visits x used 0", "visits: 'x' is no number"),
             ("answer 300 status Running time 0 visits 0 used 0 extra 0", "no: 300 is above 255"),
-            ("nothing", "'nothing' begins no line of words; node, tick, reset"),
+            ("nothing", "'nothing' begins no line of words; node, tick, restart"),
             ("node Wait limit " + digits, "limit: '99999999999999999999'.. of 5000 characters is larger than every f64"),
             ("tick update 0." + digits + " fuel 1", "dt: '0.999999999999999999'.. of 5002 characters is no f64; the nearest is 1"),
             ("tick update 1 fuel " + digits, "fuel: '99999999999999999999'.. of 5000 characters is too large"),
@@ -171,8 +178,9 @@ class RoundTrips(unittest.TestCase):
             got = subprocess.run([sys.executable, os.path.join(HERE, "frames.py"), *arguments], input=stdin, capture_output=True, text=True)
             return got.returncode, got.stdout, got.stderr
 
-        self.assertEqual(run("reset\n", "frames"), (0, "03\n", ""))
-        self.assertEqual(run("reset\nreste\n", "frames")[:2], (1, "03\n"))
+        line = "8f 0003\n"
+        self.assertEqual(run("malformed line 3\n", "frames"), (0, line, ""))
+        self.assertEqual(run("malformed line 3\nmalform\n", "frames")[:2], (1, line))
         self.assertTrue(run("", "word")[2].startswith("Turns the bench program's frames"))
         for stdin, argument in [("tick update 1 fuel " + "9" * 5000 + "\n", "frames"), ("01 " + "9" * 5000 + "\n", "words")]:
             code, _, said = run(stdin, argument)
@@ -182,7 +190,8 @@ class RoundTrips(unittest.TestCase):
     def test_refused_frames(self):
         for line, told in [
             ("", "LF is missing"), ("03", "LF is missing"), ("\n", "'' begins no frame"), (" 03\n", "'' begins no frame"), ("03\r\n", "'03\\r' begins no frame"),
-            ("04\n", "'04' begins no frame; 01 (node), 02 (tick), 03 (reset)"), ("0x3\n", "'0x3' begins no frame"), ("03 \n", "'' is one field too many"),
+            ("04\n", "'04' begins no frame; 01 (node), 02 (tick), 03 (restart)"), ("0x3\n", "'0x3' begins no frame"),
+            ("03\n", "event is missing"), ("83 00\n", "status is missing"), ("8f 0003 \n", "'' is one field too many"),
             ("01 0A 0000 0000000000000000\n", "kind: '0A' is not made of the digits"), ("01  08 0002 0000000000000000\n", "kind: '' is not made of the digits"),
             ("01 08 002 0000000000000000\n", "n: 3 digits, and 4 are wanted"), ("01 08 0002\n", "limit is missing"), ("8f 003\n", "line: 3 digits"),
             ("02 02 0000000000000000 00000001 0000\n", "event: 00 (other) and 01 (update)"), ("02 00 8000000000000001 00000001 0000\n", "dt: zero"),

@@ -4,7 +4,7 @@
   trees.py text FILE       the tree, a line for each node
   trees.py dot FILE        the same for Graphviz
 
-The step is the shortest update among the file's ticks; what follows # at the end of a node's line is its name. The bounds are
+The step is the shortest update among the file's ticks and restarts; what follows # at the end of a node's line is its name. The bounds are
 worked out here, by the table of docs/TREES.md; tools/test_trees.py holds them to those of the proved library.
 """
 import re
@@ -21,7 +21,7 @@ DEEPEST, LARGEST = 16, 256
 
 
 class File:
-    """What a file says: the table, the names of its nodes, and the ticks and resets, each with the comment above it."""
+    """What a file says: the table, the names of its nodes, and the ticks and restarts, each with the comment above it."""
 
     def __init__(self, path):
         with open(path, newline="\n", encoding="utf-8", errors="replace") as text:
@@ -44,10 +44,10 @@ class File:
                 if name:
                     self.names[len(self.nodes)] = name.group(1).strip()
                 self.nodes.append(numbers)
-            elif kind in (0x02, 0x03):
+            elif kind in f.CALLS:
                 self.script.append((heading, kind, numbers))
             else:
-                raise f.Wrong("frame %d: nodes come first, then ticks and resets, and nothing else" % i)
+                raise f.Wrong("frame %d: nodes come first, then ticks and restarts, and nothing else" % i)
 
     def action(self, number):
         """An action by its name, where a node has one."""
@@ -58,7 +58,7 @@ class File:
 
     def step(self):
         """The shortest whole update that passes time; 0 where there is none."""
-        return min((whole(numbers[1]) for _, kind, numbers in self.script if kind == 0x02 and whole(numbers[1])), default=0)
+        return min((whole(numbers[1]) for _, _, numbers in self.script if whole(numbers[1])), default=0)
 
 
 def cleaned(bits):

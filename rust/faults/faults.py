@@ -50,6 +50,12 @@ FAULTS = [
         "cleaned(numbers[p])",
         "numbers[p]",
     ),
+    (
+        "a restart goes on from the times as they stand",
+        "load/src/lib.rt",
+        "        times[p] = 0.0;\n",
+        "",
+    ),
 ]
 
 HERE = os.path.dirname(os.path.abspath(__file__))

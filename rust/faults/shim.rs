@@ -56,7 +56,7 @@ pub unsafe extern "C" fn lemboraw_tick(
 }
 
 #[no_mangle]
-pub unsafe extern "C" fn lemboraw_reset(
+pub unsafe extern "C" fn lemboraw_restart(
     record: &mut Record,
     kinds: *const u8,
     kinds_len: usize,
@@ -70,8 +70,23 @@ pub unsafe extern "C" fn lemboraw_reset(
     places_len: usize,
     marks: *mut u8,
     marks_len: usize,
+    spare_times: *mut f64,
+    spare_times_len: usize,
+    spare_places: *mut u16,
+    spare_places_len: usize,
+    spare_marks: *mut u8,
+    spare_marks_len: usize,
+    board: *mut u8,
+    board_len: usize,
+    update: bool,
+    dt: f64,
+    fuel: u32,
+    statuses: *const u8,
+    statuses_len: usize,
+    leftovers: *const f64,
+    leftovers_len: usize,
 ) -> Said {
-    lemboraw::lemboraw_reset(
+    lemboraw::lemboraw_restart(
         record,
         lent(kinds, kinds_len),
         lent(ns, ns_len),
@@ -79,6 +94,15 @@ pub unsafe extern "C" fn lemboraw_reset(
         lent_mut(times, times_len),
         lent_mut(places, places_len),
         lent_mut(marks, marks_len),
+        lent_mut(spare_times, spare_times_len),
+        lent_mut(spare_places, spare_places_len),
+        lent_mut(spare_marks, spare_marks_len),
+        lent_mut(board, board_len),
+        update,
+        dt,
+        fuel,
+        lent(statuses, statuses_len),
+        lent(leftovers, leftovers_len),
     )
 }
 

@@ -10,9 +10,10 @@ use lib.Dec.{ltb}
 use lib.Ieee.{Float, binary64, ofBits}
 use lib.ListN.{length, take}
 use lib.Seq.{length-take-le}
+use Rattle.frames.specs.declared.Call.{Call}
 use Rattle.frames.specs.declared.Event.{Event}
 use Rattle.frames.specs.declared.Frame.{Frame}
-use Rattle.frames.specs.declared.Frame.the-variants.{Node, Tick, Reset, Said, WasReset, Malformed}
+use Rattle.frames.specs.declared.Frame.the-variants.{Node, Asked, Said, Malformed}
 use Rattle.frames.specs.declared.Reading.{Reading}
 use Rattle.frames.specs.declared.order.Input.{Input}
 use Rattle.frames.specs.declared.order.Input.the-variants as inputs
@@ -22,13 +23,12 @@ use Rattle.frames.specs.Finds.{read-found, read-answers}
 use Rattle.frames.specs.Order.{admitted}
 use Rattle.frames.specs.Times.{timed}
 use Rattle.rules.specs.declared.answer.Answer.{Answer}
-use Rattle.rules.specs.declared.answer.ResetAnswer.{ResetAnswer}
 use Rattle.rules.specs.declared.answer.Record.{Record}
-use Rattle.rules.specs.Call.{Run, resetLeft}
+use Rattle.rules.specs.Call.{Run}
 use Rattle.bench_lib.specs.declared.step.Held.{Held}
 use Rattle.bench_lib.specs.declared.step.Done.{Done}
-use Rattle.bench_lib.specs.Said.{saidOf, wasResetOf}
-use Rattle.bench_lib.specs.Bench.{Line, Rows, times, ticked, wasReset, withTree, does, step, printed}
+use Rattle.bench_lib.specs.Said.{saidOf}
+use Rattle.bench_lib.specs.Bench.{Line, Rows, times, served, withTree, does, step, printed}
 use Rattle.bench_lib.specs.Held.{stateOf, Long, Keeps, Tells, Stops, Leaves, Steps}
 
 -- ---- what may come
@@ -40,30 +40,26 @@ kept false kind n limit kind′ n′ limit′ p = absurd (let z : _≡_ {A = ℕ
 pub node-room : (nodes : ℕ) (begun : Bool) (r : Reading) (kind n limit : ℕ) → admitted nodes begun r ≡ inputs.Node kind n limit → nodes < 257
 node-room nodes true (Reading.Is (Node a b c)) kind n limit p = absurd (let z : _≡_ {A = ℕ} 0 1 = cc in omega arith)
 node-room nodes false (Reading.Is (Node a b c)) kind n limit p = ltb-true nodes 257 (kept (ltb nodes 257) a b c kind n limit p)
-node-room nodes begun (Reading.Is (Tick e f k)) kind n limit p = absurd (let z : _≡_ {A = ℕ} 0 1 = cc in omega arith)
-node-room nodes begun (Reading.Is Reset) kind n limit p = absurd (let z : _≡_ {A = ℕ} 0 1 = cc in omega arith)
-node-room nodes begun (Reading.Is (Said a b c d e f)) kind n limit p = absurd (let z : _≡_ {A = ℕ} 0 1 = cc in omega arith)
-node-room nodes begun (Reading.Is (WasReset a)) kind n limit p = absurd (let z : _≡_ {A = ℕ} 0 1 = cc in omega arith)
+node-room nodes begun (Reading.Is (Asked o e f k)) kind n limit p = absurd (let z : _≡_ {A = ℕ} 0 1 = cc in omega arith)
+node-room nodes begun (Reading.Is (Said o a b c d e f)) kind n limit p = absurd (let z : _≡_ {A = ℕ} 0 1 = cc in omega arith)
 node-room nodes begun (Reading.Is (Malformed a)) kind n limit p = absurd (let z : _≡_ {A = ℕ} 0 1 = cc in omega arith)
 node-room nodes begun Reading.NoFrame kind n limit p = absurd (let z : _≡_ {A = ℕ} 0 1 = cc in omega arith)
 node-room nodes begun Reading.TooShort kind n limit p = absurd (let z : _≡_ {A = ℕ} 0 1 = cc in omega arith)
 
--- a tick that is admitted was read
-never-tick : (b : Bool) (kind n limit : ℕ) (ev : Event) (fuel count : ℕ) → cond b (inputs.Node kind n limit) inputs.Malformed ≡ inputs.Tick ev fuel count → ⊥
-never-tick true kind n limit ev fuel count p = let z : _≡_ {A = ℕ} 0 1 = cc in omega arith
-never-tick false kind n limit ev fuel count p = let z : _≡_ {A = ℕ} 0 1 = cc in omega arith
+-- a call that is admitted was read
+never-call : (b : Bool) (kind n limit : ℕ) (call : Call) (ev : Event) (fuel count : ℕ) → cond b (inputs.Node kind n limit) inputs.Malformed ≡ inputs.Asked call ev fuel count → ⊥
+never-call true kind n limit call ev fuel count p = let z : _≡_ {A = ℕ} 0 1 = cc in omega arith
+never-call false kind n limit call ev fuel count p = let z : _≡_ {A = ℕ} 0 1 = cc in omega arith
 
-pub tick-frame : (nodes : ℕ) (begun : Bool) (r : Reading) (ev : Event) (fuel count : ℕ) → admitted nodes begun r ≡ inputs.Tick ev fuel count
-    → r ≡ Reading.Is (Tick ev fuel count)
-tick-frame nodes true (Reading.Is (Node a b c)) ev fuel count p = absurd (let z : _≡_ {A = ℕ} 0 1 = cc in omega arith)
-tick-frame nodes false (Reading.Is (Node a b c)) ev fuel count p = absurd (never-tick (ltb nodes 257) a b c ev fuel count p)
-tick-frame nodes begun (Reading.Is (Tick e f k)) ev fuel count p = cc
-tick-frame nodes begun (Reading.Is Reset) ev fuel count p = absurd (let z : _≡_ {A = ℕ} 0 1 = cc in omega arith)
-tick-frame nodes begun (Reading.Is (Said a b c d e f)) ev fuel count p = absurd (let z : _≡_ {A = ℕ} 0 1 = cc in omega arith)
-tick-frame nodes begun (Reading.Is (WasReset a)) ev fuel count p = absurd (let z : _≡_ {A = ℕ} 0 1 = cc in omega arith)
-tick-frame nodes begun (Reading.Is (Malformed a)) ev fuel count p = absurd (let z : _≡_ {A = ℕ} 0 1 = cc in omega arith)
-tick-frame nodes begun Reading.NoFrame ev fuel count p = absurd (let z : _≡_ {A = ℕ} 0 1 = cc in omega arith)
-tick-frame nodes begun Reading.TooShort ev fuel count p = absurd (let z : _≡_ {A = ℕ} 0 1 = cc in omega arith)
+pub call-frame : (nodes : ℕ) (begun : Bool) (r : Reading) (call : Call) (ev : Event) (fuel count : ℕ) → admitted nodes begun r ≡ inputs.Asked call ev fuel count
+    → r ≡ Reading.Is (Asked call ev fuel count)
+call-frame nodes true (Reading.Is (Node a b c)) call ev fuel count p = absurd (let z : _≡_ {A = ℕ} 0 1 = cc in omega arith)
+call-frame nodes false (Reading.Is (Node a b c)) call ev fuel count p = absurd (never-call (ltb nodes 257) a b c call ev fuel count p)
+call-frame nodes begun (Reading.Is (Asked o e f k)) call ev fuel count p = cc
+call-frame nodes begun (Reading.Is (Said o a b c d e f)) call ev fuel count p = absurd (let z : _≡_ {A = ℕ} 0 1 = cc in omega arith)
+call-frame nodes begun (Reading.Is (Malformed a)) call ev fuel count p = absurd (let z : _≡_ {A = ℕ} 0 1 = cc in omega arith)
+call-frame nodes begun Reading.NoFrame call ev fuel count p = absurd (let z : _≡_ {A = ℕ} 0 1 = cc in omega arith)
+call-frame nodes begun Reading.TooShort call ev fuel count p = absurd (let z : _≡_ {A = ℕ} 0 1 = cc in omega arith)
 
 -- times made of patterns
 pub timed-times : (n : ℕ) (bits : List ℕ) (ts : List Float) → n ≤ length bits → n ≤ length ts → take n (timed n bits ts) ≡ times (take n bits)
@@ -124,38 +120,27 @@ module _ {h : Held} {t : Rows} {l : Line} {ss ls : List ℕ} {i : Input} (m : Ca
         few = kept .few;
       }
 
-  module _ (e : Event) (fuel count : ℕ) (is : i ≡ inputs.Tick e fuel count) where
-    read : Good (Tick e fuel count) ss ls × (statusesIn l ≡ take count ss) × (leftoversIn l ≡ take count ls)
-    read = m .answers (Tick e fuel count) (tick-frame (h .nodes) (h .begun) (found l) e fuel count (sym (m .asked) ∙ is))
+  module _ (call : Call) (e : Event) (fuel count : ℕ) (is : i ≡ inputs.Asked call e fuel count) where
+    read : Good (Asked call e fuel count) ss ls × (statusesIn l ≡ take count ss) × (leftoversIn l ≡ take count ls)
+    read = m .answers (Asked call e fuel count) (call-frame (h .nodes) (h .begun) (found l) call e fuel count (sym (m .asked) ∙ is))
 
-    pub tick-few : (count ≤ 1024) × (count ≤ length ss)
-    tick-few = (read .0 .few, read .0 .statuses)
+    pub call-few : (count ≤ 1024) × (count ≤ length ss)
+    call-few = (read .0 .few, read .0 .statuses)
 
-    pub tick-step : (c c′ : Run) (xs xs′ : List Float) (answer : Answer) (after : Record) (f : Frame) (d : Done) (room room′ : List ℕ)
+    pub call-step : (c c′ : Run) (xs xs′ : List Float) (answer : Answer) (after : Record) (f : Frame) (d : Done) (room room′ : List ℕ)
         → 1024 ≤ length xs
         → xs′ ≡ timed count ls xs
-        → Leaves (ticked (stateOf h t c) e fuel (take count ss) (take count xs′)) answer after c′
-        → f ≡ saidOf answer
+        → Leaves (served (stateOf h t c) call e fuel (take count ss) (take count xs′)) answer after c′
+        → f ≡ saidOf call answer
         → Tells h after f room d room′
         → Steps (stateOf h t c) l room d t c′ room′
-    tick-step c c′ xs xs′ answer after f d room room′ hx ex left ef told =
+    call-step c c′ xs xs′ answer after f d room room′ hx ex left ef told =
         let s = stateOf h t c in
         let ts : take count xs′ ≡ times (leftoversIn l) =
         ap (take count) ex ∙ timed-times count ls xs (read .0 .leftovers) (omega (arith, read .0 .few)) ∙ ap times (sym (read .2)) in
-        let p : step s l ≡ does s (take count ss) (leftoversIn l) (inputs.Tick e fuel count) = rw (is, read .1) at (asks c) in
+        let p : step s l ≡ does s (take count ss) (leftoversIn l) (inputs.Asked call e fuel count) = rw (is, read .1) at (asks c) in
         let q : step s l ≡ (withTree s after c′, printed f) = p ∙ rw (← ts, left .answer-is, left .record-is, left .cells-are, ef) in
         record { state = told .state t c c′ ∙ sym (ap (λ x. x .0) q); prints = rw q (told .prints); few = rw (told .few) (m .few) }
-
-  pub reset-step : (c c′ : Run) (answer : ResetAnswer) (after : Record) (f : Frame) (d : Done) (room room′ : List ℕ)
-      → i ≡ inputs.Reset
-      → wasReset (stateOf h t c) ≡ resetLeft answer after c′
-      → f ≡ wasResetOf answer
-      → Tells h after f room d room′
-      → Steps (stateOf h t c) l room d t c′ room′
-  reset-step c c′ answer after f d room room′ is left ef told =
-      let s = stateOf h t c in
-      let q : step s l ≡ (withTree s after c′, printed f) = rw is at (asks c) ∙ rw (left, ef) in
-      record { state = told .state t c c′ ∙ sym (ap (λ x. x .0) q); prints = rw q (told .prints); few = rw (told .few) (m .few) }
 
   pub stop-step : (c : Run) (d : Done) (room room′ : List ℕ)
       → i ≡ inputs.Malformed

@@ -6,7 +6,7 @@ use native.Mathlib.Omega.{arith}
 use borrow.Author.Tests.{le-leb}
 use lib.ListN.{length}
 use Rattle.frames.specs.declared.Frame.{Frame}
-use Rattle.frames.specs.declared.Frame.the-variants.{Node, Tick, Reset, Said, WasReset, Malformed}
+use Rattle.frames.specs.declared.Frame.the-variants.{Node, Asked, Said, Malformed}
 use Rattle.frames.specs.declared.Written.{Written}
 use Rattle.frames.specs.Hex.{digits}
 use Rattle.frames.specs.Line.{Field, answersOf, fields, kindOf, line, laid, wrote}
@@ -18,10 +18,8 @@ use Rattle.bench_lib.specs.Held.{Prints}
 
 small : (f : Frame) → answersOf f ≡ 0 → sizeOf f ≤ 45
 small (Node kind n limit) e = omega arith
-small (Tick event fuel count) e = omega arith
-small Reset e = omega arith
-small (Said num status time visits used extra) e = omega arith
-small (WasReset num) e = omega arith
+small (Asked call event fuel count) e = omega arith
+small (Said call num status time visits used extra) e = omega arith
 small (Malformed number) e = omega arith
 
 module _ (f : Frame) (ss ls room : List ℕ) (none : answersOf f ≡ 0) where
@@ -31,7 +29,8 @@ module _ (f : Frame) (ss ls room : List ℕ) (none : answersOf f ≡ 0) where
   pub writes : 45 ≤ length room → wrote f ss ls room ≡ (Written.Bytes (length (printed f)), laid (printed f) room)
   writes h =
       let l : length (printed f) ≤ length room = omega (arith, length-line f [] [], small f none) in
-      rw (alike, none, le-leb 0 (min 1024 (min (length ss) (length ls))) (omega arith), le-leb (length (printed f)) (length room) l)
+      let few : answersOf f ≤ min 1024 (min (length ss) (length ls)) = omega (arith, none) in
+      rw (alike, le-leb (answersOf f) (min 1024 (min (length ss) (length ls))) few, le-leb (length (printed f)) (length room) l)
 
   module _ (long : 45 ≤ length room) (r : Written) (room′ : List ℕ) (e : _≡_ {A = Written × List ℕ} (r, room′) (wrote f ss ls room)) where
     is-written : _≡_ {A = Written × List ℕ} (r, room′) (Written.Bytes (length (printed f)), laid (printed f) room)

@@ -5,6 +5,8 @@ use Prim.Native.Nat.{ℕ, _+_, _%_}
 use lib.Dec.{eqb}
 use lib.Ieee.{Float, binary64, ofBits}
 use lib.ListN.{length, replicate}
+use Rattle.frames.specs.declared.Call.{Call}
+use Rattle.frames.specs.declared.Call.the-variants.{Tick, Restart}
 use Rattle.frames.specs.declared.Event.{Event}
 use Rattle.frames.specs.declared.Event.the-variants.{Other, Update}
 use Rattle.frames.specs.declared.Frame.{Frame}
@@ -18,8 +20,8 @@ use Rattle.rules.specs.declared.answer.Record.{Record}
 use Rattle.rules.specs.declared.event.Event as events
 use Rattle.rules.specs.declared.event.Event.the-variants as happened
 use Rattle.rules.specs.Tree.{zeroTime}
-use Rattle.rules.specs.Call.{Run, run, Left, given, tickCall, ResetLeft, resetCall}
-use Rattle.bench_lib.specs.Said.{saidOf, wasResetOf}
+use Rattle.rules.specs.Call.{Run, run, Given, Left, given, tickCall, restartCall}
+use Rattle.bench_lib.specs.Said.{saidOf}
 
 -- its bytes, with the LF
 abbrev pub Line : Type 0
@@ -35,7 +37,7 @@ pub record Rows : Type 0 where
 abbrev pub rows : List ℕ → List ℕ → List Float → Rows
 rows ks ns ls = record { kinds = ks; ns = ns; limits = ls }
 
--- with it the tree's cells and record, whether a tick or a reset came, how many lines came modulo 65536, and whether to go on
+-- with it the tree's cells and record, whether a tick or a restart came, how many lines came modulo 65536, and whether to go on
 pub record State : Type 0 where
   pub table : Rows
   pub cells' : Run
@@ -70,15 +72,16 @@ eventOf (Update dt) = happened.Update (ofBits binary64 dt)
 abbrev pub times : List ℕ → List Float
 times bits = map (ofBits binary64) bits
 
--- a tick of the tree; nothing is printed of its spare and board, so each tick is lent new ones
-unfoldable pub ticked : State → Event → ℕ → List ℕ → List Float → Left
-unfolding freshRun freshBoard
-ticked s e fuel statuses leftovers =
-    let t = s .table in
-    tickCall (given (s .record') (t .kinds) (t .ns) (t .limits) (s .cells') freshRun freshBoard (eventOf e) fuel statuses leftovers)
+abbrev pub callOf : Call → Given → Left
+callOf Tick g = tickCall g
+callOf Restart g = restartCall g
 
-unfoldable pub wasReset : State → ResetLeft
-wasReset s = let t = s .table in resetCall (t .kinds) (t .ns) (t .limits) (s .record') (s .cells')
+-- a tick or a restart of the tree; nothing is printed of its spare and board, so each call is lent new ones
+unfoldable pub served : State → Call → Event → ℕ → List ℕ → List Float → Left
+unfolding freshRun freshBoard
+served s c e fuel statuses leftovers =
+    let t = s .table in
+    callOf c (given (s .record') (t .kinds) (t .ns) (t .limits) (s .cells') freshRun freshBoard (eventOf e) fuel statuses leftovers)
 
 -- ---- one line
 -- "its line number from 1, modulo 65536", after so many lines
@@ -99,7 +102,7 @@ withNode s kind n limit = record {
   on = true;
 }
 
--- a tick or a reset leaves the tree as the call says; no node line may come from here on
+-- a tick or a restart leaves the tree as the call says; no node line may come from here on
 abbrev pub withTree : State → Record → Run → State
 withTree s r c = record {
   table = s .table;
@@ -124,17 +127,14 @@ stopped s = record {
 -- the state after an input, and what is printed for it
 abbrev pub does : State → List ℕ → List ℕ → Input → State × Line
 does s statuses leftovers (inputs.Node kind n limit) = (withNode s kind n limit, [])
-does s statuses leftovers (inputs.Tick e fuel count) =
-    let left = ticked s e fuel statuses (times leftovers) in
-    (withTree s (left .record') (left .cells'), printed (saidOf (left .answer)))
-does s statuses leftovers inputs.Reset =
-    let left = wasReset s in
-    (withTree s (left .record') (left .cells'), printed (wasResetOf (left .answer)))
+does s statuses leftovers (inputs.Asked c e fuel count) =
+    let left = served s c e fuel statuses (times leftovers) in
+    (withTree s (left .record') (left .cells'), printed (saidOf c (left .answer)))
 does s statuses leftovers inputs.Malformed = (stopped s, printed (Malformed (lineNumber (s .lines))))
 
 -- a line is the one of a frame that may come now, or malformed
 unfoldable pub step : State → Line → State × Line
-unfolding found statusesIn leftoversIn ticked wasReset
+unfolding found statusesIn leftoversIn served
 step s l = does s (statusesIn l) (leftoversIn l) (admitted (length (s .table .kinds)) (s .begun) (found l))
 
 -- ---- all lines, one after another, up to the end or the first malformed line

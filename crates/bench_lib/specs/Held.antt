@@ -38,7 +38,7 @@ pub record Rooms (statuses patterns : List ℕ) (leftovers : List Float) (room :
   pub leftovers-long : 1024 ≤ length leftovers
   pub room-long : 45 ≤ length room
 
--- what a tick leaves of the tree, and its answer
+-- what a call leaves of the tree, and its answer
 pub record Leaves (left : Left) (answer : Answer) (after : Record) (cells : Run) : Type 0 where
   pub answer-is : left .answer ≡ answer
   pub record-is : left .record' ≡ after

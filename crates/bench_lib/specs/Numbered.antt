@@ -18,8 +18,7 @@ past s (l ∷ ls) = past (step s l .0) ls
 
 one-more : (s : State) (ss ls : List ℕ) (i : Input) → does s ss ls i .0 .lines ≡ lineNumber (s .lines)
 one-more s ss ls (inputs.Node kind n limit) = refl
-one-more s ss ls (inputs.Tick e fuel count) = refl
-one-more s ss ls inputs.Reset = refl
+one-more s ss ls (inputs.Asked c e fuel count) = refl
 one-more s ss ls inputs.Malformed = refl
 
 step-counts : (s : State) (l : Line) → step s l .0 .lines ≡ lineNumber (s .lines)

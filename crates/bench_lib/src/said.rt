@@ -1,10 +1,10 @@
 // The evaluator's answers as frames.
 ghost use mathlib.Core.Path.{_≡_};
 ghost use Prim.Native.Nat.{_%_};
-ghost use Rattle.bench_lib.specs.Said.{saidOf, wasResetOf};
+ghost use Rattle.bench_lib.specs.Said.{saidOf};
+use frames::Call;
 use frames::Frame;
 use rules::Answer;
-use rules::ResetAnswer;
 
 // A count, a place or an index in its four digits.
 fn four(x: usize) -> u16
@@ -13,12 +13,13 @@ fn four(x: usize) -> u16
     (x % 65536) as u16
 }
 
-// What a tick answered, as an 82 frame.
-pub fn said(answer: Answer) -> Frame
-    ensures { λ r. ⌜ r ≡ saidOf answer ⌝ }
+// What a call answered: of a tick an 82 frame, of a restart an 83 frame.
+pub fn said(call: Call, answer: Answer) -> Frame
+    ensures { λ r. ⌜ r ≡ saidOf call answer ⌝ }
 {
     let told = answer.said();
     Frame::Said {
+        call,
         no: told.no,
         status: told.status,
         time: frames::bits(told.time),
@@ -26,12 +27,4 @@ pub fn said(answer: Answer) -> Frame
         used: four(told.used),
         extra: four(told.extra),
     }
-}
-
-// What a reset answered, as an 83 frame.
-pub fn was_reset(answer: ResetAnswer) -> Frame
-    ensures { λ r. ⌜ r ≡ wasResetOf answer ⌝ }
-{
-    let told = answer.said();
-    Frame::WasReset { no: told.no }
 }

@@ -3,13 +3,12 @@ ghost use mathlib.Core.Path.{_≡_};
 ghost use Prim.Native.Nat.{_≤_, _<_};
 ghost use lib.ListN.{length, take};
 ghost use Rattle.frames.specs.Line.{answersOf};
-ghost use Rattle.rules.specs.Call.{run, resetLeft};
-ghost use Rattle.bench_lib.specs.Bench.{rows, eventOf, lineNumber, printed, ticked, wasReset};
+ghost use Rattle.rules.specs.Call.{run, given, left};
+ghost use Rattle.bench_lib.specs.Bench.{rows, eventOf, lineNumber, printed, callOf, served};
 ghost use Rattle.bench_lib.specs.Held.{stateOf, Long, Rooms, Prints, Keeps, Tells, Stops, Leaves, Steps};
 use crate::said::said;
-use crate::said::was_reset;
 use call::Called;
-use call::WasReset;
+use frames::Call;
 use frames::Event;
 use frames::Frame;
 use frames::Input;
@@ -19,7 +18,7 @@ use rules::Record;
 // Room for every table: one node more than it may have, so that the 257th is refused by the tick.
 pub const NODES: usize = 257;
 
-// What is held between two lines beside the table and the cells: the record, how many nodes there are, whether a tick or a reset
+// What is held between two lines beside the table and the cells: the record, how many nodes there are, whether a tick or a restart
 // came, how many lines came, and whether to go on.
 pub struct Held {
     pub record: Record,
@@ -99,7 +98,7 @@ fn keep(
     }
 }
 
-// A tick or a reset left this record, and this frame to print.
+// A tick or a restart left this record, and this frame to print.
 fn tell(held: Held, record: Record, frame: Frame, room: &mut [u8]) -> Done
     requires { ⌜ answersOf frame ≡ 0 ⌝ }
     requires { ⌜ 45 ≤ length (now room) ⌝ }
@@ -136,9 +135,74 @@ fn stop(held: Held, room: &mut [u8]) -> Done
     }
 }
 
-// One tick of the tree, with the first count answers. Nobody sees its spare and its board.
-fn tick(
+// A tick or a restart.
+fn either(
+    call: Call,
+    record: Record,
+    kinds: &[u8],
+    ns: &[u16],
+    limits: &[f64],
+    times: &mut [f64],
+    places: &mut [u16],
+    marks: &mut [u8],
+    spare_times: &mut [f64],
+    spare_places: &mut [u16],
+    spare_marks: &mut [u8],
+    board: &mut [u8],
+    event: rules::Event,
+    fuel: u32,
+    statuses: &[u8],
+    leftovers: &[f64],
+) -> Called
+    ensures { λ r. ⌜ callOf call (given «record» (now (kinds .entry)) (now (ns .entry)) (now (limits .entry))
+        (run (now (times .entry)) (now (places .entry)) (now (marks .entry)))
+        (run (now («spare_times» .entry)) (now («spare_places» .entry)) (now («spare_marks» .entry))) (now (board .entry))
+        event fuel (now (statuses .entry)) (now (leftovers .entry)))
+        ≡ left (r .answer) (r .record) (run (now (times .exit)) (now (places .exit)) (now (marks .exit)))
+        (run (now («spare_times» .exit)) (now («spare_places» .exit)) (now («spare_marks» .exit))) (now (board .exit)) ⌝ }
+{
+    match call {
+        Call::Tick => call::tick_value(
+            record,
+            kinds,
+            ns,
+            limits,
+            times,
+            places,
+            marks,
+            spare_times,
+            spare_places,
+            spare_marks,
+            board,
+            event,
+            fuel,
+            statuses,
+            leftovers,
+        ),
+        Call::Restart => call::restart_value(
+            record,
+            kinds,
+            ns,
+            limits,
+            times,
+            places,
+            marks,
+            spare_times,
+            spare_places,
+            spare_marks,
+            board,
+            event,
+            fuel,
+            statuses,
+            leftovers,
+        ),
+    }
+}
+
+// The call that a line asks for, with the first count answers. Nobody sees its spare and its board.
+fn serve(
     held: Held,
+    call: Call,
     event: Event,
     fuel: u32,
     count: usize,
@@ -155,9 +219,9 @@ fn tick(
     requires { ⌜ count ≤ length (now statuses) ⌝ }
     requires { ⌜ count ≤ length (now leftovers) ⌝ }
     ensures { λ r. ⌜ Leaves
-        (ticked (stateOf held (rows (now (kinds .entry)) (now (ns .entry)) (now (limits .entry)))
+        (served (stateOf held (rows (now (kinds .entry)) (now (ns .entry)) (now (limits .entry)))
         (run (now (times .entry)) (now (places .entry)) (now (marks .entry))))
-        event fuel (take count (now (statuses .entry))) (take count (now (leftovers .entry))))
+        call event fuel (take count (now (statuses .entry))) (take count (now (leftovers .entry))))
         (r .answer) (r .record) (run (now (times .exit)) (now (places .exit)) (now (marks .exit))) ⌝ }
 {
     let mut spare_times = [0.0f64; NODES];
@@ -166,7 +230,8 @@ fn tick(
     let mut board = [0u8; NODES];
     let nodes = held.nodes;
     let record = held.record;
-    call::tick_value(
+    either(
+        call,
         record,
         &kinds[..nodes],
         &ns[..nodes],
@@ -182,33 +247,6 @@ fn tick(
         fuel,
         &statuses[..count],
         &leftovers[..count],
-    )
-}
-
-fn reset(
-    held: Held,
-    kinds: &[u8],
-    ns: &[u16],
-    limits: &[f64],
-    times: &mut [f64],
-    places: &mut [u16],
-    marks: &mut [u8],
-) -> WasReset
-    requires { ⌜ Long (held .nodes) (rows (now kinds) (now ns) (now limits)) ⌝ }
-    ensures { λ r. ⌜ wasReset (stateOf held (rows (now (kinds .entry)) (now (ns .entry)) (now (limits .entry)))
-        (run (now (times .entry)) (now (places .entry)) (now (marks .entry))))
-        ≡ resetLeft (r .answer) (r .record) (run (now (times .exit)) (now (places .exit)) (now (marks .exit))) ⌝ }
-{
-    let nodes = held.nodes;
-    let record = held.record;
-    call::reset_value(
-        record,
-        &kinds[..nodes],
-        &ns[..nodes],
-        &limits[..nodes],
-        times,
-        places,
-        marks,
     )
 }
 
@@ -241,11 +279,17 @@ pub fn one(
     let begun = held.begun;
     match frames::admit(nodes, begun, frames::read(line, statuses, patterns)) {
         Input::Node { kind, n, limit } => keep(held, kind, n, limit, kinds, ns, limits),
-        Input::Tick { event, fuel, count } => {
+        Input::Asked {
+            call,
+            event,
+            fuel,
+            count,
+        } => {
             let given = count as usize;
             frames::times(given, patterns, leftovers);
-            let called = tick(
+            let called = serve(
                 held,
+                call,
                 event,
                 fuel,
                 given,
@@ -260,13 +304,7 @@ pub fn one(
             );
             let answer = called.answer;
             let record = called.record;
-            tell(held, record, said(answer), room)
-        }
-        Input::Reset => {
-            let called = reset(held, kinds, ns, limits, times, places, marks);
-            let answer = called.answer;
-            let record = called.record;
-            tell(held, record, was_reset(answer), room)
+            tell(held, record, said(call, answer), room)
         }
         Input::Malformed => stop(held, room),
     }

@@ -2,20 +2,22 @@
 use mathlib.Core.Path.{_≡_, refl, sym, _∙_}
 use mathlib.Core.Bool.{Bool, true, false, cond}
 use mathlib.Core.List.{List}
-use Prim.Native.Nat.{ℕ, _≤_, _<_}
+use Prim.Native.Nat.{ℕ, zero, suc, _≤_, _<_}
 use borrow.Author.Tests.{le-leb, lt-leb}
 use lib.Dec.{leb}
-use lib.Ieee.{Float, binary64}
-use lib.ListN.{length}
+use lib.Ieee.{Float}
+use lib.ListN.{length, take, replicate}
 use Rattle.rules.specs.declared.answer.Answer.{Answer}
 use Rattle.rules.specs.declared.answer.Answer.the-variants.{BadTable, TooShort, BadCell, BadTime, BadAnswer, Finished}
 use Rattle.rules.specs.declared.event.Event.{Event}
 use Rattle.rules.specs.declared.event.Event.the-variants.{Update}
-use Rattle.rules.specs.Outcome.{world}
-use Rattle.rules.specs.State.{tick}
-use Rattle.rules.specs.Table.{mostDeep, cleaned, number, bad, table}
-use Rattle.rules.specs.Cells.{Found, faulty, none, badCell}
-use Rattle.rules.specs.Call.{Given, Left, runLength, answers, badAnswer, cleanedEvent, timeAllowed, refused, walked, tickTree, tickCall}
+use Rattle.rules.specs.Table.{cleaned, number, bad, table}
+use Rattle.rules.specs.Tree.{zeroTime, Tree, size}
+use Rattle.rules.specs.Cells.{cells, Found, faulty, none, badCell}
+use Rattle.rules.specs.Call.{Given, Left, runLength, badAnswer, cleanedEvent, timeAllowed, refused, walked, onTable, onInputs, atEntry, walkFrom, tickCall, restartCall}
+use Rattle.calls.specs.Memory.{held}
+use Rattle.calls.specs.Tables.{tabled, tabled-fine}
+use Rattle.calls.specs.Fresh.{AllFresh, fresh-held}
 use Rattle.calls.specs.Zeros.{withEvent, same-event, same-walk}
 use Rattle.tables.specs.declared.number.Number.{Number}
 use Rattle.tables.specs.declared.number.Number.the-variants as number
@@ -29,7 +31,7 @@ use Rattle.call.specs.declared.gate.Gate.{Gate}
 use Rattle.call.specs.declared.gate.Gate.the-variants.{Refused, Open}
 use Rattle.call.specs.declared.gate.Timed.{Timed as Chosen}
 use Rattle.call.specs.declared.gate.Timed.the-variants as timed
-use Rattle.call.specs.Due.{loaded, walkOf, Due, timedOf, Passed}
+use Rattle.call.specs.Due.{callOf, startOf, walkWith, Due, timedOf, Passed}
 use Rattle.call.proofs.Good.{Good}
 use Rattle.call.proofs.Long.{long}
 
@@ -75,26 +77,53 @@ unused-test : (b : Bool) (e : Event) → cond b (timed.Good e) timed.Bad ≡ tim
 unused-test true e h = cc
 unused-test false e h = refl
 
+used-alike : (fresh : Bool) (g : Given) → callOf fresh (withEvent (cleanedEvent (g .event)) g) ≡ callOf fresh g
+unfolding callOf
+used-alike true g = same-event true g
+used-alike false g = same-event false g
+
+-- ---- a tick and a restart: what is due of a table's tree once its memory is found long enough, and what once its cells and its inputs pass
+abbrev endOf : Bool → Given → Tree → Left
+endOf true g t = walked g (atEntry g t) (walkFrom g t)
+endOf false g t = cond (g .record' .finished) (refused g Finished) (walked g (atEntry g t) (walkFrom g (atEntry g t)))
+
+abbrev dueOf : Bool → Given → Tree → Left
+dueOf true g t = onInputs g (endOf true g t)
+dueOf false g t = elim (badCell false false 0 (atEntry g t)) [ faulty p ↦ refused g (BadCell p) | none _ ↦ onInputs g (endOf false g t) ]
+
+call-is : (fresh : Bool) (g : Given) → callOf fresh g ≡ onTable g (dueOf fresh g)
+unfolding callOf tickCall restartCall
+call-is true g = refl
+call-is false g = refl
+
+end-finished : (fresh : Bool) (g : Given) (t : Tree) → fresh ≡ false → g .record' .finished ≡ true → endOf fresh g t ≡ refused g Finished
+end-finished fresh g t e f = rw (e, f)
+
+-- the walk starts from the cells at entry, or from zeros
+starts : (fresh : Bool) (g : Given) (n : ℕ) (t : Tree) → held t (startOf true n (g .cells')) ≡ t → (fresh ≡ false → g .record' .finished ≡ false)
+    → endOf fresh g t ≡ walked g (atEntry g t) (walkFrom g (held t (startOf fresh n (g .cells'))))
+starts true g n t z f = rw z
+starts false g n t z f = rw (f refl)
+
 -- ---- 3
-pub bad-table : (g : Given) (p : ℕ) → table (g .kinds) (g .ns) (g .limits) ≡ bad p → tickCall g ≡ refused g (BadTable p)
-unfolding tickCall
-bad-table g p e = rw (tickCall, e)
+pub bad-table : (fresh : Bool) (g : Given) (p : ℕ) → table (g .kinds) (g .ns) (g .limits) ≡ bad p → callOf fresh g ≡ refused g (BadTable p)
+bad-table fresh g p e = call-is fresh g ∙ rw (onTable, e)
 
 -- ---- 4
-module _ (g : Given) (ends : List ℕ) (n : ℕ) where
-  -- the table's tree has room
-  pub record Fit : Type 0 where
-    pub good : Good (g .kinds) (g .ns) (g .limits) ends n
-    pub cells : leb n (runLength (g .cells')) ≡ true
-    pub spare : leb n (runLength (g .spare)) ≡ true
-    pub board : n ≤ length (g .board)
+-- the table's tree has room
+pub record Fit (g : Given) (ends : List ℕ) (n : ℕ) : Type 0 where
+  pub good : Good (g .kinds) (g .ns) (g .limits) ends n
+  pub cells : leb n (runLength (g .cells')) ≡ true
+  pub spare : leb n (runLength (g .spare)) ≡ true
+  pub board : n ≤ length (g .board)
 
-  -- its cells are fine, and its walk is left, or 5, 6 or 2
+module _ (fresh : Bool) (g : Given) (ends : List ℕ) (n : ℕ) where
+  -- the cells that its walk starts from are fine; the walk is left, or 5, 6 or 2
   pub record Held : Type 0 where
-    pub fit : Fit
+    pub fit : Fit g ends n
     pub behind : ℕ
-    pub fine : badCell false false 0 (loaded g (fit .good .tree)) ≡ none behind
-    pub is : tickCall g ≡ tickTree g (loaded g (fit .good .tree))
+    pub fine : badCell false false 0 (held (fit .good .tree) (startOf fresh n (g .cells'))) ≡ none behind
+    pub is : callOf fresh g ≡ onInputs g (endOf fresh g (fit .good .tree))
 
   -- u is the event to use
   pub record Timed (u : Event) : Type 0 where
@@ -107,115 +136,125 @@ module _ (g : Given) (ends : List ℕ) (n : ℕ) where
     pub count : ℕ
     pub fine : badAnswer 0 (g .statuses) (g .leftovers) ≡ none count
 
-module _ (g : Given) {ends : List ℕ} {n : ℕ} (t : Good (g .kinds) (g .ns) (g .limits) ends n) where
-  pub short-cells : leb n (runLength (g .cells')) ≡ false → tickCall g ≡ refused g TooShort
-  unfolding tickCall
-  short-cells e = rw (tickCall, t .is, t .sized, e)
+module _ (fresh : Bool) (g : Given) {ends : List ℕ} {n : ℕ} (t : Good (g .kinds) (g .ns) (g .limits) ends n) where
+  pub short-cells : leb n (runLength (g .cells')) ≡ false → callOf fresh g ≡ refused g TooShort
+  short-cells e = call-is fresh g ∙ rw (onTable, t .is, t .sized, e)
 
-  pub short-spare : leb n (runLength (g .cells')) ≡ true → leb n (runLength (g .spare)) ≡ false → tickCall g ≡ refused g TooShort
-  unfolding tickCall
-  short-spare a e = rw (tickCall, t .is, t .sized, a, e)
+  pub short-spare : leb n (runLength (g .cells')) ≡ true → leb n (runLength (g .spare)) ≡ false → callOf fresh g ≡ refused g TooShort
+  short-spare a e = call-is fresh g ∙ rw (onTable, t .is, t .sized, a, e)
 
-  pub short-board : leb n (runLength (g .cells')) ≡ true → leb n (runLength (g .spare)) ≡ true → length (g .board) < n → tickCall g ≡ refused g TooShort
-  unfolding tickCall
-  short-board a b h = rw (tickCall, t .is, t .sized, a, b, lt-leb n (length (g .board)) h)
+  pub short-board : leb n (runLength (g .cells')) ≡ true → leb n (runLength (g .spare)) ≡ true → length (g .board) < n → callOf fresh g ≡ refused g TooShort
+  short-board a b h = call-is fresh g ∙ rw (onTable, t .is, t .sized, a, b, lt-leb n (length (g .board)) h)
 
-module _ {g : Given} {ends : List ℕ} {n : ℕ} where
+-- ---- zeros hold the table's tree
+zeros-fresh : (n k : ℕ) → AllFresh (take k (cells (replicate n zeroTime) (replicate n 0) (replicate n 0)))
+unfolding cells
+zeros-fresh zero zero = tt
+zeros-fresh zero (suc k) = tt
+zeros-fresh (suc n) zero = tt
+zeros-fresh (suc n) (suc k) = (refl, zeros-fresh n k)
+
+module _ {g : Given} {ends : List ℕ} {n : ℕ} (t : Fit g ends n) where
+  zeros-held : held (t .good .tree) (startOf true n (g .cells')) ≡ t .good .tree
+  zeros-held = fresh-held (g .kinds) (g .ns) (g .limits) (t .good .tree) (startOf true n (g .cells')) (t .good .is) (zeros-fresh n (size (t .good .tree)))
+
+  room-found : (fresh : Bool) → callOf fresh g ≡ dueOf fresh g (t .good .tree)
+  room-found fresh = call-is fresh g ∙ rw (onTable, t .good .is, t .good .sized, t .cells, t .spare, le-leb n (length (g .board)) (t .board))
+
   -- ---- 9
-  module _ (t : Fit g ends n) where
-    pub room : Room (g .kinds) (g .ns) (g .cells' .times) (g .cells' .places) (g .cells' .marks) n
-    room =
-        let l = long n (g .cells') (t .cells) in
-        record { nodes = t .good .few; kinds-long = t .good .in-kinds; ns-long = t .good .in-ns; times-long = l .times; places-long = l .places; marks-long = l .marks }
+  pub room : Room (g .kinds) (g .ns) (g .cells' .times) (g .cells' .places) (g .cells' .marks) n
+  room =
+      let l = long n (g .cells') (t .cells) in
+      record { nodes = t .good .few; kinds-long = t .good .in-kinds; ns-long = t .good .in-ns; times-long = l .times; places-long = l .places; marks-long = l .marks }
 
-    abbrev found : Found
-    found = badCell false false 0 (loaded g (t .good .tree))
+  abbrev found : Found
+  found = badCell false false 0 (atEntry g (t .good .tree))
 
-    module _ {r : Said} (k : Checks (g .kinds) (g .ns) ends (g .cells' .times) (g .cells' .places) (g .cells' .marks) n r) where
-      says : r ≡ said found
-      says = k (g .limits) (t .good .tree) (t .good .held) (t .good .sized) (t .good .levels)
+  module _ {r : Said} (k : Checks (g .kinds) (g .ns) ends (g .cells' .times) (g .cells' .places) (g .cells' .marks) n r) where
+    says : r ≡ said found
+    says = k (g .limits) (t .good .tree) (t .good .held) (t .good .sized) (t .good .levels)
 
-      pub bad-cell : (p : ℕ) → r ≡ Faulty p → tickCall g ≡ refused g (BadCell p)
-      unfolding tickCall
-      bad-cell p h = rw (tickCall, t .good .is, t .good .sized, t .cells, t .spare, le-leb n (length (g .board)) (t .board), said-faulty found r p says h)
+    pub bad-cell : (fresh : Bool) → fresh ≡ false → (p : ℕ) → r ≡ Faulty p → callOf fresh g ≡ refused g (BadCell p)
+    bad-cell fresh e p h = rw e (room-found false ∙ rw (dueOf, said-faulty found r p says h))
 
-      pub fine-cells : r ≡ Fine → Held g ends n
-      unfolding tickCall
-      fine-cells h = record {
-        fit = t;
-        is = rw
-            (tickCall, t .good .is, t .good .sized, t .cells, t .spare, le-leb n (length (g .board)) (t .board), said-fine found r says h .1);
-        behind = said-fine found r
-            says h .0;
-        fine = said-fine found r says h .1;
-      }
+    pub fine-cells : (fresh : Bool) → fresh ≡ false → r ≡ Fine → Held fresh g ends n
+    fine-cells fresh e h = rw e (let f = said-fine found r says h in record { fit = t; behind = f .0; fine = f .1; is = room-found false ∙ rw (dueOf, f .1) })
 
+  -- cells that are not looked at
+  pub fresh-cells : (fresh : Bool) → fresh ≡ true → Held fresh g ends n
+  fresh-cells fresh e =
+      let f = tabled-fine (t .good .tree) (tabled (g .kinds) (g .ns) (g .limits) (t .good .tree) (t .good .is) .0) false 0 in
+      rw e (record { fit = t; behind = f .0; fine = rw zeros-held (f .1); is = room-found true })
+
+module _ {fresh : Bool} {g : Given} {ends : List ℕ} {n : ℕ} where
   -- ---- 5
-  module _ (t : Held g ends n) {r : Chosen} (k : r ≡ timedOf (g .event)) where
-    pub bad-time : r ≡ timed.Bad → tickCall g ≡ refused g BadTime
-    unfolding tickTree
-    bad-time h = rw (t .is, tickTree, unused-test (timeAllowed (g .event)) (cleanedEvent (g .event)) (sym k ∙ h))
+  module _ (t : Held fresh g ends n) {r : Chosen} (k : r ≡ timedOf (g .event)) where
+    pub bad-time : r ≡ timed.Bad → callOf fresh g ≡ refused g BadTime
+    bad-time h = rw (t .is, unused-test (timeAllowed (g .event)) (cleanedEvent (g .event)) (sym k ∙ h))
 
-    pub fine-time : (u : Event) → r ≡ timed.Good u → Timed g ends n u
+    pub fine-time : (u : Event) → r ≡ timed.Good u → Timed fresh g ends n u
     fine-time u h = let b = used-test (timeAllowed (g .event)) (cleanedEvent (g .event)) u (sym k ∙ h) in record { held = t; time = b .0; clean = b .1 }
 
   -- ---- 6
-  module _ {u : Event} (t : Timed g ends n u) {r : Answered} (k : r ≡ firstBad (g .statuses) (g .leftovers)) where
-    pub bad-answer : (i : ℕ) → r ≡ answered.Bad i → tickCall g ≡ refused g (BadAnswer i)
-    unfolding tickTree firstBad
-    bad-answer i h = rw (t .held .is, tickTree, t .time, answered-bad (badAnswer 0 (g .statuses) (g .leftovers)) r i k h)
+  module _ {u : Event} (t : Timed fresh g ends n u) {r : Answered} (k : r ≡ firstBad (g .statuses) (g .leftovers)) where
+    pub bad-answer : (i : ℕ) → r ≡ answered.Bad i → callOf fresh g ≡ refused g (BadAnswer i)
+    unfolding firstBad
+    bad-answer i h = rw (t .held .is, t .time, answered-bad (badAnswer 0 (g .statuses) (g .leftovers)) r i k h)
 
-    pub fine-answers : r ≡ answered.Good → Answerable g ends n u
+    pub fine-answers : r ≡ answered.Good → Answerable fresh g ends n u
     unfolding firstBad
     fine-answers h = let a = answered-good (badAnswer 0 (g .statuses) (g .leftovers)) r k h in record { timed = t; count = a .0; fine = a .1 }
 
   -- ---- 2, and the walk
-  module _ {u : Event} (t : Answerable g ends n u) where
-    pub finished : g .record' .finished ≡ true → tickCall g ≡ refused g Finished
-    unfolding tickTree
-    finished e = rw (t .timed .held .is, tickTree, t .timed .time, t .fine, e)
+  module _ {u : Event} (t : Answerable fresh g ends n u) where
+    abbrev the-tree : Tree
+    the-tree = t .timed .held .fit .good .tree
+
+    passes : callOf fresh g ≡ endOf fresh g the-tree
+    passes = rw (t .timed .held .is, t .timed .time, t .fine)
+
+    pub finished : fresh ≡ false → g .record' .finished ≡ true → callOf fresh g ≡ refused g Finished
+    finished e f = passes ∙ end-finished fresh g the-tree e f
 
     abbrev clean : Given
     clean = withEvent (cleanedEvent (g .event)) g
 
-    walks : g .record' .finished ≡ false → tickCall clean ≡ walkOf clean (t .timed .held .fit .good .tree)
-    unfolding tickTree
-    walks e =
-        let tree = loaded g (t .timed .held .fit .good .tree) in
-        let o = tick binary64 mostDeep tree (cleanedEvent (g .event)) (world (g .fuel) (answers (g .statuses) (g .leftovers))) in
-        let here : tickCall g ≡ walked g tree o = rw (t .timed .held .is, tickTree, t .timed .time, t .fine, e) in
-        same-event g ∙ here ∙ sym (same-walk g (cleanedEvent (g .event)) tree o)
+    walks : (fresh ≡ false → g .record' .finished ≡ false)
+        → callOf fresh clean ≡ walked clean (atEntry g the-tree) (walkWith clean (held the-tree (startOf fresh n (g .cells'))))
+    walks f =
+        used-alike fresh g ∙ passes ∙ starts fresh g n the-tree (zeros-held (t .timed .held .fit)) f
+        ∙ sym (same-walk g (cleanedEvent (g .event)) (atEntry g the-tree) (walkFrom g (held the-tree (startOf fresh n (g .cells')))))
 
-    open' : g .record' .finished ≡ false → Due clean ends n
-    open' e =
-        let f = t .timed .held .fit in
+    due-clean : (fresh ≡ false → g .record' .finished ≡ false) → Due fresh clean ends n
+    due-clean f =
+        let fit = t .timed .held .fit in
         record {
-          tree = f .good .tree;
-          is = f .good .is;
-          sized = f .good .sized;
-          few = f .good .few;
-          levels = f .good .levels;
-          held = f .good .held;
-          ends-long = f .good .ends-long;
-          in-kinds = f .good .in-kinds;
+          tree = fit .good .tree;
+          is = fit .good .is;
+          sized = fit .good .sized;
+          few = fit .good .few;
+          levels = fit .good .levels;
+          stands = fit .good .held;
+          ends-long = fit .good .ends-long;
+          in-kinds = fit .good .in-kinds;
           behind = t .timed .held .behind;
           fine = t .timed .held .fine;
-          cells-long = long n (g .cells') (f .cells);
-          spare-long = long n (g .spare) (f .spare);
-          board-long = f .board;
-          walks = walks e;
+          cells-long = long n (g .cells') (fit .cells);
+          spare-long = long n (g .spare) (fit .spare);
+          board-long = fit .board;
+          walks = walks f;
         }
 
-    pub due : g .record' .finished ≡ false → Passed g ends (Open n u)
-    due e = rw (t .timed .clean) (same-event g, open' e)
+    pub due : (fresh ≡ false → g .record' .finished ≡ false) → Passed fresh g ends (Open n u)
+    due f = rw (t .timed .clean) (used-alike fresh g, due-clean f)
 
 -- ---- what the checks leave, told by their answer
-module _ (g : Given) (ends : List ℕ) (r : Gate) (p : Passed g ends r) where
-  pub passed-refused : (a : Answer) → r ≡ Refused a → tickCall g ≡ refused g a
+module _ (fresh : Bool) (g : Given) (ends : List ℕ) (r : Gate) (p : Passed fresh g ends r) where
+  pub passed-refused : (a : Answer) → r ≡ Refused a → callOf fresh g ≡ refused g a
   passed-refused a e = rw e at p
 
-  pub passed-open : (n : ℕ) (u : Event) → r ≡ Open n u → (tickCall (withEvent u g) ≡ tickCall g) × Due (withEvent u g) ends n
+  pub passed-open : (n : ℕ) (u : Event) → r ≡ Open n u → (callOf fresh (withEvent u g) ≡ callOf fresh g) × Due fresh (withEvent u g) ends n
   passed-open n u e = rw e at p
 
-  pub passed-on : (n : ℕ) (u : Event) (l : Left) → r ≡ Open n u → tickCall (withEvent u g) ≡ l → tickCall g ≡ l
+  pub passed-on : (n : ℕ) (u : Event) (l : Left) → r ≡ Open n u → callOf fresh (withEvent u g) ≡ l → callOf fresh g ≡ l
   passed-on n u l e h = sym (passed-open n u e .0) ∙ h

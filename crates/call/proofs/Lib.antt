@@ -3,6 +3,5 @@ pub mod Copies
 pub mod Long
 pub mod Good
 pub mod Gates
-pub mod Resets
 pub mod Columns
 pub mod Walks

@@ -1,6 +1,6 @@
 -- The walk over the working array is the walk of the tree: what each way of it leaves is what the rules say.
 use mathlib.Core.Path.{_≡_, refl, sym, _∙_}
-use mathlib.Core.Bool.{cond}
+use mathlib.Core.Bool.{Bool, true, false, cond}
 use mathlib.Core.List.{List, _++_, append-nil}
 use mathlib.Core.List
 use Prim.Native.Nat.{ℕ, suc, _+_, _-_, _^_, _≤_, _<_, min}
@@ -10,8 +10,8 @@ use borrow.Author.Tests.{eq-eqb, ne-eqb}
 use types.Run.{miss}
 use lib.Dec.{eqb}
 use lib.Ieee.{Float, binary64}
-use lib.ListN.{length, getD, set, take, drop, replicate, take-append-drop, length-drop}
-use lib.Seq.{length-take-le, take-at}
+use lib.ListN.{length, getD, set, take, drop, replicate, take-append-drop, length-drop, length-replicate}
+use lib.Seq.{length-take-le, take-append-le, take-at, drop-at}
 use Rattle.rules.specs.declared.status.Status.{Status}
 use Rattle.rules.specs.declared.status.Status.the-variants as status
 use Rattle.rules.specs.declared.event.Event.{Event}
@@ -19,15 +19,14 @@ use Rattle.rules.specs.declared.event.Event.the-variants.{Update, Other}
 use Rattle.rules.specs.declared.answer.Answer.{Answer}
 use Rattle.rules.specs.declared.answer.Answer.the-variants.{Ticked, Asked, OutOfFuel}
 use Rattle.rules.specs.declared.answer.Record.{Record}
-use Rattle.rules.specs.Tree.{Cell, Tree, [], _∷_, size, depth}
+use Rattle.rules.specs.Tree.{Cell, zeroTime, Tree, [], _∷_, size, depth}
 use Rattle.rules.specs.Outcome.{eventOf, dt, world, Out, done, asks, short}
-use Rattle.rules.specs.State.{tick}
 use Rattle.rules.specs.Table.{mostDeep}
 use Rattle.rules.specs.Cells.{cells, column, columns, timeOf, placeOf, markOf}
 use Rattle.rules.specs.Board.{shown}
-use Rattle.rules.specs.Call.{Given, Run, run, left, answers, counted, ontoRun, ontoBoard, walked, tickCall}
+use Rattle.rules.specs.Call.{Given, Run, run, left, answers, counted, ontoRun, ontoBoard, walked}
 use Rattle.calls.specs.Shape.{size-shape, depth-shape}
-use Rattle.calls.specs.Memory.{held-shape}
+use Rattle.calls.specs.Memory.{held, held-shape}
 use Rattle.work.specs.declared.result.Result.{Result}
 use Rattle.work.specs.declared.result.Seen.{Seen}
 use Rattle.work.specs.declared.result.Seen.the-variants.{Stopped, Running, Success, Failure}
@@ -44,8 +43,8 @@ use Rattle.load.specs.Trees.{holds, fits, put-places, put-marks, put-board}
 use Rattle.load.specs.Trees as trees
 use Rattle.board.specs.Show.{endedWords}
 use Rattle.board.specs.Trees.{shown-words, size-shown, fits-shown, places-shown, marks-shown}
-use Rattle.call.specs.Onto.{onto, ontoCells}
-use Rattle.call.specs.Due.{loaded, Due}
+use Rattle.call.specs.Onto.{onto, Long, ontoCells}
+use Rattle.call.specs.Due.{callOf, startOf, walkWith, Due}
 use Rattle.call.specs.Enter.{updates}
 use Rattle.call.specs.Told.{statusIn, toldStopped, toldDone}
 use Rattle.call.proofs.Columns.{column-behind, time-column, place-column, mark-column}
@@ -93,75 +92,117 @@ parted Other = refl
 asked-number : (a : ℕ) (ns : List ℕ) (p m : ℕ) (x : Float) → a ≡ suc p → getD ns p 0 ≡ m → cond (eqb a 0) OutOfFuel (Asked (getD ns (a - 1) 0) x) ≡ Asked m x
 asked-number a ns p m x e f = rw (ne-eqb a 0 (λ z. omega arith), e, sub-one (suc p), f)
 
+-- ---- what a walk is begun with: the words of the cells that it starts from, and their times before those that stay
+pub record Begun (fresh : Bool) (kinds ends : List ℕ) (c : Run) (n : ℕ) (ws : List ℕ) (ts : List Float) : Type 0 where
+  pub words : ws ≡ loadWords kinds ends (startOf fresh n c .places) (startOf fresh n c .marks) 0 n (replicate 260 0)
+  pub times : take n ts ≡ take n (startOf fresh n c .times)
+  pub behind : drop n ts ≡ drop n (c .times)
+
+module _ (fresh : Bool) (kinds ends : List ℕ) (c : Run) (n : ℕ) (ws : List ℕ) (ts : List Float) where
+  pub begun-fresh : fresh ≡ true → ws ≡ loadWords kinds ends (replicate n 0) (replicate n 0) 0 n (replicate 260 0) → ts ≡ replicate n zeroTime ++ drop n (c .times)
+      → Begun fresh kinds ends c n ws ts
+  begun-fresh e w t =
+      let zeros : List Float = replicate n zeroTime in
+      let long = length-replicate n zeroTime in
+      rw e (record { words = w; times = rw t (take-append-le n zeros (drop n (c .times)) (omega arith)); behind = rw (t, drop-at zeros (drop n (c .times)) n long) })
+
+  pub begun-held : fresh ≡ false → ws ≡ loadWords kinds ends (c .places) (c .marks) 0 n (replicate 260 0) → ts ≡ c .times → Begun fresh kinds ends c n ws ts
+  begun-held e w t = rw (e, t) (record { words = w; times = refl; behind = refl })
+
 -- ---- columns
 column-front : {A : Type 0} (f : Cell → ℕ → A) (t : Tree) (n : ℕ) (front m : List A) → size t ≡ n → column f t List.[] ≡ front → column f t (drop (size t) m) ≡ front ++ drop n m
 column-front f t n front m s e = rw (s, column-behind f t (drop n m), e)
 
-module _ {g : Given} {ends : List ℕ} {n : ℕ} (due : Due g ends n) where
+module _ {fresh : Bool} {g : Given} {ends : List ℕ} {n : ℕ} (due : Due fresh g ends n) where
   abbrev given-answers : List (Status × Float)
   given-answers = answers (g .statuses) (g .leftovers)
 
+  -- the tree that the cells at entry hold, and the one that the walk starts from
+  abbrev before : Tree
+  before = held (due .tree) (g .cells')
+
+  abbrev start : Run
+  start = startOf fresh n (g .cells')
+
   abbrev tree : Tree
-  tree = loaded g (due .tree)
+  tree = held (due .tree) start
 
   abbrev outcome : Out Tree
-  outcome = tick binary64 mostDeep tree (g .event) (world (g .fuel) given-answers)
+  outcome = walkWith g tree
 
-  tree-size : size tree ≡ n
-  tree-size = size-shape tree (due .tree) (held-shape (due .tree) (g .cells')) ∙ due .sized
+  sized : (r : Run) → size (held (due .tree) r) ≡ n
+  sized r = size-shape (held (due .tree) r) (due .tree) (held-shape (due .tree) r) ∙ due .sized
 
   tree-deep : depth tree ≤ mostDeep
-  tree-deep = rw (depth-shape tree (due .tree) (held-shape (due .tree) (g .cells'))) (due .levels)
+  tree-deep = rw (depth-shape tree (due .tree) (held-shape (due .tree) start)) (due .levels)
 
-  module _ where
-    long-times : size (due .tree) ≤ length (g .cells' .times)
-    long-times = rw (due .sized) (due .cells-long .times)
+  start-long : Long n start
+  start-long = on fresh
+    where
+      on : (b : Bool) → Long n (startOf b n (g .cells'))
+      on true = record { times = omega (arith, length-replicate n zeroTime); places = omega (arith, length-replicate {A = ℕ} n 0); marks = omega (arith, length-replicate {A = ℕ} n 0) }
+      on false = due .cells-long
 
-    long-places : size (due .tree) ≤ length (g .cells' .places)
-    long-places = rw (due .sized) (due .cells-long .places)
+  -- a run of n cells or more is long enough for the tree, and the tree that it holds has its columns
+  module _ (r : Run) (l : Long n r) where
+    long-times : size (due .tree) ≤ length (r .times)
+    long-times = rw (due .sized) (l .times)
 
-    long-marks : size (due .tree) ≤ length (g .cells' .marks)
-    long-marks = rw (due .sized) (due .cells-long .marks)
+    long-places : size (due .tree) ≤ length (r .places)
+    long-places = rw (due .sized) (l .places)
+
+    long-marks : size (due .tree) ≤ length (r .marks)
+    long-marks = rw (due .sized) (l .marks)
+
+    times-of : (behind : List Float) → column timeOf (held (due .tree) r) behind ≡ take n (r .times) ++ behind
+    times-of behind = rw (due .sized) at (time-column (due .tree) (r .times) (r .places) (r .marks) long-times long-places long-marks behind)
+
+    places-of : (behind : List ℕ) → column placeOf (held (due .tree) r) behind ≡ take n (r .places) ++ behind
+    places-of behind = rw (due .sized) at (place-column (due .tree) (r .times) (r .places) (r .marks) long-times long-places long-marks behind)
+
+    marks-of : (behind : List ℕ) → column markOf (held (due .tree) r) behind ≡ take n (r .marks) ++ behind
+    marks-of behind = rw (due .sized) at (mark-column (due .tree) (r .times) (r .places) (r .marks) long-times long-places long-marks behind)
 
   -- the spare has the cells at entry
-  spared : ontoRun tree (g .spare) ≡ ontoCells n (g .cells') (g .spare)
+  spared : ontoRun before (g .spare) ≡ ontoCells n (g .cells') (g .spare)
   unfolding ontoRun
   spared =
       let c = g .cells' in
-      rw tree-size λ i. run
-      (rw (due .sized) at (time-column (due .tree) (c .times) (c .places) (c .marks) long-times long-places long-marks (drop n (g .spare .times))) i)
-      (rw (due .sized) at (place-column (due .tree) (c .times) (c .places) (c .marks) long-times long-places long-marks (drop n (g .spare .places))) i)
-      (rw (due .sized) at (mark-column (due .tree) (c .times) (c .places) (c .marks) long-times long-places long-marks (drop n (g .spare .marks))) i)
+      let l = due .cells-long in
+      rw (sized c) λ i. run (times-of c l (drop n (g .spare .times)) i) (places-of c l (drop n (g .spare .places)) i) (marks-of c l (drop n (g .spare .marks)) i)
 
-  times-at-entry : column timeOf tree List.[] ≡ take n (g .cells' .times)
-  times-at-entry = rw (due .sized, append-nil) at (time-column (due .tree) (g .cells' .times) (g .cells' .places) (g .cells' .marks) long-times long-places long-marks List.[])
+  times-at-start : column timeOf tree List.[] ≡ take n (start .times)
+  times-at-start = rw append-nil at (times-of start start-long List.[])
 
-  module _ (r : Result) (ws₀ ws : List ℕ) (ts : List Float)
-      (load : ws₀ ≡ loadWords (g .kinds) ends (g .cells' .places) (g .cells' .marks) 0 n (replicate 260 0))
+  module _ (r : Result) (ws₀ ws : List ℕ) (ts₀ ts : List Float)
+      (begun : Begun fresh (g .kinds) ends (g .cells') n ws₀ ts₀)
       (walk : flat.tick binary64 (lent (g .limits) (g .statuses) (g .leftovers)) mostDeep 0 (dt (g .event))
-      (set (set ws₀ 256 (g .fuel)) 259 (bit (updates (g .event)))) (take n (g .cells' .times))
+      (set (set ws₀ 256 (g .fuel)) 259 (bit (updates (g .event)))) (take n ts₀)
       ≡ out (r .seen) (r .left) ws (take n ts))
-      (behind : drop n ts ≡ drop n (g .cells' .times))
+      (stays : drop n ts ≡ drop n ts₀)
       (small : g .fuel < 2 ^ 32)
       (spare : Run) (copied : spare ≡ ontoCells n (g .cells') (g .spare)) where
+    behind : drop n ts ≡ drop n (g .cells' .times)
+    behind = stays ∙ begun .behind
+
     abbrev Given-out : Out Tree → Type 0
     Given-out o = Gives (g .ns) (g .statuses) (g .leftovers) (g .fuel) (updates (g .event)) List.[] n o (out (r .seen) (r .left) ws (take n ts))
 
     words-loaded : set (set ws₀ 256 (g .fuel)) 259 (bit (updates (g .event))) ≡ working tree (g .fuel) 0 (updates (g .event))
     words-loaded =
         let few : size (due .tree) ≤ 256 = rw (due .sized) (due .few) in
-        rw (load, ← due .sized) (trees.loaded (g .kinds) (g .ns) (g .limits) ends (g .cells' .times) (g .cells' .places) (g .cells' .marks) (due .tree) (g .fuel)
-        (updates (g .event)) (due .held) few long-times long-places long-marks)
+        rw (begun .words) (rw (due .sized) at (trees.loaded (g .kinds) (g .ns) (g .limits) ends (start .times) (start .places) (start .marks) (due .tree) (g .fuel)
+        (updates (g .event)) (due .stands) few (long-times start start-long) (long-places start start-long) (long-marks start start-long)))
 
     given-out : Given-out outcome
     given-out =
-        let cs = cells (g .cells' .times) (g .cells' .places) (g .cells' .marks) in
-        let h = holds (g .kinds) (g .ns) (g .limits) ends (due .tree) cs (due .held) in
-        let f = fits (g .kinds) (g .ns) (g .limits) ends (due .tree) cs (due .behind) (due .held) (due .fine) in
-        let w = whole binary64 (g .ns) (g .limits) (g .statuses) (g .leftovers) tree (updates (g .event)) (dt (g .event)) (g .fuel) List.[] h f tree-deep (rw tree-size (due .few)) small in
-        rw (parted (g .event), ← words-loaded, times-at-entry, walk, tree-size) at w
+        let cs = cells (start .times) (start .places) (start .marks) in
+        let h = holds (g .kinds) (g .ns) (g .limits) ends (due .tree) cs (due .stands) in
+        let f = fits (g .kinds) (g .ns) (g .limits) ends (due .tree) cs (due .behind) (due .stands) (due .fine) in
+        let w = whole binary64 (g .ns) (g .limits) (g .statuses) (g .leftovers) tree (updates (g .event)) (dt (g .event)) (g .fuel) List.[] h f tree-deep (rw (sized start) (due .few)) small in
+        rw (parted (g .event), ← words-loaded, times-at-start, ← begun .times, walk, sized start) at w
 
-    spare-left : ontoRun tree (g .spare) ≡ spare
+    spare-left : ontoRun before (g .spare) ≡ spare
     spare-left = spared ∙ sym copied
 
     -- ---- a walk to its end
@@ -193,8 +234,8 @@ module _ {g : Given} {ends : List ℕ} {n : ℕ} (due : Due g ends n) where
         few-shown : size (shown t) ≤ 256
         few-shown = rw (size-shown 0 t) few
 
-        sized : size (shown t) ≡ n
-        sized = size-shown 0 t ∙ e .sized
+        sized-shown : size (shown t) ≡ n
+        sized-shown = size-shown 0 t ∙ e .sized
 
         fits-then : Fits (shown t)
         fits-then = fits-shown 0 t (e .fits)
@@ -215,14 +256,14 @@ module _ {g : Given} {ends : List ℕ} {n : ℕ} (due : Due g ends n) where
         )
 
         places-left : column placeOf t (drop (size t) (g .cells' .places)) ≡ ps
-        places-left = rw (puts, words-shown, ← sized, ← places-shown t, ← size-shown 0 t) (sym (put-places (shown t) f (e .used) (updates (g .event)) (g .cells' .places) fits-then few-shown))
+        places-left = rw (puts, words-shown, ← sized-shown, ← places-shown t, ← size-shown 0 t) (sym (put-places (shown t) f (e .used) (updates (g .event)) (g .cells' .places) fits-then few-shown))
 
         marks-left : column markOf t (drop (size t) (g .cells' .marks)) ≡ ms
-        marks-left = rw (putm, words-shown, ← sized, ← marks-shown t, ← size-shown 0 t) (sym (put-marks (shown t) f (e .used) (updates (g .event)) (g .cells' .marks) fits-then few-shown))
+        marks-left = rw (putm, words-shown, ← sized-shown, ← marks-shown t, ← size-shown 0 t) (sym (put-marks (shown t) f (e .used) (updates (g .event)) (g .cells' .marks) fits-then few-shown))
 
         board-left : ontoBoard (shown t) (g .board) ≡ bs
         unfolding ontoBoard
-        board-left = rw (putb, words-shown, ← sized) (sym (put-board (shown t) f (e .used) (updates (g .event)) (g .board) fits-then few-shown))
+        board-left = rw (putb, words-shown, ← sized-shown) (sym (put-board (shown t) f (e .used) (updates (g .event)) (g .board) fits-then few-shown))
 
         cells-left : ontoRun t (g .cells') ≡ run ts ps ms
         unfolding ontoRun
@@ -234,15 +275,15 @@ module _ {g : Given} {ends : List ℕ} {n : ℕ} (due : Due g ends n) where
         counts-left : counted s (g .record') ≡ rec
         counts-left = rw (counts, seen-is, status-back s)
 
-        ends-so : walked g tree (done s x t (world f ans)) ≡ left a rec (run ts ps ms) spare bs
+        ends-so : walked g before (done s x t (world f ans)) ≡ left a rec (run ts ps ms) spare bs
         ends-so = λ i. left (says-ticked i) (counts-left i) (cells-left i) (spare-left i) (board-left i)
 
-      goes-so : (o : Out Tree) → Given-out o → walked g tree o ≡ left a rec (run ts ps ms) spare bs
+      goes-so : (o : Out Tree) → Given-out o → walked g before o ≡ left a rec (run ts ps ms) spare bs
       goes-so (done s x t (world f ans)) e = ends-so s x t f ans e
       goes-so (asks m x) e = absurd (goes-not (e .is) goes)
       goes-so short e = absurd (goes-not (e .is) goes)
 
-      pub carried : tickCall g ≡ left a rec (run ts ps ms) spare bs
+      pub carried : callOf fresh g ≡ left a rec (run ts ps ms) spare bs
       carried = due .walks ∙ goes-so outcome given-out
 
     -- ---- a question, or too little fuel: the times are put back
@@ -253,7 +294,7 @@ module _ {g : Given} {ends : List ℕ} {n : ℕ} (due : Due g ends n) where
       cells-back : g .cells' ≡ run back (g .cells' .places) (g .cells' .marks)
       cells-back = λ i. run (times-back i) (g .cells' .places) (g .cells' .marks)
 
-      stops : (o : Out Tree) → Given-out o → walked g tree o ≡ left a (g .record') (run back (g .cells' .places) (g .cells' .marks)) spare (g .board)
+      stops : (o : Out Tree) → Given-out o → walked g before o ≡ left a (g .record') (run back (g .cells' .places) (g .cells' .marks)) spare (g .board)
       stops (done s x t (world f ans)) e = absurd (stops-not s (e .is) stopped)
       stops (asks m x) e =
           let asking : a ≡ Asked m x =
@@ -266,5 +307,5 @@ module _ {g : Given} {ends : List ℕ} {n : ℕ} (due : Due g ends n) where
           let out-of-fuel : a ≡ OutOfFuel = rw (says, eq-eqb (askedOf ws) 0 (rw w (e .asked))) in
           λ i. left (sym out-of-fuel i) (g .record') (cells-back i) (spare-left i) (g .board)
 
-      pub put-back : tickCall g ≡ left a (g .record') (run back (g .cells' .places) (g .cells' .marks)) spare (g .board)
+      pub put-back : callOf fresh g ≡ left a (g .record') (run back (g .cells' .places) (g .cells' .marks)) spare (g .board)
       put-back = due .walks ∙ stops outcome given-out

@@ -30,7 +30,7 @@ enum Timed {
 }
 
 // Whether a run has n cells or more.
-pub fn long_enough(times: &[f64], places: &[u16], marks: &[u8], n: usize) -> bool
+fn long_enough(times: &[f64], places: &[u16], marks: &[u8], n: usize) -> bool
     ensures { λ r. ⌜ r ≡ leb n (runLength (run (now (times .entry)) (now (places .entry)) (now (marks .entry)))) ⌝ }
 {
     if times.len() < n {
@@ -54,7 +54,7 @@ fn event_of(event: Event) -> Timed
     }
 }
 
-// Refusals 3, 4, 9, 5, 6 and 2. Of a tree that is due, ends says where each subtree ends.
+// Refusals 3, 4, 9, 5, 6 and 2; a tree that starts fresh knows no 9 and no 2. Of a tree that is due, ends says where each subtree ends.
 pub fn checks(
     record: Record,
     kinds: &[u8],
@@ -71,10 +71,11 @@ pub fn checks(
     event: Event,
     statuses: &[u8],
     leftovers: &[f64],
+    fresh: bool,
 ) -> Gate
     requires { ⌜ length (now ends) ≡ 256 ⌝ }
     ensures { λ r. ⌜
-        ((fuel : ℕ) → Passed (given «record» (now (kinds .entry)) (now (ns .entry)) (now (limits .entry))
+        ((fuel : ℕ) → Passed fresh (given «record» (now (kinds .entry)) (now (ns .entry)) (now (limits .entry))
         (run (now (times .entry)) (now (places .entry)) (now (marks .entry)))
         (run (now («spare_times» .entry)) (now («spare_places» .entry)) (now («spare_marks» .entry))) (now (board .entry)) event fuel (now (statuses .entry))
         (now (leftovers .entry))) (now (ends .exit)) r)
@@ -92,8 +93,10 @@ pub fn checks(
             if board.len() < n {
                 return Gate::Refused(Answer::TooShort);
             }
-            if let Found::Faulty(p) = check_cells(kinds, ns, ends, times, places, marks, n) {
-                return Gate::Refused(Answer::BadCell(p));
+            if !fresh {
+                if let Found::Faulty(p) = check_cells(kinds, ns, ends, times, places, marks, n) {
+                    return Gate::Refused(Answer::BadCell(p));
+                }
             }
             let Timed::Good(used) = event_of(event) else {
                 return Gate::Refused(Answer::BadTime);
@@ -101,7 +104,7 @@ pub fn checks(
             if let Answered::Bad(i) = bad_answer(statuses, leftovers) {
                 return Gate::Refused(Answer::BadAnswer(i));
             }
-            if record.finished {
+            if !fresh && record.finished {
                 return Gate::Refused(Answer::Finished);
             }
             Gate::Open(n, used)

@@ -9,22 +9,12 @@ use lib.Dec.{T, leb}
 use lib.ListN.{length}
 use Rattle.rules.specs.declared.answer.Answer.{Answer}
 use Rattle.rules.specs.declared.answer.Answer.the-variants as says
-use Rattle.rules.specs.declared.answer.ResetAnswer.{ResetAnswer}
-use Rattle.rules.specs.declared.answer.ResetAnswer.the-variants as resetSays
 use Rattle.rules.specs.declared.answer.Record.{Record}
 use Rattle.rules.specs.Tree.{Tree, size}
 use Rattle.rules.specs.Table.{good, table}
-use Rattle.rules.specs.Call.{Run, Given, Left, runLength, tooShort, tickCall, ResetLeft, resetCall}
+use Rattle.rules.specs.Call.{Run, Given, Left, runLength, tooShort}
 use Rattle.calls.specs.Memory.{held, firstCells, held-first}
-use Rattle.calls.specs.View.{NotWalked, heldBy}
-
--- a tick or a reset, with all that it is given; of that a reset looks at table, record and cells alone
-pub data Call : Type 0 where
-  ticks : Given → Call
-  resets : Given → Call
-
-abbrev pub resetOf : Given → ResetLeft
-resetOf g = resetCall (g .kinds) (g .ns) (g .limits) (g .record') (g .cells')
+use Rattle.calls.specs.View.{Call, leftBy, heldBy, NotWalked}
 
 -- ---- answer 0
 abbrev pub isTicked : Answer → Bool
@@ -38,11 +28,6 @@ isTicked (says.BadAnswer i) = false
 isTicked says.OutOfFuel = false
 isTicked (says.BadCell p) = false
 
-abbrev pub isReset : ResetAnswer → Bool
-isReset resetSays.Reset = true
-isReset (resetSays.BadTable p) = false
-isReset resetSays.TooShort = false
-
 pub not-ticked : (a : Answer) → NotWalked a → isTicked a ≡ false
 not-ticked (says.Ticked s r v u) h = absurd h
 not-ticked (says.Asked n x) h = refl
@@ -54,7 +39,7 @@ not-ticked (says.BadAnswer i) h = refl
 not-ticked says.OutOfFuel h = refl
 not-ticked (says.BadCell p) h = refl
 
--- what is asked of a tick answered 0, by the number of answers that it says it used; of a reset answered 0
+-- what is asked of a call answered 0, by the number of answers that it says it used
 abbrev pub OfTicked : Answer → (ℕ → Type 0) → Type 0
 OfTicked (says.Ticked s r v u) P = P u
 OfTicked (says.Asked n x) P = Unit {0}
@@ -66,13 +51,8 @@ OfTicked (says.BadAnswer i) P = Unit {0}
 OfTicked says.OutOfFuel P = Unit {0}
 OfTicked (says.BadCell p) P = Unit {0}
 
-abbrev pub OfReset : ResetAnswer → Type 0 → Type 0
-OfReset resetSays.Reset P = P
-OfReset (resetSays.BadTable p) P = Unit {0}
-OfReset resetSays.TooShort P = Unit {0}
-
 -- ---- what stands
--- record and cells, and how many ticks were carried out since the start or the last reset
+-- record and cells, and how many ticks were carried out since the start or, itself counted, the last restart
 pub record Standing : Type 0 where
   pub record' : Record
   pub cells' : Run
@@ -81,15 +61,16 @@ pub record Standing : Type 0 where
 abbrev pub stands : Record → Run → ℕ → Standing
 stands r c k = record { record' = r; cells' = c; carried = k }
 
-abbrev pub afterTick : Standing → Left → Standing
-afterTick st l = cond (isTicked (l .answer)) (stands (l .record') (l .cells') (suc (st .carried))) st
+-- the ticks carried out that a call is counted behind: a restart is the first
+abbrev pub behind : Call → Standing → ℕ
+behind a st = cond (a .fresh) 0 (st .carried)
 
-abbrev pub afterReset : Standing → ResetLeft → Standing
-afterReset st l = cond (isReset (l .answer)) (stands (l .record') (l .cells') 0) st
+-- a call that is not answered 0 leaves what stands
+abbrev pub afterLeft : ℕ → Standing → Left → Standing
+afterLeft k st l = cond (isTicked (l .answer)) (stands (l .record') (l .cells') (suc k)) st
 
 unfoldable pub after : Standing → Call → Standing
-after st (ticks g) = afterTick st (tickCall g)
-after st (resets g) = afterReset st (resetOf g)
+after st a = afterLeft (behind a st) st (leftBy a)
 
 unfoldable pub afterAll : Standing → List Call → Standing
 unfolding after
@@ -97,19 +78,19 @@ afterAll st List.[] = st
 afterAll st (List._∷_ a cs) = afterAll (after st a) cs
 
 -- ---- a call of the tree t takes up what stands
--- its table, unless that is refused, the record and, if enough are lent, the cells of the table's nodes
-pub record TakesUp (t : Tree) (st : Standing) (g : Given) : Type 0 where
-  pub the-table : (u : Tree) → table (g .kinds) (g .ns) (g .limits) ≡ good u → u ≡ t
-  pub the-record : g .record' ≡ st .record'
-  pub the-cells : T (leb (size t) (runLength (g .cells'))) → firstCells (size t) (g .cells') ≡ firstCells (size t) (st .cells')
+-- its table, unless that is refused; a tick the record and, if enough are lent, the cells of the table's nodes too
+pub record TakesUp (t : Tree) (st : Standing) (a : Call) : Type 0 where
+  pub the-table : (u : Tree) → table (a .given' .kinds) (a .given' .ns) (a .given' .limits) ≡ good u → u ≡ t
+  pub the-record : a .fresh ≡ false → a .given' .record' ≡ st .record'
+  pub the-cells : a .fresh ≡ false → T (leb (size t) (runLength (a .given' .cells'))) → firstCells (size t) (a .given' .cells') ≡ firstCells (size t) (st .cells')
 
 enough : (a b c : Bool) → not a || not b || not c ≡ false → T a
 enough true b c e = tt
 enough false b c e = subst T e tt
 
-pub long-cells : (g : Given) (n : ℕ) → tooShort g n ≡ false → T (leb n (runLength (g .cells')))
+long-cells : (g : Given) (n : ℕ) → tooShort g n ≡ false → T (leb n (runLength (g .cells')))
 long-cells g n e = enough (leb n (runLength (g .cells'))) (leb n (runLength (g .spare))) (leb n (length (g .board))) e
 
--- then its walk is that of the tree that stands
-pub same-tree : (t : Tree) (st : Standing) (g : Given) → TakesUp t st g → T (leb (size t) (runLength (g .cells'))) → heldBy t g ≡ held t (st .cells')
-same-tree t st g up h = held-first t (g .cells') (st .cells') (up .the-cells h)
+-- then a tick's walk is that of the tree that stands
+pub same-tree : (t : Tree) (st : Standing) (a : Call) → TakesUp t st a → a .fresh ≡ false → tooShort (a .given') (size t) ≡ false → heldBy t (a .given') ≡ held t (st .cells')
+same-tree t st a up e h = held-first t (a .given' .cells') (st .cells') (up .the-cells e (long-cells (a .given') (size t) h))

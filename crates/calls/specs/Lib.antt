@@ -5,6 +5,6 @@ pub mod Tables
 pub mod View
 pub mod Walks
 pub mod History
-pub mod Resets
+pub mod Fresh
 pub mod Invariant
 pub mod Zeros

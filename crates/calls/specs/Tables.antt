@@ -5,12 +5,14 @@ use mathlib.Core.List.{List}
 use mathlib.Core.List
 use Prim.Native.Nat.{ℕ, zero, suc, _≤_, max}
 use native.Mathlib.Omega.{arith}
+use borrow.Author.Tests.{le-leb}
 use lib.Dec.{T, leb, ltb, leb→le}
 use lib.Ieee.{Float}
 use lib.Ieee.Fits.{and-l, and-r}
-use Rattle.rules.specs.Kinds.{kindOf, children, fewest, most}
+use Rattle.rules.specs.Kinds.{kindOf, children, fewest, most, timed, marksChildren}
 use Rattle.rules.specs.Tree.{freshCell, Tree, node, Forest, [], _∷_, fresh, freshAll, depth, depths, count}
 use Rattle.rules.specs.Table.{mostNodes, mostDeep, Row, row, rows, countAllowed, limitAllowed, rowAllowed, Read, got, fault, _andThen_, readChildren, readTree, Table, good, bad, whole, table}
+use Rattle.rules.specs.Cells.{lastPlace, cellAllowed, Found, faulty, none, badCell, badCells}
 use Rattle.calls.specs.Memory.{clear, clearAll}
 use Rattle.rules.specs.declared.behavior.Kind.{Kind}
 
@@ -104,6 +106,30 @@ mutual
   tableds-clear : (ts : Forest) → Tableds ts → clearAll ts ≡ ts
   tableds-clear [] h = refl
   tableds-clear (t ∷ ts) h = λ i. tabled-clear t (h .0) i ∷ tableds-clear ts (h .1) i
+
+-- and so none of its cells is bad
+fresh-allowed : (mayEnd : Bool) (k : Kind) (n : ℕ) → cellAllowed false mayEnd k n freshCell ≡ true
+unfolding cellAllowed
+fresh-allowed mayEnd k n = on (timed k) (lastPlace k n)
+  where
+    on : (b : Bool) (m : ℕ) → cond b true true && leb 0 m ≡ true
+    on true m = le-leb 0 m (omega arith)
+    on false m = le-leb 0 m (omega arith)
+
+fine-then : (o : Found) (at : ℕ) (rest : ℕ → Found) → o ≡ none at → (q : ℕ) × (rest at ≡ none q) → (q : ℕ) × (elim o [ faulty p ↦ faulty p | none z ↦ rest z ] ≡ none q)
+fine-then o at rest e h = rw e h
+
+mutual
+  unfolding badCell
+
+  pub tabled-fine : (t : Tree) → Tabled t → (mayEnd : Bool) (at : ℕ) → (q : ℕ) × (badCell false mayEnd at t ≡ none q)
+  tabled-fine (node k n l c b ts) h mayEnd at = rw (h .3, fresh-allowed mayEnd k n) (tableds-fine ts (h .5) (marksChildren k) (suc at))
+
+  tableds-fine : (ts : Forest) → Tableds ts → (mayEnd : Bool) (at : ℕ) → (q : ℕ) × (badCells false mayEnd at ts ≡ none q)
+  tableds-fine [] h mayEnd at = (at, refl)
+  tableds-fine (t ∷ ts) h mayEnd at =
+      let f = tabled-fine t (h .0) mayEnd at in
+      fine-then (badCell false mayEnd at t) (f .0) (λ (z : ℕ). badCells false mayEnd z ts) (f .1) (tableds-fine ts (h .1) mayEnd (f .0))
 
 -- ---- a table has one tree
 abbrev treeOr : Tree → Table → Tree

@@ -1,37 +1,64 @@
--- A tick call in two ways: it is carried out, and then it is one walk of the rules over the tree that the cells hold; or record and cells stay.
-use mathlib.Core.Path.{_≡_, refl}
+-- A call in two ways: it comes to its walk, and then it is one walk of the rules, of a tick over the tree that the cells hold, of a restart over the
+-- table's fresh tree; or it is refused, and all stays.
+use mathlib.Core.Path.{_≡_, refl, subst}
 use mathlib.Core.Bool.{Bool, true, false, cond}
 use Prim.Native.Nat.{ℕ}
-use lib.Ieee.{binary64}
+use lib.Dec.{T}
 use Rattle.rules.specs.declared.answer.Answer.{Answer}
 use Rattle.rules.specs.declared.answer.Answer.the-variants.{Ticked, Asked, Finished, BadTable, TooShort, BadTime, BadAnswer, OutOfFuel, BadCell}
 use Rattle.rules.specs.Tree.{Tree, size}
-use Rattle.rules.specs.Outcome.{world, Out}
-use Rattle.rules.specs.State.{tick}
-use Rattle.rules.specs.Table.{mostDeep, Table, good, bad, table}
+use Rattle.rules.specs.Outcome.{Out}
+use Rattle.rules.specs.Table.{Table, good, bad, table}
 use Rattle.rules.specs.Cells.{Found, faulty, none, badCell}
-use Rattle.rules.specs.Call.{Given, Left, answers, cleanedEvent, badAnswer, timeAllowed, refused, walked, tickTree, tooShort, tickCall}
-use Rattle.calls.specs.Memory.{held}
+use Rattle.rules.specs.Call.{Given, Left, badAnswer, timeAllowed, refused, walked, tooShort, onTable, onInputs, walkFrom, tickCall, restartCall}
+use Rattle.calls.specs.Shape.{shape}
+use Rattle.calls.specs.Memory.{held, held-shape}
+use Rattle.calls.specs.Tables.{tabled, tabled-fine}
 
--- the tree of the table, and the walk
+-- a tick or, with a tree that starts fresh, a restart; and all that it is given
+pub record Call : Type 0 where
+  pub given' : Given
+  pub fresh : Bool
+
+abbrev pub ticks : Given → Call
+ticks g = record { given' = g; fresh = false }
+
+abbrev pub restarts : Given → Call
+restarts g = record { given' = g; fresh = true }
+
+abbrev pub leftBy : Call → Left
+leftBy a = cond (a .fresh) (restartCall (a .given')) (tickCall (a .given'))
+
+-- the tree that the cells at entry hold
 abbrev pub heldBy : Tree → Given → Tree
 heldBy t g = held t (g .cells')
 
-abbrev pub walk : Tree → Given → Out Tree
-walk t g = tick binary64 mostDeep (heldBy t g) (cleanedEvent (g .event)) (world (g .fuel) (answers (g .statuses) (g .leftovers)))
+-- the tree that the walk starts from, and the walk
+abbrev pub startOf : Tree → Call → Tree
+startOf t a = cond (a .fresh) t (heldBy t (a .given'))
 
--- what a refusal and a walk that does not end in answer 0 leave
-abbrev pub Stays : Given → Left → Type 0
-Stays g l = (l .record' ≡ g .record') × (l .cells' ≡ g .cells') × (l .board ≡ g .board)
+abbrev pub walk : Tree → Call → Out Tree
+walk t a = walkFrom (a .given') (startOf t a)
 
--- a call that came to its walk: the table is good, the memory long enough, every cell allowed, the time and the answers too, and it has not finished
-pub record Walked (g : Given) (t : Tree) : Type 0 where
-  pub table-good : table (g .kinds) (g .ns) (g .limits) ≡ good t
-  pub long-enough : tooShort g (size t) ≡ false
-  pub cells-good : (at : ℕ) × (badCell false false 0 (heldBy t g) ≡ none at)
-  pub time-good : timeAllowed (g .event) ≡ true
-  pub answers-good : (i : ℕ) × (badAnswer 0 (g .statuses) (g .leftovers) ≡ none i)
-  pub not-finished : g .record' .finished ≡ false
+abbrev pub walkedBy : Tree → Call → Left
+walkedBy t a = walked (a .given') (heldBy t (a .given')) (walk t a)
+
+pub start-shape : (t : Tree) (a : Call) → shape (startOf t a) ≡ shape t
+start-shape t a = on (a .fresh)
+  where
+    on : (b : Bool) → shape (cond b t (heldBy t (a .given'))) ≡ shape t
+    on true = refl
+    on false = held-shape t (a .given' .cells')
+
+-- a call that came to its walk: the table is good, the memory long enough, every cell that the walk starts from allowed, the time and the answers
+-- too, and the tree of a tick has not finished
+pub record Walked (a : Call) (t : Tree) : Type 0 where
+  pub table-good : table (a .given' .kinds) (a .given' .ns) (a .given' .limits) ≡ good t
+  pub long-enough : tooShort (a .given') (size t) ≡ false
+  pub cells-good : (at : ℕ) × (badCell false false 0 (startOf t a) ≡ none at)
+  pub time-good : timeAllowed (a .given' .event) ≡ true
+  pub answers-good : (i : ℕ) × (badAnswer 0 (a .given' .statuses) (a .given' .leftovers) ≡ none i)
+  pub not-finished : a .fresh ≡ false → a .given' .record' .finished ≡ false
 
 abbrev pub NotWalked : Answer → Type 0
 NotWalked (Ticked s r v u) = ⊥
@@ -44,80 +71,90 @@ NotWalked (BadAnswer i) = Unit {0}
 NotWalked OutOfFuel = ⊥
 NotWalked (BadCell p) = Unit {0}
 
--- a refusal, and why
-abbrev pub Why : Given → Answer → Type 0
-Why g (Ticked s r v u) = ⊥
-Why g (Asked n x) = ⊥
-Why g OutOfFuel = ⊥
-Why g (BadTable p) = table (g .kinds) (g .ns) (g .limits) ≡ bad p
-Why g TooShort = (t : Tree) × (table (g .kinds) (g .ns) (g .limits) ≡ good t) × (tooShort g (size t) ≡ true)
-Why g (BadCell p) = (t : Tree) × (table (g .kinds) (g .ns) (g .limits) ≡ good t) × (tooShort g (size t) ≡ false) × (badCell false false 0 (heldBy t g) ≡ faulty p)
-Why g BadTime = timeAllowed (g .event) ≡ false
-Why g (BadAnswer i) = badAnswer 0 (g .statuses) (g .leftovers) ≡ faulty i
-Why g Finished = g .record' .finished ≡ true
+-- a refusal, and why; 9 and 2 are a tick's alone
+abbrev pub Why : Call → Answer → Type 0
+Why a (Ticked s r v u) = ⊥
+Why a (Asked n x) = ⊥
+Why a OutOfFuel = ⊥
+Why a (BadTable p) = table (a .given' .kinds) (a .given' .ns) (a .given' .limits) ≡ bad p
+Why a TooShort = (t : Tree) × (table (a .given' .kinds) (a .given' .ns) (a .given' .limits) ≡ good t) × (tooShort (a .given') (size t) ≡ true)
+Why a (BadCell p) = (t : Tree) × (table (a .given' .kinds) (a .given' .ns) (a .given' .limits) ≡ good t) × (tooShort (a .given') (size t) ≡ false)
+    × (badCell false false 0 (heldBy t (a .given')) ≡ faulty p) × (a .fresh ≡ false)
+Why a BadTime = timeAllowed (a .given' .event) ≡ false
+Why a (BadAnswer i) = badAnswer 0 (a .given' .statuses) (a .given' .leftovers) ≡ faulty i
+Why a Finished = (a .given' .record' .finished ≡ true) × (a .fresh ≡ false)
 
-pub not-walked : (g : Given) (a : Answer) → Why g a → NotWalked a
-not-walked g (Ticked s r v u) h = h
-not-walked g (Asked n x) h = h
-not-walked g OutOfFuel h = h
-not-walked g (BadTable p) h = tt
-not-walked g TooShort h = tt
-not-walked g (BadCell p) h = tt
-not-walked g BadTime h = tt
-not-walked g (BadAnswer i) h = tt
-not-walked g Finished h = tt
+pub not-walked : (a : Call) (b : Answer) → Why a b → NotWalked b
+not-walked a (Ticked s r v u) h = h
+not-walked a (Asked n x) h = h
+not-walked a OutOfFuel h = h
+not-walked a (BadTable p) h = tt
+not-walked a TooShort h = tt
+not-walked a (BadCell p) h = tt
+not-walked a BadTime h = tt
+not-walked a (BadAnswer i) h = tt
+not-walked a Finished h = tt
 
-pub data View (g : Given) : Left → Type 0 where
-  walking : (t : Tree) → Walked g t → View g (walked g (heldBy t g) (walk t g))
-  refusing : (a : Answer) → Why g a → View g (refused g a)
+pub data View (a : Call) : Left → Type 0 where
+  walking : (t : Tree) → Walked a t → View a (walkedBy t a)
+  refusing : (b : Answer) → Why a b → View a (refused (a .given') b)
 
-module _ (g : Given) where
-  by-finished : (t : Tree) → ((n : g .record' .finished ≡ false) → Walked g t) → (b : Bool) → g .record' .finished ≡ b → View g (cond b (refused g Finished) (walked g (heldBy t g) (walk t g)))
-  by-finished t w true e = refusing Finished e
-  by-finished t w false e = walking t (w e)
+-- ---- the refusals of both
+module _ (a : Call) where
+  abbrev g : Given
+  g = a .given'
 
-  by-answers : (t : Tree) → ((i : ℕ) → badAnswer 0 (g .statuses) (g .leftovers) ≡ none i → g .record' .finished ≡ false → Walked g t)
-      → (f : Found) → badAnswer 0 (g .statuses) (g .leftovers) ≡ f
-      → View g (elim f [
-        | faulty i ↦ refused g (BadAnswer i)
-        | none _ ↦ cond (g .record' .finished) (refused g Finished) (walked g (heldBy t g) (walk t g))
-      ])
-  by-answers t w (faulty i) e = refusing (BadAnswer i) e
-  by-answers t w (none i) e = by-finished t (w i e) (g .record' .finished) refl
+  on-inputs : (due : Left) → (timeAllowed (g .event) ≡ true → (i : ℕ) → badAnswer 0 (g .statuses) (g .leftovers) ≡ none i → View a due) → View a (onInputs g due)
+  on-inputs due f = by-time (timeAllowed (g .event)) refl
+    where
+      by-answers : timeAllowed (g .event) ≡ true → (o : Found) → badAnswer 0 (g .statuses) (g .leftovers) ≡ o
+          → View a (elim o [ faulty i ↦ refused g (BadAnswer i) | none _ ↦ due ])
+      by-answers time (faulty i) e = refusing (BadAnswer i) e
+      by-answers time (none i) e = f time i e
 
-  by-time : (t : Tree) → ((i : ℕ) → timeAllowed (g .event) ≡ true → badAnswer 0 (g .statuses) (g .leftovers) ≡ none i → g .record' .finished ≡ false → Walked g t)
-      → (b : Bool) → timeAllowed (g .event) ≡ b
-      → View g (cond b
-      (elim (badAnswer 0 (g .statuses) (g .leftovers)) [
-        | faulty i ↦ refused g (BadAnswer i)
-        | none _ ↦ cond (g .record' .finished) (refused g Finished) (walked g (heldBy t g) (walk t g))
-      ])
-      (refused g BadTime))
-  by-time t w true e = by-answers t (λ i. w i e) (badAnswer 0 (g .statuses) (g .leftovers)) refl
-  by-time t w false e = refusing BadTime e
+      by-time : (b : Bool) → timeAllowed (g .event) ≡ b
+          → View a (cond b (elim (badAnswer 0 (g .statuses) (g .leftovers)) [ faulty i ↦ refused g (BadAnswer i) | none _ ↦ due ]) (refused g BadTime))
+      by-time true e = by-answers e (badAnswer 0 (g .statuses) (g .leftovers)) refl
+      by-time false e = refusing BadTime e
 
-  by-tree : (t : Tree) → ((i : ℕ) → timeAllowed (g .event) ≡ true → badAnswer 0 (g .statuses) (g .leftovers) ≡ none i → g .record' .finished ≡ false → Walked g t) → View g (tickTree g (heldBy t g))
-  unfolding tickTree
-  by-tree t w = by-time t w (timeAllowed (g .event)) refl
+  on-table : (due : Tree → Left) → ((t : Tree) → table (g .kinds) (g .ns) (g .limits) ≡ good t → tooShort g (size t) ≡ false → View a (due t)) → View a (onTable g due)
+  on-table due f = by-table (table (g .kinds) (g .ns) (g .limits)) refl
+    where
+      by-length : (t : Tree) → table (g .kinds) (g .ns) (g .limits) ≡ good t → (b : Bool) → tooShort g (size t) ≡ b → View a (cond b (refused g TooShort) (due t))
+      by-length t e true s = refusing TooShort (t, e, s)
+      by-length t e false s = f t e s
 
-  by-cells : (t : Tree) → table (g .kinds) (g .ns) (g .limits) ≡ good t → tooShort g (size t) ≡ false → (f : Found) → badCell false false 0 (heldBy t g) ≡ f
-      → View g (elim f [ faulty p ↦ refused g (BadCell p) | none _ ↦ tickTree g (heldBy t g) ])
-  by-cells t e s (faulty p) c = refusing (BadCell p) (t, e, s, c)
-  by-cells t e s (none at) c =
-      by-tree t λ i time ans unfinished. record { table-good = e; long-enough = s; cells-good = (at, c); time-good = time; answers-good = (i, ans); not-finished = unfinished }
+      by-table : (o : Table) → table (g .kinds) (g .ns) (g .limits) ≡ o
+          → View a (elim o [ bad p ↦ refused g (BadTable p) | good t ↦ cond (tooShort g (size t)) (refused g TooShort) (due t) ])
+      by-table (good t) e = by-length t e (tooShort g (size t)) refl
+      by-table (bad p) e = refusing (BadTable p) e
 
-  by-length : (t : Tree) → table (g .kinds) (g .ns) (g .limits) ≡ good t → (b : Bool) → tooShort g (size t) ≡ b
-      → View g (cond b (refused g TooShort) (elim (badCell false false 0 (heldBy t g)) [ faulty p ↦ refused g (BadCell p) | none _ ↦ tickTree g (heldBy t g) ]))
-  by-length t e true s = refusing TooShort (t, e, s)
-  by-length t e false s = by-cells t e s (badCell false false 0 (heldBy t g)) refl
+-- ---- each call
+by-finished : (g : Given) (t : Tree) → (g .record' .finished ≡ false → Walked (ticks g) t) → (b : Bool) → g .record' .finished ≡ b → View (ticks g) (cond b (refused g Finished) (walkedBy t (ticks g)))
+by-finished g t w true e = refusing Finished (e, refl)
+by-finished g t w false e = walking t (w e)
 
-  by-table : (o : Table) → table (g .kinds) (g .ns) (g .limits) ≡ o → View g (elim o [
-    | bad p ↦ refused g (BadTable p)
-    | good t ↦ cond (tooShort g (size t)) (refused g TooShort) (elim (badCell false false 0 (heldBy t g)) [ faulty p ↦ refused g (BadCell p) | none _ ↦ tickTree g (heldBy t g) ])
-  ])
-  by-table (good t) e = by-length t e (tooShort g (size t)) refl
-  by-table (bad p) e = refusing (BadTable p) e
+by-cells : (g : Given) (t : Tree) → table (g .kinds) (g .ns) (g .limits) ≡ good t → tooShort g (size t) ≡ false → (f : Found) → badCell false false 0 (heldBy t g) ≡ f
+    → View (ticks g) (elim f [
+      | faulty p ↦ refused g (BadCell p)
+      | none _ ↦ onInputs g (cond (g .record' .finished) (refused g Finished) (walkedBy t (ticks g)))
+    ])
+by-cells g t e s (faulty p) c = refusing (BadCell p) (t, e, s, c, refl)
+by-cells g t e s (none at) c = on-inputs (ticks g) _ λ time i ans.
+    by-finished g t (λ unfinished. record { table-good = e; long-enough = s; cells-good = (at, c); time-good = time; answers-good = (i, ans); not-finished = λ e. unfinished })
+    (g .record' .finished) refl
 
-  pub view : View g (tickCall g)
-  unfolding tickCall
-  view = by-table (table (g .kinds) (g .ns) (g .limits)) refl
+pub view : (a : Call) → View a (leftBy a)
+unfolding tickCall restartCall
+view a = on (a .given') (a .fresh)
+  where
+    on : (g : Given) (fresh : Bool) → View (record { given' = g; fresh = fresh }) (leftBy (record { given' = g; fresh = fresh }))
+    on g false = on-table (ticks g) _ λ t e s. by-cells g t e s (badCell false false 0 (heldBy t g)) refl
+    on g true = on-table (restarts g) _ λ t e s. on-inputs (restarts g) _ λ time i ans. walking t (record {
+      table-good = e;
+      long-enough = s;
+      cells-good = tabled-fine t (tabled (g .kinds) (g .ns) (g .limits) t e .0) false 0;
+      time-good = time;
+      answers-good = (i, ans);
+      not-finished = λ q. absurd (subst T q tt);
+    })

@@ -1,4 +1,4 @@
--- A call whose table, memory, cells, time and answers pass, and that has not finished, is the walk of the rules.
+-- A call whose table, memory, cells, time and answers pass, and of a tick that the tree has not finished, is the walk of the rules.
 use mathlib.Core.Path.{_≡_, sym, ap, _∙_, subst}
 use mathlib.Core.Bool.{false}
 use lib.Dec.{T}
@@ -7,9 +7,9 @@ use Rattle.rules.specs.declared.answer.Answer.the-variants.{Ticked, Asked, Fini
 use Rattle.rules.specs.Tree.{Tree, size}
 use Rattle.rules.specs.Table.{Table, good, bad, table}
 use Rattle.rules.specs.Cells.{Found, faulty, none, badCell}
-use Rattle.rules.specs.Call.{Given, Left, tooShort, walked, tickCall}
+use Rattle.rules.specs.Call.{Left, tooShort}
 use Rattle.calls.specs.Tables.{one-tree}
-use Rattle.calls.specs.View.{heldBy, walk, Walked, Why, View, walking, refusing, view}
+use Rattle.calls.specs.View.{Call, leftBy, heldBy, walkedBy, Walked, Why, View, walking, refusing, view}
 
 abbrev IsGood : Table → Type 0
 IsGood (good t) = Unit {0}
@@ -19,21 +19,25 @@ abbrev IsNone : Found → Type 0
 IsNone (faulty p) = ⊥
 IsNone (none i) = Unit {0}
 
-clash : (g : Given) (t : Tree) (a : Answer) → Walked g t → Why g a → ⊥
-clash g t (Ticked s r v u) w y = y
-clash g t (Asked n x) w y = y
-clash g t OutOfFuel w y = y
-clash g t (BadTable p) w y = subst IsGood (sym (w .table-good) ∙ y) tt
-clash g t TooShort w y = subst T (sym (y .2) ∙ ap (λ (u : Tree). tooShort g (size u)) (one-tree (table (g .kinds) (g .ns) (g .limits)) t (y .0) (w .table-good) (y .1)) ∙ w .long-enough) tt
-clash g t (BadCell p) w y =
-    subst IsNone (sym (w .cells-good .1) ∙ ap (λ (u : Tree). badCell false false 0 (heldBy u g)) (sym (one-tree (table (g .kinds) (g .ns) (g .limits)) t (y .0) (w .table-good) (y .1))) ∙ y .3) tt
-clash g t BadTime w y = subst T (sym (w .time-good) ∙ y) tt
-clash g t (BadAnswer i) w y = subst IsNone (sym (w .answers-good .1) ∙ y) tt
-clash g t Finished w y = subst T (sym y ∙ w .not-finished) tt
+the-tree : (a : Call) (t : Tree) → Walked a t → (u : Tree) → table (a .given' .kinds) (a .given' .ns) (a .given' .limits) ≡ good u → u ≡ t
+the-tree a t w u e = one-tree (table (a .given' .kinds) (a .given' .ns) (a .given' .limits)) t u (w .table-good) e
 
-pub walks : (g : Given) (t : Tree) → Walked g t → tickCall g ≡ walked g (heldBy t g) (walk t g)
-walks g t w = on (tickCall g) (view g)
+clash : (a : Call) (t : Tree) (b : Answer) → Walked a t → Why a b → ⊥
+clash a t (Ticked s r v u) w y = y
+clash a t (Asked n x) w y = y
+clash a t OutOfFuel w y = y
+clash a t (BadTable p) w y = subst IsGood (sym (w .table-good) ∙ y) tt
+clash a t TooShort w y = subst T (sym (y .2) ∙ ap (λ (u : Tree). tooShort (a .given') (size u)) (the-tree a t w (y .0) (y .1)) ∙ w .long-enough) tt
+clash a t (BadCell p) w y =
+    let held : badCell false false 0 (heldBy t (a .given')) ≡ none (w .cells-good .0) = rw (y .4) at (w .cells-good .1) in
+    subst IsNone (sym held ∙ ap (λ (u : Tree). badCell false false 0 (heldBy u (a .given'))) (sym (the-tree a t w (y .0) (y .1))) ∙ y .3) tt
+clash a t BadTime w y = subst T (sym (w .time-good) ∙ y) tt
+clash a t (BadAnswer i) w y = subst IsNone (sym (w .answers-good .1) ∙ y) tt
+clash a t Finished w y = subst T (sym (y .0) ∙ w .not-finished (y .1)) tt
+
+pub walks : (a : Call) (t : Tree) → Walked a t → leftBy a ≡ walkedBy t a
+walks a t w = on (leftBy a) (view a)
   where
-    on : (l : Left) → View g l → l ≡ walked g (heldBy t g) (walk t g)
-    on l (refusing a y) = absurd (clash g t a w y)
-    on l (walking u v) = ap (λ (z : Tree). walked g (heldBy z g) (walk z g)) (one-tree (table (g .kinds) (g .ns) (g .limits)) t u (w .table-good) (v .table-good))
+    on : (l : Left) → View a l → l ≡ walkedBy t a
+    on l (refusing b y) = absurd (clash a t b w y)
+    on l (walking u v) = ap (λ (z : Tree). walkedBy z a) (the-tree a t w u (v .table-good))

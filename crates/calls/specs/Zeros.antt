@@ -1,6 +1,6 @@
 -- Minus zero is taken as plus zero: a call that is given the one for the other says and leaves the same.
 use mathlib.Core.Path.{_≡_, refl, ap, _∙_}
-use mathlib.Core.Bool.{false, cond}
+use mathlib.Core.Bool.{Bool, true, false, cond}
 use mathlib.Core.List.{List, map}
 use mathlib.Core.List
 use Prim.Native.Nat.{ℕ, zero, suc, _-_}
@@ -9,14 +9,13 @@ use lib.ListN.{length}
 use Rattle.rules.specs.declared.event.Event.{Event}
 use Rattle.rules.specs.declared.event.Event.the-variants.{Update, Other}
 use Rattle.rules.specs.declared.answer.Answer.the-variants.{Ticked, Finished, BadTable, TooShort, BadTime, BadAnswer, BadCell}
-use Rattle.rules.specs.declared.answer.Record.{Record}
 use Rattle.rules.specs.Tree.{Tree, size}
 use Rattle.rules.specs.Outcome.{statusOf, world, Out, done, asks, short}
 use Rattle.rules.specs.State.{tick}
 use Rattle.rules.specs.Table.{mostDeep, cleaned, Row, row, rows, good, bad, whole, readTree, table}
-use Rattle.rules.specs.Cells.{cells, withCells, Found, faulty, none, badCell}
+use Rattle.rules.specs.Cells.{Found, faulty, none, badCell}
 use Rattle.rules.specs.Board.{shown}
-use Rattle.rules.specs.Call.{Run, Given, left, answers, answerAllowed, badAnswer, cleanedEvent, timeAllowed, counted, ontoRun, ontoBoard, refused, walked, tickTree, tooShort, tickCall, resetCall}
+use Rattle.rules.specs.Call.{Given, Left, left, answers, answerAllowed, badAnswer, cleanedEvent, timeAllowed, counted, ontoRun, ontoBoard, refused, walked, tooShort, onTable, onInputs, atEntry, walkFrom, tickCall, restartCall}
 use Rattle.rules.specs.Bound.{boundCall}
 
 -- the call with another event, and with other numbers
@@ -81,6 +80,13 @@ bad-twice i (List._∷_ s ss) List.[] = refl
 bad-twice i (List._∷_ s ss) (List._∷_ l ls) = rw (twice l) (ap (λ (o : Found). cond (answerAllowed s l) o (faulty i)) (bad-twice (suc i) ss ls))
 
 -- ---- calls that differ in nothing that is used
+-- what is due of a tick once its cells are looked at
+abbrev CellsDue : Given → Tree → Found → Left
+CellsDue g t f = elim f [
+  | faulty p ↦ refused g (BadCell p)
+  | none _ ↦ onInputs g (cond (g .record' .finished) (refused g Finished) (walked g t (walkFrom g t)))
+]
+
 module _ (g : Given) (e : Event) (ls xs : List Float)
     (tables : table (g .kinds) (g .ns) ls ≡ table (g .kinds) (g .ns) (g .limits))
     (events : cleanedEvent e ≡ cleanedEvent (g .event))
@@ -93,50 +99,52 @@ module _ (g : Given) (e : Event) (ls xs : List Float)
   walked-alike t (asks n x) = refl
   walked-alike t short = refl
 
-  walk-alike : (t : Tree)
-      → walked (lending g e ls xs) t (tick binary64 mostDeep t (cleanedEvent e) (world (g .fuel) (answers (g .statuses) xs)))
-      ≡ walked g t (tick binary64 mostDeep t (cleanedEvent (g .event)) (world (g .fuel) (answers (g .statuses) (g .leftovers))))
-  walk-alike t = walked-alike t (tick binary64 mostDeep t (cleanedEvent e) (world (g .fuel) (answers (g .statuses) xs)))
-      ∙ λ i. walked g t (tick binary64 mostDeep t (events i) (world (g .fuel) (lent i)))
+  walk-alike : (t u : Tree) → walked (lending g e ls xs) t (walkFrom (lending g e ls xs) u) ≡ walked g t (walkFrom g u)
+  walk-alike t u = walked-alike t (walkFrom (lending g e ls xs) u) ∙ λ i. walked g t (tick binary64 mostDeep u (events i) (world (g .fuel) (lent i)))
 
-  tree-alike : (t : Tree) → tickTree (lending g e ls xs) t ≡ tickTree g t
-  unfolding tickTree
-  tree-alike t = λ i. cond (allowed i)
+  inputs-alike : (l l' : Left) → l ≡ l' → onInputs (lending g e ls xs) l ≡ onInputs g l'
+  inputs-alike l l' same = λ i. cond (allowed i)
       (elim (fine i) [
         | faulty j ↦ refused g (BadAnswer j)
-        | none _ ↦ cond (g .record' .finished) (refused g Finished) (walk-alike t i)
+        | none _ ↦ same i
       ])
       (refused g BadTime)
 
-  pub alike : tickCall (lending g e ls xs) ≡ tickCall g
-  unfolding tickCall
-  alike = λ i. elim (tables i) [
+  table-alike : (due due' : Tree → Left) → ((t : Tree) → due t ≡ due' t) → onTable (lending g e ls xs) due ≡ onTable g due'
+  table-alike due due' same = λ i. elim (tables i) [
     | bad p ↦ refused g (BadTable p)
-    | good t₀ ↦ cond (tooShort g (size t₀))
-        (refused g TooShort)
-        (let t = withCells t₀ (cells (g .cells' .times) (g .cells' .places) (g .cells' .marks)) .0 in
-        elim (badCell false false 0 t) [
-          | faulty p ↦ refused g (BadCell p)
-          | none _ ↦ tree-alike t i
-        ])
+    | good t ↦ cond (tooShort g (size t)) (refused g TooShort) (same t i)
   ]
 
--- ---- a tick, a reset and a bound
-pub same-call : (g : Given) → tickCall (cleanedCall g) ≡ tickCall g
-same-call g = alike g (cleanedEvent (g .event)) (map cleaned (g .limits)) (map cleaned (g .leftovers)) (table-twice (g .kinds) (g .ns) (g .limits))
+  cells-alike : (t : Tree) (f : Found) → CellsDue (lending g e ls xs) t f ≡ CellsDue g t f
+  cells-alike t (faulty p) = refl
+  cells-alike t (none i) = inputs-alike _ _ (ap (λ (l : Left). cond (g .record' .finished) (refused g Finished) l) (walk-alike t t))
+
+  pub ticks-alike : tickCall (lending g e ls xs) ≡ tickCall g
+  unfolding tickCall
+  ticks-alike = table-alike _ _ (λ t. cells-alike (atEntry g t) (badCell false false 0 (atEntry g t)))
+
+  pub restarts-alike : restartCall (lending g e ls xs) ≡ restartCall g
+  unfolding restartCall
+  restarts-alike = table-alike _ _ (λ t. inputs-alike _ _ (walk-alike (atEntry g t) t))
+
+-- ---- a tick, a restart and a bound
+pub same-tick : (g : Given) → tickCall (cleanedCall g) ≡ tickCall g
+same-tick g = ticks-alike g (cleanedEvent (g .event)) (map cleaned (g .limits)) (map cleaned (g .leftovers)) (table-twice (g .kinds) (g .ns) (g .limits))
     (event-twice (g .event)) (time-twice (g .event)) (answers-twice (g .statuses) (g .leftovers)) (bad-twice 0 (g .statuses) (g .leftovers))
 
-pub same-reset : (kinds ns : List ℕ) (limits : List Float) (r : Record) (c : Run) → resetCall kinds ns (map cleaned limits) r c ≡ resetCall kinds ns limits r c
-unfolding resetCall
-same-reset kinds ns limits r c = rw (resetCall, table-twice kinds ns limits)
+pub same-restart : (g : Given) → restartCall (cleanedCall g) ≡ restartCall g
+same-restart g = restarts-alike g (cleanedEvent (g .event)) (map cleaned (g .limits)) (map cleaned (g .leftovers)) (table-twice (g .kinds) (g .ns) (g .limits))
+    (event-twice (g .event)) (time-twice (g .event)) (answers-twice (g .statuses) (g .leftovers)) (bad-twice 0 (g .statuses) (g .leftovers))
 
 pub same-bound : (kinds ns : List ℕ) (limits : List Float) (d : Float) → boundCall kinds ns (map cleaned limits) d ≡ boundCall kinds ns limits d
 unfolding boundCall
 same-bound kinds ns limits d = rw (boundCall, table-twice kinds ns limits)
 
--- a tick with the event alone cleaned
-pub same-event : (g : Given) → tickCall (withEvent (cleanedEvent (g .event)) g) ≡ tickCall g
-same-event g = alike g (cleanedEvent (g .event)) (g .limits) (g .leftovers) refl (event-twice (g .event)) (time-twice (g .event)) refl refl
+-- with the event alone cleaned
+pub same-event : (fresh : Bool) (g : Given) → cond fresh restartCall tickCall (withEvent (cleanedEvent (g .event)) g) ≡ cond fresh restartCall tickCall g
+same-event true g = restarts-alike g (cleanedEvent (g .event)) (g .limits) (g .leftovers) refl (event-twice (g .event)) (time-twice (g .event)) refl refl
+same-event false g = ticks-alike g (cleanedEvent (g .event)) (g .limits) (g .leftovers) refl (event-twice (g .event)) (time-twice (g .event)) refl refl
 
 pub same-walk : (g : Given) (e : Event) (t : Tree) (o : Out Tree) → walked (withEvent e g) t o ≡ walked g t o
 same-walk g e t (done s r t' (world f ans)) = refl

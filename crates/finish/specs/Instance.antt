@@ -18,7 +18,8 @@ use Rattle.rules.specs.Cells.{cells, column}
 use Rattle.rules.specs.Call.{Run, run, Given, given, tickCall}
 use Rattle.rules.specs.Bound.{num, wholeTime, boundCall}
 use Rattle.calls.specs.Tables.{one-tree}
-use Rattle.calls.specs.History.{Call, ticks, stands, afterAll}
+use Rattle.calls.specs.View.{Call, ticks}
+use Rattle.calls.specs.History.{stands, afterAll}
 use Rattle.finish.specs.WholeTicks.{WholeHistory}
 use Rattle.finish.specs.Answered.{is-told}
 use Rattle.finish.specs.Public.{FinishesBy, finishes}
@@ -68,13 +69,13 @@ covered : WholeHistory tree 1 (stands fresh zeros 0) both
 unfolding tickCall afterAll wholeTime num toUnsigned whole kindOf size column
 covered = (
   record {
-    takes-up = record { the-table = λ u e. one-tree (table kinds ns limits) tree u refl e; the-record = refl; the-cells = λ h. refl };
+    takes-up = record { the-table = λ u e. one-tree (table kinds ns limits) tree u refl e; the-record = λ e. refl; the-cells = λ e h. refl };
     whole-time = (tt, omega arith);
     whole-leftovers = (tt, tt);
   },
   (
     record {
-      takes-up = record { the-table = λ u e. one-tree (table kinds ns limits) tree u refl e; the-record = refl; the-cells = λ h. refl };
+      takes-up = record { the-table = λ u e. one-tree (table kinds ns limits) tree u refl e; the-record = λ e. refl; the-cells = λ e h. refl };
       whole-time = (tt, omega arith);
       whole-leftovers = (tt, tt);
     },

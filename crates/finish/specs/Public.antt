@@ -1,24 +1,24 @@
 -- Demand 3 of the public calls: if the finish bound of a table is N for a step of d, then from fresh cells, whatever calls are made, the tree has
--- finished at or before the N-th tick that was carried out since the start or the last reset.
+-- finished at or before the N-th tick that was carried out since the start, or since the last restart, which is the first.
 use mathlib.Core.Path.{_≡_}
 use mathlib.Core.Bool.{Bool, true, false}
-use mathlib.Core.List.{List}
+use mathlib.Core.List.{List, _∷_}
 use Prim.Native.Nat.{ℕ, _≤_, _<_}
 use lib.Dec.{T, leb, leb→le}
 use lib.Ieee.{Float, binary64}
 use lib.Ieee.Fits.{and-r}
-use Rattle.rules.specs.declared.answer.ResetAnswer.the-variants.{Reset}
 use Rattle.rules.specs.Tree.{Tree}
 use Rattle.rules.specs.Outcome.{world}
 use Rattle.rules.specs.Table.{good, table}
 use Rattle.rules.specs.declared.answer.Record.{Record}
-use Rattle.rules.specs.Call.{Run, Given}
+use Rattle.rules.specs.Call.{Run, Given, restartCall}
 use Rattle.rules.specs.Bound.{num, wholeTime, within, bound, boundable, stepAllowed}
 use Rattle.calls.specs.Shape.{shape}
 use Rattle.calls.specs.Memory.{held}
-use Rattle.calls.specs.History.{Call, resets, resetOf, Standing, stands, after, afterAll}
-use Rattle.calls.specs.Resets.{FreshCells, fresh-held, reset-starts}
-use Rattle.calls.specs.Invariant.{Keeps, Steps, calls-keep}
+use Rattle.calls.specs.View.{Call, restarts}
+use Rattle.calls.specs.History.{isTicked, Standing, stands, after, afterAll}
+use Rattle.calls.specs.Fresh.{FreshCells, fresh-held}
+use Rattle.calls.specs.Invariant.{Keeps, Steps, calls-keep, restart-keeps}
 use Rattle.finish.specs.Shaped.{Shaped}
 use Rattle.finish.specs.WholeTicks.{WholeTick, WholeHistory}
 use Rattle.finish.specs.Answered.{FinishBound, bounded}
@@ -57,7 +57,7 @@ module _
     abbrev Gone : ℕ → Type 0
     Gone = Over binary64 t sh (num step) pos N
 
-    steps : Steps t (WholeTick t (num step)) Goes Gone
+    steps : Steps (WholeTick t (num step)) t Goes Gone
     steps = whole-step t sh (num step) Goes Gone (λ t' k v. v .0) (λ t' k x s r t'' f left v full q. after-tick binary64 t sh (num step) pos N t' k x s r t'' (world f left) v full q)
 
     at-first : (t' : Tree) → State binary64 t t' → Goes t' 0
@@ -74,7 +74,7 @@ module _
         on false h = in-time binary64 t sh (num step) pos N (held t (st .cells')) (st .carried) h
 
     by-history : (st : Standing) → Keeps t Goes Gone st → (cs : List Call) → WholeHistory t (num step) st cs → FinishesBy N (afterAll st cs)
-    by-history st v cs whole = kept-by (afterAll st cs) (calls-keep t (WholeTick t (num step)) Goes Gone (λ st' g u ok. ok .takes-up) steps (at-first t fresh-state) st cs whole v)
+    by-history st v cs whole = kept-by (afterAll st cs) (calls-keep (WholeTick t (num step)) t Goes Gone (λ st' a u ok. ok .takes-up) steps (at-first t fresh-state) st cs whole v)
 
     -- from every state that whole ticks reach
     pub finishes-from :
@@ -98,15 +98,14 @@ module _
         → FinishesBy N (afterAll (stands r c 0) cs)
     finishes r unfinished c fresh cs whole = finishes-from r unfinished c (rw (fresh-held kinds ns limits t c the-table fresh) fresh-state) cs whole
 
-    -- from any record and cells, after a reset that was answered 0
-    pub finishes-after-reset :
+    -- from any record and cells, with a restart that is answered 0: it is the first tick
+    pub finishes-after-restart :
         (st : Standing)
         (g : Given)
-        (its-table : table (g .kinds) (g .ns) (g .limits) ≡ good t)
-        (answered-0 : resetOf g .answer ≡ Reset)
+        (answered-0 : T (isTicked (restartCall g .answer)))
         (cs : List Call)
-        (whole : WholeHistory t (num step) (after st (resets g)) cs)
-        → FinishesBy N (afterAll (after st (resets g)) cs)
-    finishes-after-reset st g its-table answered-0 cs whole =
-        let h = reset-starts t st g its-table answered-0 in
-        by-history (after st (resets g)) (rw (h .1, h .0, h .2) (at-first t fresh-state)) cs whole
+        (whole : WholeHistory t (num step) st (restarts g ∷ cs))
+        → FinishesBy N (afterAll (after st (restarts g)) cs)
+    finishes-after-restart st g answered-0 cs whole =
+        by-history (after st (restarts g))
+        (restart-keeps (WholeTick t (num step)) t Goes Gone (λ st' a u ok. ok .takes-up) steps (at-first t fresh-state) st g answered-0 (whole .0)) cs (whole .1)

@@ -18,7 +18,8 @@ use Rattle.rules.specs.Bound.{boundable, num}
 use Rattle.calls.specs.Shape.{shape}
 use Rattle.calls.specs.Memory.{held}
 use Rattle.calls.specs.Tables.{tabled, tabled-fresh}
-use Rattle.calls.specs.History.{Call, Standing, afterAll}
+use Rattle.calls.specs.View.{Call}
+use Rattle.calls.specs.History.{Standing, afterAll}
 use Rattle.calls.specs.Invariant.{After, Steps, calls-keep}
 use Rattle.whole.specs.Times.{whole-W}
 use Rattle.finish.specs.Shaped.{Shaped}
@@ -40,10 +41,11 @@ module _ (t : Tree) (s : Shaped binary64 (shape t)) (d : ℕ) (P : Tree → ℕ 
       keeps t' k x s' r t'' f left v (h .1) (whole-tick binary64 t s d mostDeep t' x fuel ans left s' r t'' f (state t' k v) (whole-W binary64 x (h .0))
       (whole-all (take (length ans - length left) ans) a) q)
 
-  pub whole-step : Steps t (WholeTick t d) P E
-  whole-step st g t' k (asks n x) q v h = tt
-  whole-step st g t' k short q v h = tt
-  whole-step st g t' k (done s' r t'' (world f left)) q v h =
+  pub whole-step : Steps (WholeTick t d) t P E
+  whole-step st a t' k (asks n x) q v h = tt
+  whole-step st a t' k short q v h = tt
+  whole-step st a t' k (done s' r t'' (world f left)) q v h =
+      let g = a .given' in
       on-event t' k (cleanedEvent (g .event)) (g .fuel) (answers (g .statuses) (g .leftovers)) left s' r t'' f v (h .whole-time) (h .whole-leftovers) q
 
 -- ---- the cells hold a state of the table's tree
@@ -60,7 +62,7 @@ module _ (kinds ns : List ℕ) (limits : List Float) (t : Tree) (e : table kinds
   pub states : (st : Standing) → st .record' .finished ≡ false → StateIn t (st .cells') → (cs : List Call) → WholeHistory t 0 st cs
       → afterAll st cs .record' .finished ≡ false → StateIn t (afterAll st cs .cells')
   states st o v cs h u =
-      let step : Steps t (WholeTick t 0) (Is binary64 t shaped 0) (Ended binary64 t shaped 0) =
+      let step : Steps (WholeTick t 0) t (Is binary64 t shaped 0) (Ended binary64 t shaped 0) =
       whole-step t shaped 0 (Is binary64 t shaped 0) (Ended binary64 t shaped 0) (λ t' k p. p)
       (λ t' k x s' r t'' f left p full q. after-state binary64 t shaped 0 t' k x s' r t'' (world f left) p q) in
-      rw u at (calls-keep t (WholeTick t 0) (Is binary64 t shaped 0) (Ended binary64 t shaped 0) (λ st' g n ok. ok .takes-up) step first-state st cs h (rw o v))
+      rw u at (calls-keep (WholeTick t 0) t (Is binary64 t shaped 0) (Ended binary64 t shaped 0) (λ st' g n ok. ok .takes-up) step first-state st cs h (rw o v))

@@ -9,9 +9,10 @@ use Rattle.rules.specs.declared.status.Status.{Status}
 use Rattle.rules.specs.declared.event.Event.{Event}
 use Rattle.rules.specs.declared.event.Event.the-variants.{Update, Other}
 use Rattle.rules.specs.Tree.{Tree}
-use Rattle.rules.specs.Call.{Given, answers, cleanedEvent}
+use Rattle.rules.specs.Call.{answers, cleanedEvent}
 use Rattle.rules.specs.Bound.{num, wholeTime}
-use Rattle.calls.specs.History.{Call, Standing, TakesUp}
+use Rattle.calls.specs.View.{Call}
+use Rattle.calls.specs.History.{Standing, TakesUp}
 use Rattle.calls.specs.Invariant.{AllAsked}
 use Rattle.whole.specs.Times.{whole-W}
 use Rattle.finish.specs.Post.{WAll}
@@ -26,15 +27,15 @@ abbrev pub WholeAnswers : List (Status × Float) → Type 0
 WholeAnswers List.[] = Unit {0}
 WholeAnswers (List._∷_ a rest) = T (wholeTime binary64 (a .1)) × WholeAnswers rest
 
--- a tick of the tree t that was carried out, after what stood, and used so many of its answers
-pub record WholeTick (t : Tree) (d : ℕ) (st : Standing) (g : Given) (used : ℕ) : Type 0 where
-  pub takes-up : TakesUp t st g
-  pub whole-time : WholeEvent d (cleanedEvent (g .event))
-  pub whole-leftovers : WholeAnswers (take used (answers (g .statuses) (g .leftovers)))
+-- a tick or a restart of the tree t that was carried out, after what stood, and used so many of its answers
+pub record WholeTick (t : Tree) (d : ℕ) (st : Standing) (a : Call) (used : ℕ) : Type 0 where
+  pub takes-up : TakesUp t st a
+  pub whole-time : WholeEvent d (cleanedEvent (a .given' .event))
+  pub whole-leftovers : WholeAnswers (take used (answers (a .given' .statuses) (a .given' .leftovers)))
 
--- each tick answered 0 is such a one, each reset answered 0 is one of t's table, and all other calls are free
+-- each call answered 0 is such a one, and all other calls are free
 abbrev pub WholeHistory : Tree → ℕ → Standing → List Call → Type 0
-WholeHistory t d = AllAsked t (WholeTick t d)
+WholeHistory t d = AllAsked (WholeTick t d)
 
 pub whole-all : (ans : List (Status × Float)) → WholeAnswers ans → WAll binary64 ans
 whole-all List.[] h = tt

@@ -7,12 +7,14 @@ use lib.ListN.{length, drop, length-drop}
 use lib.Seq.{drop-at, drop-drop}
 use Rattle.frames.specs.Hex.{digits}
 use Rattle.frames.specs.Digits.{length-digits}
-use Rattle.frames.specs.Line.{Field, Good, Reads, fields, kindOf, body, answers, answersOf, line, eventNo, eventTime}
+use Rattle.frames.specs.Line.{Field, Good, Reads, askedNo, fields, kindOf, front, body, answers, answersOf, line, eventNo, eventTime}
 use Rattle.frames.specs.Back.{kind-small}
 use Rattle.frames.specs.Parts.{Number, Body, Whole, Filled}
+use Rattle.frames.specs.declared.Call.{Call}
+use Rattle.frames.specs.declared.Call.the-variants.{Tick, Restart}
 use Rattle.frames.specs.declared.Event.{Event}
 use Rattle.frames.specs.declared.Frame.{Frame}
-use Rattle.frames.specs.declared.Frame.the-variants.{Node, Tick, Reset, Said, WasReset, Malformed}
+use Rattle.frames.specs.declared.Frame.the-variants.{Node, Asked, Said, Malformed}
 use Rattle.frames.specs.declared.Reading.{Reading}
 use Rattle.frames.specs.declared.hex.Part.{Part}
 use Rattle.frames.specs.declared.reader.Found.{Found}
@@ -38,10 +40,10 @@ by-kind l p k Found.Not n e b = λ f xs ys g q.
 other : (v : ℕ) → (v ≡ 0x01 → ⊥) → (v ≡ 0x02 → ⊥) → (v ≡ 0x03 → ⊥) → (v ≡ 0x82 → ⊥) → (v ≡ 0x83 → ⊥) → (v ≡ 0x8f → ⊥)
     → (f : Frame) → v ≡ kindOf f → ⊥
 other v a b c d e g (Node kind n limit) q = a q
-other v a b c d e g (Tick event fuel count) q = b q
-other v a b c d e g Reset q = c q
-other v a b c d e g (Said num status time visits used extra) q = d q
-other v a b c d e g (WasReset num) q = e q
+other v a b c d e g (Asked Tick event fuel count) q = b q
+other v a b c d e g (Asked Restart event fuel count) q = c q
+other v a b c d e g (Said Tick num status time visits used extra) q = d q
+other v a b c d e g (Said Restart num status time visits used extra) q = e q
 other v a b c d e g (Malformed number) q = g q
 
 pub no-kind : (l : List ℕ) (p : Part) → Number l 0 2 p → (p .value ≡ 0x01 → ⊥) → (p .value ≡ 0x02 → ⊥) → (p .value ≡ 0x03 → ⊥)
@@ -52,15 +54,15 @@ no-kind l p n a b c d e g = λ f xs ys h q.
 drop-field : (w v : ℕ) (t : List ℕ) → drop (suc w) ((32 ∷ digits w v) ++ t) ≡ t
 drop-field w v t = drop-at (32 ∷ digits w v) t (suc w) (ap suc (length-digits w v))
 
--- a tick's answers stand from byte 36 on
-tick-answers : (e : Event) (fuel count : ℕ) (xs ys : List ℕ) → drop 36 (line (Tick e fuel count) xs ys) ≡ fields (answers count 0 xs ys)
-tick-answers e fuel count xs ys =
+-- a call's answers stand from byte 36 on
+call-answers : (call : Call) (e : Event) (fuel count : ℕ) (xs ys : List ℕ) → drop 36 (line (Asked call e fuel count) xs ys) ≡ fields (answers count 0 xs ys)
+call-answers call e fuel count xs ys =
     let t₄ = fields (answers count 0 xs ys) in
     let t₃ = (32 ∷ digits 4 count) ++ t₄ in
     let t₂ = (32 ∷ digits 8 fuel) ++ t₃ in
     let t₁ = (32 ∷ digits 16 (eventTime e)) ++ t₂ in
     let t₀ = (32 ∷ digits 2 (eventNo e)) ++ t₁ in
-    sym (drop-drop 34 2 (digits 2 0x02 ++ t₀)) ∙ ap (drop 34) (drop-at (digits 2 0x02) t₀ 2 (length-digits 2 0x02))
+    sym (drop-drop 34 2 (digits 2 (askedNo call) ++ t₀)) ∙ ap (drop 34) (drop-at (digits 2 (askedNo call)) t₀ 2 (length-digits 2 (askedNo call)))
     ∙ sym (drop-drop 31 3 t₀) ∙ ap (drop 31) (drop-field 2 (eventNo e) t₁)
     ∙ sym (drop-drop 14 17 t₁) ∙ ap (drop 14) (drop-field 16 (eventTime e) t₂)
     ∙ sym (drop-drop 5 9 t₂) ∙ ap (drop 5) (drop-field 8 fuel t₃)
@@ -70,12 +72,10 @@ tick-answers e fuel count xs ys =
 same-body : (l : List ℕ) (f : Frame) (xs ys ss ss′ ls ls′ : List ℕ) → Good f xs ys → line f xs ys ≡ l → Filled l (answersOf f) ss ss′ ls ls′
     → body f ss′ ls′ ≡ body f xs ys
 same-body l (Node kind n limit) xs ys ss ss′ ls ls′ g e h = refl
-same-body l (Tick event fuel count) xs ys ss ss′ ls ls′ g e h =
-    ap (λ (fs : List Field). (2, eventNo event) ∷ (16, eventTime event) ∷ (8, fuel) ∷ (4, count) ∷ fs)
-    (h .same xs ys (g .fit .1 .1 .1 .1) (ap (drop 36) (sym e) ∙ tick-answers event fuel count xs ys))
-same-body l Reset xs ys ss ss′ ls ls′ g e h = refl
-same-body l (Said num status time visits used extra) xs ys ss ss′ ls ls′ g e h = refl
-same-body l (WasReset num) xs ys ss ss′ ls ls′ g e h = refl
+same-body l (Asked call event fuel count) xs ys ss ss′ ls ls′ g e h =
+    ap (λ (fs : List Field). front (Asked call event fuel count) ++ fs)
+    (h .same xs ys (g .fit .1 .1 .1 .1) (ap (drop 36) (sym e) ∙ call-answers call event fuel count xs ys))
+same-body l (Said call num status time visits used extra) xs ys ss ss′ ls ls′ g e h = refl
 same-body l (Malformed number) xs ys ss ss′ ls ls′ g e h = refl
 
 pub reads-is : (l : List ℕ) (f : Frame) (k : ℕ) (ss ss′ ls ls′ : List ℕ) → k ≡ answersOf f → k ≤ length ss → k ≤ length ls

@@ -1,4 +1,5 @@
 pub mod Bodies
+pub mod Calls
 pub mod Fields
 pub mod Heads
 pub mod Nans
@@ -6,5 +7,4 @@ pub mod Numbers
 pub mod Orders
 pub mod Puts
 pub mod Runs
-pub mod Ticks
 pub mod Writes

@@ -1,4 +1,4 @@
--- What is true of a tick's answers: one more of them, and which elements they are told by.
+-- What is true of a line's answers: one more of them, and which elements they are told by.
 use mathlib.Core.Path.{_≡_, refl, ap, _∙_}
 use mathlib.Core.List.{List, [], _∷_, _++_, append-assoc}
 use Prim.Native.Nat.{ℕ, zero, suc, _+_, _<_}

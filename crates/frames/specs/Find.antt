@@ -1,6 +1,6 @@
 -- The frame whose line some bytes are, as a function of the bytes: fields are taken by their widths, and the frame that they say is the
 -- bytes' own only if its line is those bytes again. `Finds` shows that every frame is found from its line, and from no other bytes.
-use mathlib.Core.Bool.{Bool, true, false, cond, _&&_}
+use mathlib.Core.Bool.{Bool, true, false, cond, _&&_, _||_}
 use mathlib.Core.List.{List, [], _∷_}
 use Prim.Native.Nat.{ℕ, zero, suc, _+_, _-_, _*_, _^_}
 use lib.Dec.{leb, ltb, eqb}
@@ -31,10 +31,8 @@ behind (w ∷ ws) bs = behind ws (drop w (drop 1 bs))
 abbrev pub widths : ℕ → List ℕ
 widths k =
     cond (eqb k 0x01) (2 ∷ 4 ∷ 16 ∷ [])
-    (cond (eqb k 0x02) (2 ∷ 16 ∷ 8 ∷ 4 ∷ [])
-    (cond (eqb k 0x03) []
-    (cond (eqb k 0x82) (2 ∷ 2 ∷ 16 ∷ 8 ∷ 4 ∷ 4 ∷ [])
-    (cond (eqb k 0x83) (2 ∷ []) (4 ∷ [])))))
+    (cond (eqb k 0x02 || eqb k 0x03) (2 ∷ 16 ∷ 8 ∷ 4 ∷ [])
+    (cond (eqb k 0x82 || eqb k 0x83) (2 ∷ 2 ∷ 16 ∷ 8 ∷ 4 ∷ 4 ∷ []) (4 ∷ [])))
 
 abbrev pub pairs : ℕ → List ℕ
 pairs zero = []

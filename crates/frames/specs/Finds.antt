@@ -11,15 +11,16 @@ use lib.ListN.{length, take, drop}
 use lib.Seq.{take-at, drop-at, drop-cons, getD-take}
 use Rattle.frames.specs.Hex.{digit, digits}
 use Rattle.frames.specs.Digits.{digit-cases, length-digits, small-less}
-use Rattle.frames.specs.Line.{Field, Fit, Good, Reads, fields, kindOf, body, answers, answersOf, line, eventNo, eventTime}
+use Rattle.frames.specs.Line.{Field, Fit, Good, Reads, fields, askedNo, saidNo, kindOf, front, body, answers, answersOf, line}
 use Rattle.frames.specs.Answers.{answers-agree, fit-left, fit-right}
-use Rattle.frames.specs.Back.{frameOf, kind-small}
+use Rattle.frames.specs.Back.{frameOf, frame-back, kind-small}
 use Rattle.frames.specs.Undo.{body-agree}
 use Rattle.frames.specs.Find.{nibble, numeral, taken, behind, widths, pairs, firsts, seconds, kindIn, frameIn, answersIn}
 use Rattle.frames.specs.Find.{statusesIn, leftoversIn, fitting, same, isLine, found}
-use Rattle.frames.specs.declared.Event.the-variants.{Other, Update}
+use Rattle.frames.specs.declared.Call.{Call}
+use Rattle.frames.specs.declared.Call.the-variants.{Tick, Restart}
 use Rattle.frames.specs.declared.Frame.{Frame}
-use Rattle.frames.specs.declared.Frame.the-variants.{Node, Tick, Reset, Said, WasReset, Malformed}
+use Rattle.frames.specs.declared.Frame.the-variants.{Node, Asked, Said, Malformed}
 use Rattle.frames.specs.declared.Reading.{Reading}
 
 -- ---- digits are read back
@@ -62,39 +63,22 @@ behind-fields (f ∷ fs) more =
     ap (behind (widthsOf fs)) (drop-at d (fields (fs ++ more)) (f .0) (length-digits (f .0) (f .1))) ∙ behind-fields fs more
 
 -- ---- a frame's fields, without its answers
-abbrev front : Frame → List Field
-front (Node kind n limit) = (2, kind) ∷ (4, n) ∷ (16, limit) ∷ []
-front (Tick event fuel count) = (2, eventNo event) ∷ (16, eventTime event) ∷ (8, fuel) ∷ (4, count) ∷ []
-front Reset = []
-front (Said num status time visits used extra) = (2, num) ∷ (2, status) ∷ (16, time) ∷ (8, visits) ∷ (4, used) ∷ (4, extra) ∷ []
-front (WasReset num) = (2, num) ∷ []
-front (Malformed number) = (4, number) ∷ []
+asked-widths : (c : Call) → widths (askedNo c) ≡ 2 ∷ 16 ∷ 8 ∷ 4 ∷ []
+asked-widths Tick = refl
+asked-widths Restart = refl
 
-body-front : (f : Frame) (ss ls : List ℕ) → body f ss ls ≡ front f ++ answers (answersOf f) 0 ss ls
-body-front (Node kind n limit) ss ls = refl
-body-front (Tick event fuel count) ss ls = refl
-body-front Reset ss ls = refl
-body-front (Said num status time visits used extra) ss ls = refl
-body-front (WasReset num) ss ls = refl
-body-front (Malformed number) ss ls = refl
+said-widths : (c : Call) → widths (saidNo c) ≡ 2 ∷ 2 ∷ 16 ∷ 8 ∷ 4 ∷ 4 ∷ []
+said-widths Tick = refl
+said-widths Restart = refl
 
 widths-front : (f : Frame) → widths (kindOf f) ≡ widthsOf (front f)
 widths-front (Node kind n limit) = refl
-widths-front (Tick event fuel count) = refl
-widths-front Reset = refl
-widths-front (Said num status time visits used extra) = refl
-widths-front (WasReset num) = refl
+widths-front (Asked c event fuel count) = asked-widths c
+widths-front (Said c num status time visits used extra) = said-widths c
 widths-front (Malformed number) = refl
 
 front-back : (f : Frame) → frameOf (kindOf f) (front f) ≡ f
-front-back (Node kind n limit) = refl
-front-back (Tick (Other true) fuel count) = refl
-front-back (Tick (Other false) fuel count) = refl
-front-back (Tick (Update dt) fuel count) = refl
-front-back Reset = refl
-front-back (Said num status time visits used extra) = refl
-front-back (WasReset num) = refl
-front-back (Malformed number) = refl
+front-back f = ap (frameOf (kindOf f)) (sym (append-nil (front f))) ∙ frame-back f []
 
 -- ---- answers
 pairs-answers : (k i : ℕ) (ss ls : List ℕ) → widthsOf (answers k i ss ls) ≡ pairs k
@@ -150,7 +134,7 @@ same-same (x ∷ l) (y ∷ m) e =
 -- ---- a frame is found from its line
 module _ (f : Frame) (ss ls : List ℕ) (g : Good f ss ls) where
   front-fit : Fit (front f)
-  front-fit = fit-left (front f) (answers (answersOf f) 0 ss ls) (rw (body-front f ss ls) at (g .fit))
+  front-fit = fit-left (front f) (answers (answersOf f) 0 ss ls) (g .fit)
 
   kind-line : kindIn (line f ss ls) ≡ kindOf f
   kind-line =
@@ -158,7 +142,7 @@ module _ (f : Frame) (ss ls : List ℕ) (g : Good f ss ls) where
       rw (take-at d (fields (body f ss ls)) 2 (length-digits 2 (kindOf f))) (numeral-digits 2 (kindOf f) (kind-small f))
 
   rest-line : drop 2 (line f ss ls) ≡ fields (front f ++ answers (answersOf f) 0 ss ls)
-  rest-line = drop-at (digits 2 (kindOf f)) (fields (body f ss ls)) 2 (length-digits 2 (kindOf f)) ∙ ap fields (body-front f ss ls)
+  rest-line = drop-at (digits 2 (kindOf f)) (fields (body f ss ls)) 2 (length-digits 2 (kindOf f))
 
   widths-line : widths (kindIn (line f ss ls)) ≡ widthsOf (front f)
   widths-line = ap widths kind-line ∙ widths-front f
@@ -174,7 +158,7 @@ module _ (f : Frame) (ss ls : List ℕ) (g : Good f ss ls) where
       let k : pairs (answersOf (frameIn (line f ss ls))) ≡ widthsOf given = ap (λ x. pairs (answersOf x)) frame-line ∙ sym (pairs-answers (answersOf f) 0 ss ls) in
       let b : behind (widths (kindIn (line f ss ls))) (drop 2 (line f ss ls)) ≡ fields (given ++ []) =
       ap₂ behind widths-line rest-line ∙ behind-fields (front f) given ∙ ap fields (sym (append-nil given)) in
-      ap₂ taken k b ∙ taken-fields given [] (fit-right (front f) given (rw (body-front f ss ls) at (g .fit)))
+      ap₂ taken k b ∙ taken-fields given [] (fit-right (front f) given (g .fit))
 
   pub statuses-line : statusesIn (line f ss ls) ≡ take (answersOf f) ss
   unfolding statusesIn

@@ -9,7 +9,7 @@ use Rattle.frames.specs.Digits.{length-digits}
 use Rattle.frames.specs.Line.{Field, Good, fields, kindOf, body, answers, answersOf, line}
 use Rattle.frames.specs.Parts.{sizeOf, span}
 use Rattle.frames.specs.declared.Frame.{Frame}
-use Rattle.frames.specs.declared.Frame.the-variants.{Node, Tick, Reset, Said, WasReset, Malformed}
+use Rattle.frames.specs.declared.Frame.the-variants.{Node, Asked, Said, Malformed}
 
 pub answers-span : (k i : ℕ) (ss ls : List ℕ) → span (answers k i ss ls) ≡ 20 * k
 answers-span zero i ss ls = refl
@@ -27,10 +27,8 @@ length-fields (f ∷ fs) =
 
 body-span : (f : Frame) (ss ls : List ℕ) → 3 + span (body f ss ls) ≡ sizeOf f
 body-span (Node kind n limit) ss ls = refl
-body-span (Tick event fuel count) ss ls = omega (arith, answers-span count 0 ss ls)
-body-span Reset ss ls = refl
-body-span (Said num status time visits used extra) ss ls = refl
-body-span (WasReset num) ss ls = refl
+body-span (Asked c event fuel count) ss ls = omega (arith, answers-span count 0 ss ls)
+body-span (Said c num status time visits used extra) ss ls = refl
 body-span (Malformed number) ss ls = refl
 
 pub length-line : (f : Frame) (ss ls : List ℕ) → length (line f ss ls) ≡ sizeOf f
@@ -43,13 +41,11 @@ length-line f ss ls =
       body-span f ss ls,
     )
 
--- a tick with 1,024 answers has the longest
+-- a call with 1,024 answers has the longest
 most : (f : Frame) → answersOf f ≤ 1024 → sizeOf f ≤ 20517
 most (Node kind n limit) h = omega arith
-most (Tick event fuel count) h = omega arith
-most Reset h = omega arith
-most (Said num status time visits used extra) h = omega arith
-most (WasReset num) h = omega arith
+most (Asked c event fuel count) h = omega arith
+most (Said c num status time visits used extra) h = omega arith
 most (Malformed number) h = omega arith
 
 pub longest : (f : Frame) (ss ls : List ℕ) → Good f ss ls → length (line f ss ls) ≤ 20517

@@ -6,10 +6,12 @@ use Prim.Native.Nat.{ℕ, zero, suc, _^_, _≤_, _<_, min}
 use lib.Dec.{leb}
 use lib.ListN.{length, getD, drop}
 use Rattle.frames.specs.Hex.{digits}
+use Rattle.frames.specs.declared.Call.{Call}
+use Rattle.frames.specs.declared.Call.the-variants.{Tick, Restart}
 use Rattle.frames.specs.declared.Event.{Event}
 use Rattle.frames.specs.declared.Event.the-variants.{Other, Update}
 use Rattle.frames.specs.declared.Frame.{Frame}
-use Rattle.frames.specs.declared.Frame.the-variants.{Node, Tick, Reset, Said, WasReset, Malformed}
+use Rattle.frames.specs.declared.Frame.the-variants.{Node, Asked, Said, Malformed}
 use Rattle.frames.specs.declared.Reading.{Reading}
 use Rattle.frames.specs.declared.Written.{Written}
 
@@ -22,13 +24,19 @@ abbrev pub fields : List Field → List ℕ
 fields [] = 10 ∷ []
 fields (f ∷ fs) = (32 ∷ digits (f .0) (f .1)) ++ fields fs
 
--- the two digits at the line's start
+-- the two digits at the line's start, by which a tick and a restart are told apart
+abbrev pub askedNo : Call → ℕ
+askedNo Tick = 0x02
+askedNo Restart = 0x03
+
+abbrev pub saidNo : Call → ℕ
+saidNo Tick = 0x82
+saidNo Restart = 0x83
+
 abbrev pub kindOf : Frame → ℕ
 kindOf (Node kind n limit) = 0x01
-kindOf (Tick event fuel count) = 0x02
-kindOf Reset = 0x03
-kindOf (Said num status time visits used extra) = 0x82
-kindOf (WasReset num) = 0x83
+kindOf (Asked call event fuel count) = askedNo call
+kindOf (Said call num status time visits used extra) = saidNo call
 kindOf (Malformed line) = 0x8f
 
 abbrev pub eventNo : Event → ℕ
@@ -49,26 +57,25 @@ abbrev pub answers : ℕ → ℕ → List ℕ → List ℕ → List Field
 answers zero i statuses leftovers = []
 answers (suc k) i statuses leftovers = (2, getD statuses i 0) ∷ (16, getD leftovers i 0) ∷ answers k (suc i) statuses leftovers
 
--- the fields after the kind
-abbrev pub body : Frame → List ℕ → List ℕ → List Field
-body (Node kind n limit) ss ls = (2, kind) ∷ (4, n) ∷ (16, limit) ∷ []
-body (Tick event fuel count) ss ls = (2, eventNo event) ∷ (16, eventTime event) ∷ (8, fuel) ∷ (4, count) ∷ answers count 0 ss ls
-body Reset ss ls = []
-body (Said num status time visits used extra) ss ls = (2, num) ∷ (2, status) ∷ (16, time) ∷ (8, visits) ∷ (4, used) ∷ (4, extra) ∷ []
-body (WasReset num) ss ls = (2, num) ∷ []
-body (Malformed number) ss ls = (4, number) ∷ []
-
-abbrev pub line : Frame → List ℕ → List ℕ → List ℕ
-line f ss ls = digits 2 (kindOf f) ++ fields (body f ss ls)
+-- the fields after the kind, up to the answers
+abbrev pub front : Frame → List Field
+front (Node kind n limit) = (2, kind) ∷ (4, n) ∷ (16, limit) ∷ []
+front (Asked call event fuel count) = (2, eventNo event) ∷ (16, eventTime event) ∷ (8, fuel) ∷ (4, count) ∷ []
+front (Said call num status time visits used extra) = (2, num) ∷ (2, status) ∷ (16, time) ∷ (8, visits) ∷ (4, used) ∷ (4, extra) ∷ []
+front (Malformed number) = (4, number) ∷ []
 
 -- how many answers a frame has
 abbrev pub answersOf : Frame → ℕ
 answersOf (Node kind n limit) = 0
-answersOf (Tick event fuel count) = count
-answersOf Reset = 0
-answersOf (Said num status time visits used extra) = 0
-answersOf (WasReset num) = 0
+answersOf (Asked call event fuel count) = count
+answersOf (Said call num status time visits used extra) = 0
 answersOf (Malformed number) = 0
+
+abbrev pub body : Frame → List ℕ → List ℕ → List Field
+body f ss ls = front f ++ answers (answersOf f) 0 ss ls
+
+abbrev pub line : Frame → List ℕ → List ℕ → List ℕ
+line f ss ls = digits 2 (kindOf f) ++ fields (body f ss ls)
 
 -- each number has room in its field
 abbrev pub Fit : List Field → Type 0

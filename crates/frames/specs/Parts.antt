@@ -8,7 +8,7 @@ use Rattle.frames.specs.Hex.{digit, digits}
 use Rattle.frames.specs.Line.{Field, Fit, Good, fields, kindOf, body, line, answers, eventNo, eventTime}
 use Rattle.frames.specs.declared.Event.{Event}
 use Rattle.frames.specs.declared.Frame.{Frame}
-use Rattle.frames.specs.declared.Frame.the-variants.{Node, Tick, Reset, Said, WasReset, Malformed}
+use Rattle.frames.specs.declared.Frame.the-variants.{Node, Asked, Said, Malformed}
 use Rattle.frames.specs.declared.hex.Part.{Part}
 use Rattle.frames.specs.declared.reader.Found.{Found}
 use Rattle.frames.specs.declared.reader.Happened.{Happened}
@@ -90,8 +90,6 @@ pub record Puts (d : List ℕ) (at : ℕ) (fs : List Field) (d′ : List ℕ) (n
 -- how many bytes a frame's line has
 abbrev pub sizeOf : Frame → ℕ
 sizeOf (Node kind n limit) = 28
-sizeOf (Tick event fuel count) = 37 + 20 * count
-sizeOf Reset = 3
-sizeOf (Said num status time visits used extra) = 45
-sizeOf (WasReset num) = 6
+sizeOf (Asked call event fuel count) = 37 + 20 * count
+sizeOf (Said call num status time visits used extra) = 45
 sizeOf (Malformed number) = 8

@@ -10,14 +10,13 @@ use native.Mathlib.Omega.{arith}
 use borrow.Author.Tests.{le-leb}
 use lib.Dec.{leb, lit<}
 use lib.ListN.{length, getD, take, drop}
-use lib.Seq.{take-at, getD-drop, ext-getD}
+use lib.Seq.{take-at, drop-at, getD-drop, ext-getD}
 use Rattle.frames.specs.Hex.{digit, digits}
 use Rattle.frames.specs.Digits.{cut, digit-above, length-digits, digits-one}
-use Rattle.frames.specs.Line.{Field, Fit, Good, Kept, Reads, fields, kindOf, body, answers, answersOf, line, laid, wrote, eventNo, eventTime}
+use Rattle.frames.specs.Line.{Field, Fit, Good, Kept, Reads, fields, kindOf, front, body, answers, answersOf, line, laid, wrote}
 use Rattle.frames.specs.Answers.{Agree, answers-agree}
-use Rattle.frames.specs.Back.{value, frameOf, frame-back, kind-small}
+use Rattle.frames.specs.Back.{value, frameOf, frame-of, kind-small}
 use Rattle.frames.specs.declared.Frame.{Frame}
-use Rattle.frames.specs.declared.Frame.the-variants.{Node, Tick, Reset, Said, WasReset, Malformed}
 use Rattle.frames.specs.declared.Reading.{Reading}
 use Rattle.frames.specs.declared.Written.{Written}
 
@@ -81,23 +80,12 @@ answers-one (suc k) i a b a′ b′ e j h l =
     (λ p. answers-one k (suc i) a b a′ b′ (ap (drop 2) e) j p (omega arith))
     (eq-or-lt-of-le h)
 
--- the answers are among a frame's fields
+-- a frame's answers are its fields behind the front
 body-answers : (f : Frame) (a b a′ b′ : List ℕ) → body f a b ≡ body f a′ b′ → answers (answersOf f) 0 a b ≡ answers (answersOf f) 0 a′ b′
-body-answers (Node kind n limit) a b a′ b′ e = refl
-body-answers (Tick event fuel count) a b a′ b′ e = ap (drop 4) e
-body-answers Reset a b a′ b′ e = refl
-body-answers (Said num status time visits used extra) a b a′ b′ e = refl
-body-answers (WasReset num) a b a′ b′ e = refl
-body-answers (Malformed number) a b a′ b′ e = refl
+body-answers f a b a′ b′ e = sym (drop-at (front f) _ (length (front f)) refl) ∙ ap (drop (length (front f))) e ∙ drop-at (front f) _ (length (front f)) refl
 
 pub body-agree : (f : Frame) (a b a′ b′ : List ℕ) → answers (answersOf f) 0 a b ≡ answers (answersOf f) 0 a′ b′ → body f a b ≡ body f a′ b′
-body-agree (Node kind n limit) a b a′ b′ e = refl
-body-agree (Tick event fuel count) a b a′ b′ e =
-    ap (λ (fs : List Field). (2, eventNo event) ∷ (16, eventTime event) ∷ (8, fuel) ∷ (4, count) ∷ fs) e
-body-agree Reset a b a′ b′ e = refl
-body-agree (Said num status time visits used extra) a b a′ b′ e = refl
-body-agree (WasReset num) a b a′ b′ e = refl
-body-agree (Malformed number) a b a′ b′ e = refl
+body-agree f a b a′ b′ e = ap (λ (fs : List Field). front f ++ fs) e
 
 -- a line is one frame's, with one run of answers
 pub line-one : (f g : Frame) (a b a′ b′ : List ℕ) → Good f a b → Good g a′ b′ → line f a b ≡ line g a′ b′
@@ -108,7 +96,7 @@ line-one f g a b a′ b′ p q e =
     (length-digits 2 (kindOf f) ∙ sym (length-digits 2 (kindOf g))) e in
     let k : kindOf f ≡ kindOf g = digits-one 2 (kindOf f) (kindOf g) (kind-small f) (kind-small g) (r .0) in
     let s : body f a b ≡ body g a′ b′ = fields-one (body f a b) (body g a′ b′) (p .fit) (q .fit) (r .1) in
-    let h : f ≡ g = sym (frame-back f a b) ∙ ap₂ frameOf k s ∙ frame-back g a′ b′ in
+    let h : f ≡ g = sym (frame-of (kindOf f) f a b refl) ∙ ap₂ frameOf k s ∙ frame-of (kindOf g) g a′ b′ refl in
     let t : answers (answersOf f) 0 a b ≡ answers (answersOf f) 0 a′ b′ =
     body-answers f a b a′ b′ (s ∙ ap (λ (x : Frame). body x a′ b′) (sym h)) in (
       h,

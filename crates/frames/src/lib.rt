@@ -14,7 +14,13 @@ pub use patterns::times;
 pub use reader::read;
 pub use writer::write;
 
-// A tick's event. Only an update has a dt; beside any other stands a zero, of which the sign is kept:
+// The two calls that a line asks for or tells of. Their lines differ in the two digits at the start alone.
+pub enum Call {
+    Tick,
+    Restart,
+}
+
+// A call's event. Only an update has a dt; beside any other stands a zero, of which the sign is kept:
 // true for minus zero.
 pub enum Event {
     Other(bool),
@@ -24,29 +30,27 @@ pub enum Event {
 // The bits of minus zero: the sign alone.
 const MINUS_ZERO: u64 = 0x8000000000000000;
 
-// A frame by value. A tick's answers stand beside it in two lent slices, statuses and leftovers: the first count of each.
+// A frame by value. The answers of a call that is asked for stand beside it in two lent slices, statuses and leftovers: the first count of each.
 pub enum Frame {
     Node {
         kind: u8,
         n: u16,
         limit: u64,
     },
-    Tick {
+    Asked {
+        call: Call,
         event: Event,
         fuel: u32,
         count: u16,
     },
-    Reset,
     Said {
+        call: Call,
         no: u8,
         status: u8,
         time: u64,
         visits: u32,
         used: u16,
         extra: u16,
-    },
-    WasReset {
-        no: u8,
     },
     Malformed {
         line: u16,

@@ -1,19 +1,28 @@
 // The order of input lines: nodes come first, at most 257 of them.
 ghost use mathlib.Core.Path.{_≡_};
 ghost use Rattle.frames.specs.Order.{admitted};
+use crate::Call;
 use crate::Event;
 use crate::Frame;
 use crate::Reading;
 
 // What an input line asks for.
 pub enum Input {
-    Node { kind: u8, n: u16, limit: u64 },
-    Tick { event: Event, fuel: u32, count: u16 },
-    Reset,
+    Node {
+        kind: u8,
+        n: u16,
+        limit: u64,
+    },
+    Asked {
+        call: Call,
+        event: Event,
+        fuel: u32,
+        count: u16,
+    },
     Malformed,
 }
 
-// What a line that was read asks for, after so many nodes, and where begun says whether a tick or a reset came before.
+// What a line that was read asks for, after so many nodes, and where begun says whether a tick or a restart came before.
 pub fn admit(nodes: usize, begun: bool, reading: Reading) -> Input
     ensures { λ r. ⌜ r ≡ admitted nodes begun reading ⌝ }
 {
@@ -38,9 +47,19 @@ fn frame_admitted(nodes: usize, begun: bool, frame: Frame) -> Input
                 Input::Malformed
             }
         }
-        Frame::Tick { event, fuel, count } => Input::Tick { event, fuel, count },
-        Frame::Reset => Input::Reset,
+        Frame::Asked {
+            call,
+            event,
+            fuel,
+            count,
+        } => Input::Asked {
+            call,
+            event,
+            fuel,
+            count,
+        },
         Frame::Said {
+            call: _,
             no: _,
             status: _,
             time: _,
@@ -48,7 +67,6 @@ fn frame_admitted(nodes: usize, begun: bool, frame: Frame) -> Input
             used: _,
             extra: _,
         } => Input::Malformed,
-        Frame::WasReset { no: _ } => Input::Malformed,
         Frame::Malformed { line: _ } => Input::Malformed,
     }
 }

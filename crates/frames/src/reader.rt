@@ -2,8 +2,9 @@
 ghost use mathlib.Core.Path.{_≡_};
 ghost use Prim.Native.Nat.{_+_, _≤_, _<_};
 ghost use lib.ListN.{length, drop};
-ghost use Rattle.frames.specs.Line.{answersOf, Reads};
+ghost use Rattle.frames.specs.Line.{askedNo, saidNo, answersOf, Reads};
 ghost use Rattle.frames.specs.Parts.{Ends, EventIs, Skips, Body, Whole, Filled};
+use crate::Call;
 use crate::Event;
 use crate::Frame;
 use crate::MINUS_ZERO;
@@ -11,7 +12,7 @@ use crate::Reading;
 use crate::hex::field;
 use crate::hex::number;
 
-// The frame whose line was read, without a tick's answers.
+// The frame whose line was read, without its answers.
 pub enum Found {
     Is(Frame),
     Not,
@@ -87,8 +88,8 @@ fn node(line: &[u8], at: usize) -> Found
     }
 }
 
-fn tick(line: &[u8], at: usize) -> Found
-    ensures { λ r. ⌜ Body 0x02 (drop at (now (line .entry))) r ⌝ }
+fn asked(line: &[u8], at: usize, call: Call) -> Found
+    ensures { λ r. ⌜ Body (askedNo call) (drop at (now (line .entry))) r ⌝ }
 {
     let no = field(line, at, 2);
     let dt = field(line, no.next, 16);
@@ -100,7 +101,8 @@ fn tick(line: &[u8], at: usize) -> Found
     let end = skip(line, count.next, count.value as usize);
     if ends(line, end) {
         match event(no.value, dt.value) {
-            Happened::Is(event) => Found::Is(Frame::Tick {
+            Happened::Is(event) => Found::Is(Frame::Asked {
+                call,
                 event,
                 fuel: fuel.value as u32,
                 count: count.value as u16,
@@ -112,18 +114,8 @@ fn tick(line: &[u8], at: usize) -> Found
     }
 }
 
-fn reset(line: &[u8], at: usize) -> Found
-    ensures { λ r. ⌜ Body 0x03 (drop at (now (line .entry))) r ⌝ }
-{
-    if ends(line, at) {
-        Found::Is(Frame::Reset)
-    } else {
-        Found::Not
-    }
-}
-
-fn said(line: &[u8], at: usize) -> Found
-    ensures { λ r. ⌜ Body 0x82 (drop at (now (line .entry))) r ⌝ }
+fn said(line: &[u8], at: usize, call: Call) -> Found
+    ensures { λ r. ⌜ Body (saidNo call) (drop at (now (line .entry))) r ⌝ }
 {
     let no = field(line, at, 2);
     let status = field(line, no.next, 2);
@@ -133,6 +125,7 @@ fn said(line: &[u8], at: usize) -> Found
     let extra = field(line, used.next, 4);
     if ends(line, extra.next) {
         Found::Is(Frame::Said {
+            call,
             no: no.value as u8,
             status: status.value as u8,
             time: time.value,
@@ -140,17 +133,6 @@ fn said(line: &[u8], at: usize) -> Found
             used: used.value as u16,
             extra: extra.value as u16,
         })
-    } else {
-        Found::Not
-    }
-}
-
-fn was_reset(line: &[u8], at: usize) -> Found
-    ensures { λ r. ⌜ Body 0x83 (drop at (now (line .entry))) r ⌝ }
-{
-    let no = field(line, at, 2);
-    if ends(line, no.next) {
-        Found::Is(Frame::WasReset { no: no.value as u8 })
     } else {
         Found::Not
     }
@@ -178,10 +160,10 @@ fn head(line: &[u8]) -> Found
     let k = kind.value;
     match k {
         0x01 => node(line, at),
-        0x02 => tick(line, at),
-        0x03 => reset(line, at),
-        0x82 => said(line, at),
-        0x83 => was_reset(line, at),
+        0x02 => asked(line, at, Call::Tick),
+        0x03 => asked(line, at, Call::Restart),
+        0x82 => said(line, at, Call::Tick),
+        0x83 => said(line, at, Call::Restart),
         0x8f => malformed(line, at),
         _ => Found::Not,
     }
@@ -192,7 +174,8 @@ pub fn count(frame: Frame) -> usize
     ensures { λ r. ⌜ r ≡ answersOf frame ⌝ }
 {
     match frame {
-        Frame::Tick {
+        Frame::Asked {
+            call: _,
             event: _,
             fuel: _,
             count,
@@ -202,8 +185,8 @@ pub fn count(frame: Frame) -> usize
             n: _,
             limit: _,
         } => 0,
-        Frame::Reset => 0,
         Frame::Said {
+            call: _,
             no: _,
             status: _,
             time: _,
@@ -211,12 +194,11 @@ pub fn count(frame: Frame) -> usize
             used: _,
             extra: _,
         } => 0,
-        Frame::WasReset { no: _ } => 0,
         Frame::Malformed { line: _ } => 0,
     }
 }
 
-// A tick's answers, from its line.
+// The answers in a line.
 fn fill(line: &[u8], count: usize, statuses: &mut [u8], leftovers: &mut [u64])
     requires { ⌜ count ≤ length (now statuses) ⌝ }
     requires { ⌜ count ≤ length (now leftovers) ⌝ }
@@ -234,7 +216,7 @@ fn fill(line: &[u8], count: usize, statuses: &mut [u8], leftovers: &mut [u64])
     }
 }
 
-// Reads a line. A tick's answers are put into the two slices.
+// Reads a line. Its answers are put into the two slices.
 pub fn read(line: &[u8], statuses: &mut [u8], leftovers: &mut [u64]) -> Reading
     ensures { λ r. ⌜ Reads (now (line .entry)) (now (statuses .entry)) (now (leftovers .entry)) r (now (statuses .exit)) (now (leftovers .exit)) ⌝ }
 {

@@ -4,9 +4,10 @@ ghost use mathlib.Core.List.{[], _∷_};
 ghost use Prim.Native.Nat.{ℕ, _+_, _*_, _≤_, _<_};
 ghost use lib.ListN.{length};
 ghost use Rattle.frames.specs.Hex.{digit, digits};
-ghost use Rattle.frames.specs.Line.{Fit, Good, body, line, answersOf, eventNo, eventTime, laid, wrote};
+ghost use Rattle.frames.specs.Line.{Fit, Good, body, line, answersOf, askedNo, saidNo, eventNo, eventTime, laid, wrote};
 ghost use Rattle.frames.specs.Line.{answers as Line·answers};
 ghost use Rattle.frames.specs.Parts.{over, sizeOf, Puts};
+use crate::Call;
 use crate::Event;
 use crate::Frame;
 use crate::MINUS_ZERO;
@@ -55,13 +56,14 @@ fn size(frame: Frame) -> usize
             n: _,
             limit: _,
         } => 28,
-        Frame::Tick {
+        Frame::Asked {
+            call: _,
             event: _,
             fuel: _,
             count,
         } => 37 + 20 * (count as usize),
-        Frame::Reset => 3,
         Frame::Said {
+            call: _,
             no: _,
             status: _,
             time: _,
@@ -69,8 +71,25 @@ fn size(frame: Frame) -> usize
             used: _,
             extra: _,
         } => 45,
-        Frame::WasReset { no: _ } => 6,
         Frame::Malformed { line: _ } => 8,
+    }
+}
+
+fn asked_no(call: Call) -> u64
+    ensures { λ r. ⌜ r ≡ askedNo call ⌝ }
+{
+    match call {
+        Call::Tick => 0x02,
+        Call::Restart => 0x03,
+    }
+}
+
+fn said_no(call: Call) -> u64
+    ensures { λ r. ⌜ r ≡ saidNo call ⌝ }
+{
+    match call {
+        Call::Tick => 0x82,
+        Call::Restart => 0x83,
     }
 }
 
@@ -110,14 +129,22 @@ fn node(room: &mut [u8], kind: u8, n: u16, limit: u64)
     room[end] = 10;
 }
 
-fn tick(room: &mut [u8], event: Event, fuel: u32, count: u16, statuses: &[u8], leftovers: &[u64])
+fn asked(
+    room: &mut [u8],
+    call: Call,
+    event: Event,
+    fuel: u32,
+    count: u16,
+    statuses: &[u8],
+    leftovers: &[u64],
+)
     requires { ⌜ 37 + 20 * count ≤ length (now room) ⌝ }
     requires { ⌜ count ≤ length (now statuses) ⌝ }
     requires { ⌜ count ≤ length (now leftovers) ⌝ }
-    ensures { λ _. ⌜ now (room .exit) ≡ laid (line (Frame.Tick event fuel count) (now (statuses .entry)) (now (leftovers .entry))) (now (room .entry)) ⌝ }
-    ensures { λ _. ⌜ Fit (body (Frame.Tick event fuel count) (now (statuses .entry)) (now (leftovers .entry))) ⌝ }
+    ensures { λ _. ⌜ now (room .exit) ≡ laid (line (Frame.Asked call event fuel count) (now (statuses .entry)) (now (leftovers .entry))) (now (room .entry)) ⌝ }
+    ensures { λ _. ⌜ Fit (body (Frame.Asked call event fuel count) (now (statuses .entry)) (now (leftovers .entry))) ⌝ }
 {
-    put_number(room, 0, 2, 0x02);
+    put_number(room, 0, 2, asked_no(call));
     let a = put(room, 2, 2, event_no(event));
     let b = put(room, a, 16, event_time(event));
     let c = put(room, b, 8, fuel as u64);
@@ -144,34 +171,26 @@ fn answers(room: &mut [u8], from: usize, count: usize, statuses: &[u8], leftover
     at
 }
 
-fn reset(room: &mut [u8])
-    requires { ⌜ 3 ≤ length (now room) ⌝ }
-    ensures { λ _. ⌜ now (room .exit) ≡ laid (line Frame.Reset [] []) (now (room .entry)) ⌝ }
-{
-    put_number(room, 0, 2, 0x03);
-    room[2] = 10;
-}
-
-fn said(room: &mut [u8], number: u8, status: u8, time: u64, visits: u32, used: u16, extra: u16)
+fn said(
+    room: &mut [u8],
+    call: Call,
+    number: u8,
+    status: u8,
+    time: u64,
+    visits: u32,
+    used: u16,
+    extra: u16,
+)
     requires { ⌜ 45 ≤ length (now room) ⌝ }
-    ensures { λ _. ⌜ now (room .exit) ≡ laid (line (Frame.Said number status time visits used extra) [] []) (now (room .entry)) ⌝ }
+    ensures { λ _. ⌜ now (room .exit) ≡ laid (line (Frame.Said call number status time visits used extra) [] []) (now (room .entry)) ⌝ }
 {
-    put_number(room, 0, 2, 0x82);
+    put_number(room, 0, 2, said_no(call));
     let a = put(room, 2, 2, number as u64);
     let b = put(room, a, 2, status as u64);
     let c = put(room, b, 16, time);
     let d = put(room, c, 8, visits as u64);
     let e = put(room, d, 4, used as u64);
     let end = put(room, e, 4, extra as u64);
-    room[end] = 10;
-}
-
-fn was_reset(room: &mut [u8], number: u8)
-    requires { ⌜ 6 ≤ length (now room) ⌝ }
-    ensures { λ _. ⌜ now (room .exit) ≡ laid (line (Frame.WasReset number) [] []) (now (room .entry)) ⌝ }
-{
-    put_number(room, 0, 2, 0x83);
-    let end = put(room, 2, 2, number as u64);
     room[end] = 10;
 }
 
@@ -194,17 +213,21 @@ fn lay(frame: Frame, statuses: &[u8], leftovers: &[u64], room: &mut [u8])
 {
     match frame {
         Frame::Node { kind, n, limit } => node(room, kind, n, limit),
-        Frame::Tick { event, fuel, count } => tick(room, event, fuel, count, statuses, leftovers),
-        Frame::Reset => reset(room),
+        Frame::Asked {
+            call,
+            event,
+            fuel,
+            count,
+        } => asked(room, call, event, fuel, count, statuses, leftovers),
         Frame::Said {
+            call,
             no,
             status,
             time,
             visits,
             used,
             extra,
-        } => said(room, no, status, time, visits, used, extra),
-        Frame::WasReset { no } => was_reset(room, no),
+        } => said(room, call, no, status, time, visits, used, extra),
         Frame::Malformed { line } => malformed(room, line),
     }
 }

@@ -60,7 +60,7 @@ fn stopped(before: Asked) -> Asked {
     after
 }
 
-// One line: a node is kept, a tick ends the reading, and so does all else.
+// One line: a node is kept, a tick ends the reading, and so does all else. Of a new tree a restart is a tick.
 fn one(
     before: Asked,
     line: &[u8],
@@ -83,14 +83,18 @@ fn one(
             after.nodes = nodes + 1;
             after
         }
-        Input::Tick { event, fuel, count } => Asked {
+        Input::Asked {
+            call: _,
+            event,
+            fuel,
+            count,
+        } => Asked {
             nodes,
             step: step_of(event),
             fuel,
             count: count as usize,
             on: false,
         },
-        Input::Reset => stopped(before),
         Input::Malformed => stopped(before),
     }
 }

@@ -17,8 +17,8 @@ use Rattle.rules.specs.State.{tick}
 use Rattle.rules.specs.Table.{mostDeep, cleaned}
 use Rattle.rules.specs.Cells.{none}
 use Rattle.rules.specs.Board.{shown}
-use Rattle.rules.specs.Call.{Given, Left, left, counted, ontoRun, ontoBoard, answers, cleanedEvent, answerAllowed, badAnswer, walked, tickCall}
-use Rattle.calls.specs.View.{heldBy, walk, Walked, NotWalked, not-walked, View, walking, refusing, view}
+use Rattle.rules.specs.Call.{Given, Left, left, counted, ontoRun, ontoBoard, answers, cleanedEvent, answerAllowed, badAnswer, walked}
+use Rattle.calls.specs.View.{Call, leftBy, heldBy, startOf, walk, Walked, NotWalked, not-walked, View, walking, refusing, view}
 use Rattle.calls.specs.Walks.{walks}
 use Rattle.calls.specs.History.{isTicked, not-ticked}
 use Rattle.laws.specs.Lent.{allowed-of, none-if, Paired, allowed-append, answers-append}
@@ -42,8 +42,14 @@ again k ss ls g = record {
   leftovers = g .leftovers ++ ls;
 }
 
-module _ (g : Given) (k : ℕ) (ss : List ℕ) (ls : List Float) (even : Paired (g .statuses) (g .leftovers)) (i j : ℕ) (allowed : badAnswer i ss ls ≡ none j) where
-  walked-again : (t : Tree) → Walked g t → Walked (again k ss ls g) t
+abbrev pub againBy : ℕ → List ℕ → List Float → Call → Call
+againBy k ss ls a = record { given' = again k ss ls (a .given'); fresh = a .fresh }
+
+module _ (a : Call) (k : ℕ) (ss : List ℕ) (ls : List Float) (even : Paired (a .given' .statuses) (a .given' .leftovers)) (i j : ℕ) (allowed : badAnswer i ss ls ≡ none j) where
+  abbrev g : Given
+  g = a .given'
+
+  walked-again : (t : Tree) → Walked a t → Walked (againBy k ss ls a) t
   walked-again t w = record {
     table-good = w .table-good;
     long-enough = w .long-enough;
@@ -55,8 +61,8 @@ module _ (g : Given) (k : ℕ) (ss : List ℕ) (ls : List Float) (even : Paired 
     not-finished = w .not-finished;
   }
 
-  walk-again : (t : Tree) → walk t (again k ss ls g) ≡ tick binary64 mostDeep (heldBy t g) (cleanedEvent (g .event)) (world (g .fuel + k) (answers (g .statuses) (g .leftovers) ++ answers ss ls))
-  walk-again t = ap (λ (z : Answers). tick binary64 mostDeep (heldBy t g) (cleanedEvent (g .event)) (world (g .fuel + k) z)) (answers-append (g .statuses) ss (g .leftovers) ls even)
+  walk-again : (t : Tree) → walk t (againBy k ss ls a) ≡ tick binary64 mostDeep (startOf t a) (cleanedEvent (g .event)) (world (g .fuel + k) (answers (g .statuses) (g .leftovers) ++ answers ss ls))
+  walk-again t = ap (λ (z : Answers). tick binary64 mostDeep (startOf t a) (cleanedEvent (g .event)) (world (g .fuel + k) z)) (answers-append (g .statuses) ss (g .leftovers) ls even)
 
   visits : (a b : ℕ) → a + k - (b + k) ≡ a - b
   visits a b = omega arith
@@ -78,16 +84,16 @@ module _ (g : Given) (k : ℕ) (ss : List ℕ) (ls : List Float) (even : Paired 
   left-again t short o' h a = absurd a
 
   -- answered 0: the same again, in all that it says and leaves
-  pub same-again : T (isTicked (tickCall g .answer)) → tickCall (again k ss ls g) ≡ tickCall g
-  same-again a = on (tickCall g) (view g) a
+  pub same-again : T (isTicked (leftBy a .answer)) → leftBy (againBy k ss ls a) ≡ leftBy a
+  same-again h = on (leftBy a) (view a) h
     where
-      on : (l : Left) → View g l → T (isTicked (l .answer)) → tickCall (again k ss ls g) ≡ l
-      on l (refusing b y) h = absurd (subst T (not-ticked b (not-walked g b y)) h)
+      on : (l : Left) → View a l → T (isTicked (l .answer)) → leftBy (againBy k ss ls a) ≡ l
+      on l (refusing b y) h = absurd (subst T (not-ticked b (not-walked a b y)) h)
       on l (walking t w) h =
-          walks (again k ss ls g) t (walked-again t w)
+          walks (againBy k ss ls a) t (walked-again t w)
           ∙ ap (λ (u : Out Tree). walked (again k ss ls g) (heldBy t g) u) (walk-again t)
-          ∙ left-again (heldBy t g) (walk t g) (tick binary64 mostDeep (heldBy t g) (cleanedEvent (g .event)) (world (g .fuel + k) (answers (g .statuses) (g .leftovers) ++ answers ss ls)))
-          (tick-more k (answers ss ls) binary64 mostDeep (heldBy t g) (cleanedEvent (g .event)) (g .fuel) (answers (g .statuses) (g .leftovers))) h
+          ∙ left-again (heldBy t g) (walk t a) (tick binary64 mostDeep (startOf t a) (cleanedEvent (g .event)) (world (g .fuel + k) (answers (g .statuses) (g .leftovers) ++ answers ss ls)))
+          (tick-more k (answers ss ls) binary64 mostDeep (startOf t a) (cleanedEvent (g .event)) (g .fuel) (answers (g .statuses) (g .leftovers))) h
 
 -- ---- one answer more
 -- all answers lent were used, or a next question is asked, or the fuel is used up; no refusal
@@ -119,36 +125,40 @@ no-more used left e = zero-of (length used) (length left) (ap length e ∙ lengt
     zero-of : (a b : ℕ) → 0 ≡ a + b → b ≡ 0
     zero-of a b q = omega arith
 
-module _ (g : Given) (s : ℕ) (l : Float) (even : Paired (g .statuses) (g .leftovers)) (allowed : T (answerAllowed s l)) where
-  abbrev pub one : Given
-  one = again 0 (List._∷_ s List.[]) (List._∷_ l List.[]) g
+module _ (a : Call) (s : ℕ) (l : Float) (even : Paired (a .given' .statuses) (a .given' .leftovers)) (allowed : T (answerAllowed s l)) where
+  abbrev pub one : Call
+  one = againBy 0 (List._∷_ s List.[]) (List._∷_ l List.[]) a
+
+  abbrev g' : Given
+  g' = a .given'
 
   one-allowed : (j : ℕ) × (badAnswer 0 (List._∷_ s List.[]) (List._∷_ l List.[]) ≡ none j)
   one-allowed = none-if 0 (List._∷_ s List.[]) (List._∷_ l List.[]) (allowed, tt)
 
-  all-used : (t : Tree) (o o' : Out Tree) → Answered (statusOf s, cleaned l) List.[] binary64 o o' → isAsked (walked g t o .answer)
-      → Progress (suc (length (answers (g .statuses) (g .leftovers)))) (walked one t o' .answer)
+  all-used : (t : Tree) (o o' : Out Tree) → Answered (statusOf s, cleaned l) List.[] binary64 o o' → isAsked (walked g' t o .answer)
+      → Progress (suc (length (answers (g' .statuses) (g' .leftovers)))) (walked (one .given') t o' .answer)
   unfolding answers
   all-used t (done s' r t' (world f ans)) o' h a = absurd a
   all-used t short o' h a = absurd a
   all-used t (asks n x) (asks n' x') h a = tt
   all-used t (asks n x) short h a = tt
   all-used t (asks n x) (done s' r t' (world f left)) h a =
-      rw (no-more (h .0) left (h .1)) (count (length (answers (g .statuses) (g .leftovers)))
-      (ap length (answers-append (g .statuses) (List._∷_ s List.[]) (g .leftovers) (List._∷_ l List.[]) even) ∙ length-append (answers (g .statuses) (g .leftovers))
+      rw (no-more (h .0) left (h .1)) (count (length (answers (g' .statuses) (g' .leftovers)))
+      (ap length (answers-append (g' .statuses) (List._∷_ s List.[]) (g' .leftovers) (List._∷_ l List.[]) even) ∙ length-append (answers (g' .statuses) (g' .leftovers))
       (List._∷_ (statusOf s, cleaned l) List.[])))
     where
-      count : (n : ℕ) → length (answers (g .statuses ++ List._∷_ s List.[]) (g .leftovers ++ List._∷_ l List.[])) ≡ n + 1
-          → length (answers (g .statuses ++ List._∷_ s List.[]) (g .leftovers ++ List._∷_ l List.[])) - 0 ≡ suc n
+      count : (n : ℕ) → length (answers (g' .statuses ++ List._∷_ s List.[]) (g' .leftovers ++ List._∷_ l List.[])) ≡ n + 1
+          → length (answers (g' .statuses ++ List._∷_ s List.[]) (g' .leftovers ++ List._∷_ l List.[])) - 0 ≡ suc n
       count n q = omega arith
 
-  walk-one : (t : Tree)
-      → walk t one ≡ tick binary64 mostDeep (heldBy t g) (cleanedEvent (g .event)) (world (g .fuel) (answers (g .statuses) (g .leftovers) ++ List._∷_ (statusOf s, cleaned l) List.[]))
+  walk-one : (t : Tree) → walk t one
+      ≡ tick binary64 mostDeep (startOf t a) (cleanedEvent (g' .event)) (world (g' .fuel) (answers (g' .statuses) (g' .leftovers) ++ List._∷_ (statusOf s, cleaned l) List.[]))
   unfolding answers
-  walk-one t = walk-again g 0 (List._∷_ s List.[]) (List._∷_ l List.[]) even 0 (one-allowed .0) (one-allowed .1) t
-      ∙ ap (λ (f : ℕ). tick binary64 mostDeep (heldBy t g) (cleanedEvent (g .event)) (world f (answers (g .statuses) (g .leftovers) ++ List._∷_ (statusOf s, cleaned l) List.[]))) (add-zero (g .fuel))
+  walk-one t = walk-again a 0 (List._∷_ s List.[]) (List._∷_ l List.[]) even 0 (one-allowed .0) (one-allowed .1) t
+      ∙ ap (λ (f : ℕ). tick binary64 mostDeep (startOf t a) (cleanedEvent (g' .event)) (world f (answers (g' .statuses) (g' .leftovers) ++ List._∷_ (statusOf s, cleaned l) List.[])))
+      (add-zero (g' .fuel))
 
-  asked-not : (a : Answer) → NotWalked a → isAsked a → ⊥
+  asked-not : (b : Answer) → NotWalked b → isAsked b → ⊥
   asked-not (Asked n x) h q = h
   asked-not (Ticked s' r v u) h q = q
   asked-not OutOfFuel h q = q
@@ -160,14 +170,15 @@ module _ (g : Given) (s : ℕ) (l : Float) (even : Paired (g .statuses) (g .left
   asked-not (BadCell p) h q = q
 
   -- asked: with one answer more, all answers are used, or a next question is asked, or the fuel is used up
-  pub answered-again : isAsked (tickCall g .answer) → Progress (suc (length (answers (g .statuses) (g .leftovers)))) (tickCall one .answer)
-  answered-again a = on (tickCall g) (view g) a
+  pub answered-again : isAsked (leftBy a .answer) → Progress (suc (length (answers (g' .statuses) (g' .leftovers)))) (leftBy one .answer)
+  answered-again h = on (leftBy a) (view a) h
     where
-      on : (k : Left) → View g k → isAsked (k .answer) → Progress (suc (length (answers (g .statuses) (g .leftovers)))) (tickCall one .answer)
-      on k (refusing b y) h = absurd (asked-not b (not-walked g b y) h)
+      on : (k : Left) → View a k → isAsked (k .answer) → Progress (suc (length (answers (g' .statuses) (g' .leftovers)))) (leftBy one .answer)
+      on k (refusing b y) h = absurd (asked-not b (not-walked a b y) h)
       on k (walking t w) h =
-          subst (λ (u : Left). Progress (suc (length (answers (g .statuses) (g .leftovers)))) (u .answer))
-          (sym (walks one t (walked-again g 0 (List._∷_ s List.[]) (List._∷_ l List.[]) even 0 (one-allowed .0) (one-allowed .1) t w) ∙ ap (λ (u : Out Tree). walked one (heldBy t g) u) (walk-one t)))
-          (all-used (heldBy t g) (walk t g)
-          (tick binary64 mostDeep (heldBy t g) (cleanedEvent (g .event)) (world (g .fuel) (answers (g .statuses) (g .leftovers) ++ List._∷_ (statusOf s, cleaned l) List.[])))
-          (answer-taken (statusOf s, cleaned l) List.[] binary64 mostDeep (heldBy t g) (cleanedEvent (g .event)) (g .fuel) (answers (g .statuses) (g .leftovers))) h)
+          subst (λ (u : Left). Progress (suc (length (answers (g' .statuses) (g' .leftovers)))) (u .answer))
+          (sym (walks one t (walked-again a 0 (List._∷_ s List.[]) (List._∷_ l List.[]) even 0 (one-allowed .0) (one-allowed .1) t w)
+          ∙ ap (λ (u : Out Tree). walked (one .given') (heldBy t g') u) (walk-one t)))
+          (all-used (heldBy t g') (walk t a)
+          (tick binary64 mostDeep (startOf t a) (cleanedEvent (g' .event)) (world (g' .fuel) (answers (g' .statuses) (g' .leftovers) ++ List._∷_ (statusOf s, cleaned l) List.[])))
+          (answer-taken (statusOf s, cleaned l) List.[] binary64 mostDeep (startOf t a) (cleanedEvent (g' .event)) (g' .fuel) (answers (g' .statuses) (g' .leftovers))) h)

@@ -1,6 +1,6 @@
--- Cells that were reached from fresh, by any calls, are always accepted by the cell check: answer 9 is never given to them. And cells that the
--- check accepts stay accepted, whatever a tick does.
-use mathlib.Core.Path.{_≡_, sym, ap, _∙_, subst}
+-- Cells that were reached from fresh, or from any cells by a restart answered 0, and then by any calls, are always accepted by the cell check:
+-- answer 9 is never given to them. And cells that the check accepts stay accepted, whatever a tick does.
+use mathlib.Core.Path.{_≡_, refl, sym, ap, _∙_, subst}
 use mathlib.Core.Bool.{Bool, true, false, cond}
 use mathlib.Core.List.{List}
 use mathlib.Core.List
@@ -17,14 +17,13 @@ use Rattle.rules.specs.Outcome.{dt, World, world, Out, done, asks, short}
 use Rattle.rules.specs.State.{tick}
 use Rattle.rules.specs.Table.{mostDeep, cleaned, number, good, table}
 use Rattle.rules.specs.Cells.{elapsed, Found, faulty, none, badCell}
-use Rattle.rules.specs.Call.{Given, Left, answers, cleanedEvent, answerAllowed, badAnswer, timeAllowed, walked, tickCall, ResetLeft}
+use Rattle.rules.specs.Call.{Given, Left, answers, cleanedEvent, answerAllowed, badAnswer, timeAllowed, walked, tickCall, restartCall}
 use Rattle.calls.specs.Shape.{shape}
-use Rattle.calls.specs.Memory.{held, held-onto, held-shape}
+use Rattle.calls.specs.Memory.{held, held-onto}
 use Rattle.calls.specs.Tables.{tabled, tabled-fresh}
-use Rattle.calls.specs.View.{heldBy, walk, Why, not-walked, View, walking, refusing, view}
-use Rattle.calls.specs.History.{Call, ticks, resets, resetOf, not-ticked, Standing, afterTick, afterReset, after, afterAll, TakesUp, long-cells, same-tree}
-use Rattle.calls.specs.Resets.{ResetView, resetting, leaving, reset-view, not-reset, FreshCells, fresh-held, written-fresh}
-use Rattle.calls.specs.Invariant.{ticked}
+use Rattle.calls.specs.View.{Call, ticks, restarts, leftBy, heldBy, startOf, walk, start-shape, Why, not-walked, View, walking, refusing, view}
+use Rattle.calls.specs.History.{isTicked, not-ticked, Standing, stands, behind, after, afterAll, TakesUp, same-tree}
+use Rattle.calls.specs.Fresh.{FreshCells, fresh-held}
 use Rattle.laws.specs.Elapsed.{number-elapsed}
 use Rattle.laws.specs.Fine.{fine-of, none-of, IfNone}
 use Rattle.laws.specs.Live.{Live, fresh-live, live-clear, live-fine, root-live, Right, tabled-right}
@@ -32,7 +31,7 @@ use Rattle.laws.specs.LiveDrivers.{EAnswers, EWorld, Post}
 use Rattle.laws.specs.Alone.{AfterTick, tick-keeps}
 use Rattle.laws.specs.PairDrivers.{Same}
 use Rattle.laws.specs.LiveTicks.{tick-live}
-use Rattle.laws.specs.Follows.{givenTo, TakeUps}
+use Rattle.laws.specs.Follows.{TakeUps}
 
 -- ---- what the checks of a call say of its times
 pub event-elapsed : (e : Event) → timeAllowed e ≡ true → T (elapsed (dt (cleanedEvent e)))
@@ -94,43 +93,58 @@ fresh-accepted t = accepted-of (fresh t) (fresh-live t)
 
 -- ---- calls
 module _ (kinds ns : List ℕ) (limits : List Float) (t : Tree) (e : table kinds ns limits ≡ good t) where
-  module _ (st : Standing) (g : Given) (up : TakesUp t st g) (v : Live (held t (st .cells'))) where
-    walk-good : (o : Out Tree) → Post (Unit {0}) Live o → AfterTick (world (g .fuel) (answers (g .statuses) (g .leftovers))) (Same (held t (st .cells'))) o
-        → Live (held t (afterTick st (walked g (held t (st .cells')) o) .cells'))
-    walk-good (done s x t' (world f ans)) h k = rw (held-onto t t' (g .cells') (k .1 .0 ∙ held-shape t (st .cells'))) (live-clear t' (h .1 .1))
-    walk-good (asks n x) h k = v
-    walk-good short h k = v
+  abbrev OfTable : Call → Type 0
+  OfTable a = (u : Tree) → table (a .given' .kinds) (a .given' .ns) (a .given' .limits) ≡ good u → u ≡ t
 
-    tick-good : (l : Left) → View g l → Live (held t (afterTick st l .cells'))
-    tick-good l (refusing a n) = rw (not-ticked a (not-walked g a n)) v
-    tick-good l (walking u w) =
-        let q : u ≡ t = up .the-table u (w .table-good) in
-        rw (q, same-tree t st g up (long-cells g (size t) (rw q at (w .long-enough)))) (walk-good (ticked g (held t (st .cells')))
-        (tick-live binary64 mostDeep (held t (st .cells')) (cleanedEvent (g .event)) (world (g .fuel) (answers (g .statuses) (g .leftovers)))
-        (rw (held-shape t (st .cells')) (tabled-right t (tabled kinds ns limits t e .0))) v
-        (event-elapsed (g .event) (w .time-good)) (answers-elapsed 0 (w .answers-good .0) (g .statuses) (g .leftovers) (w .answers-good .1)))
-        (tick-keeps binary64 mostDeep (held t (st .cells')) (cleanedEvent (g .event)) (world (g .fuel) (answers (g .statuses) (g .leftovers)))))
+  walk-good : (a : Call) (before : Tree) (o : Out Tree) → Post (Unit {0}) Live o → AfterTick (world (a .given' .fuel) (answers (a .given' .statuses) (a .given' .leftovers))) (Same (startOf t a)) o
+      → T (isTicked (walked (a .given') before o .answer)) → Live (held t (walked (a .given') before o .cells'))
+  walk-good a before (done s x t' (world f ans)) h k y = rw (held-onto t t' (a .given' .cells') (k .1 .0 ∙ start-shape t a)) (live-clear t' (h .1 .1))
+  walk-good a before (asks n x) h k y = absurd y
+  walk-good a before short h k y = absurd y
 
-    reset-good : (l : ResetLeft) → ResetView (g .kinds) (g .ns) (g .limits) (g .record') (g .cells') l → Live (held t (afterReset st l .cells'))
-    reset-good l (resetting u f h) =
-        let q : u ≡ t = up .the-table u f in
-        rw (q, written-fresh kinds ns limits t (g .cells') e) (rw (tabled-fresh t (tabled kinds ns limits t e .0)) at (fresh-live t))
-    reset-good l (leaving a n) = rw (not-reset a n) v
+  -- a call answered 0: a tick's cells were looked at, a restart's are fresh
+  left-good : (a : Call) → OfTable a → (l : Left) → View a l → T (isTicked (l .answer)) → Live (held t (l .cells'))
+  left-good a one l (refusing b n) y = absurd (subst T (not-ticked b (not-walked a b n)) y)
+  left-good a one l (walking u w) y =
+      let g = a .given' in
+      let q : u ≡ t = one u (w .table-good) in
+      let live = live-of (startOf t a) (w .cells-good .0) (rw q at (w .cells-good .1)) in
+      rw q (walk-good a (heldBy t g) (walk t a)
+      (tick-live binary64 mostDeep (startOf t a) (cleanedEvent (g .event)) (world (g .fuel) (answers (g .statuses) (g .leftovers)))
+      (rw (start-shape t a) (tabled-right t (tabled kinds ns limits t e .0))) live
+      (event-elapsed (g .event) (w .time-good)) (answers-elapsed 0 (w .answers-good .0) (g .statuses) (g .leftovers) (w .answers-good .1)))
+      (tick-keeps binary64 mostDeep (startOf t a) (cleanedEvent (g .event)) (world (g .fuel) (answers (g .statuses) (g .leftovers)))) (rw q at y))
 
-  call-good : (st : Standing) (a : Call) → TakesUp t st (givenTo a) → Live (held t (st .cells')) → Live (held t (after st a .cells'))
+  call-good : (st : Standing) (a : Call) → OfTable a → Live (held t (st .cells')) → Live (held t (after st a .cells'))
   unfolding after
-  call-good st (ticks g) up v = tick-good st g up v (tickCall g) (view g)
-  call-good st (resets g) up v = reset-good st g up v (resetOf g) (reset-view (g .kinds) (g .ns) (g .limits) (g .record') (g .cells'))
+  call-good st a one v = on (isTicked (leftBy a .answer)) (left-good a one (leftBy a) (view a))
+    where
+      on : (b : Bool) → (T b → Live (held t (leftBy a .cells'))) → Live (held t (cond b (stands (leftBy a .record') (leftBy a .cells') (suc (behind a st))) st .cells'))
+      on true f = f tt
+      on false f = v
 
   calls-good : (st : Standing) (cs : List Call) → TakeUps t st cs → Live (held t (st .cells')) → Live (held t (afterAll st cs .cells'))
   unfolding afterAll
   calls-good st List.[] up v = v
-  calls-good st (List._∷_ a cs) up v = calls-good (after st a) cs (up .1) (call-good st a (up .0) v)
+  calls-good st (List._∷_ a cs) up v = calls-good (after st a) cs (up .2) (call-good st a (up .0 .the-table) v)
 
   -- fresh cells, then any calls: the cells are accepted
   pub reached-accepted : (st : Standing) → FreshCells t (st .cells') → (cs : List Call) → TakeUps t st cs → Accepted (held t (afterAll st cs .cells'))
   reached-accepted st f cs up =
       accepted-of (held t (afterAll st cs .cells')) (calls-good st cs up (rw (fresh-held kinds ns limits t (st .cells') e f) (rw (tabled-fresh t (tabled kinds ns limits t e .0)) at (fresh-live t))))
+
+  -- any cells, a restart answered 0, then any calls: the same
+  pub restarted-accepted : (st : Standing) (g : Given) → OfTable (restarts g) → T (isTicked (restartCall g .answer)) → (cs : List Call) → TakeUps t (after st (restarts g)) cs
+      → Accepted (held t (afterAll (after st (restarts g)) cs .cells'))
+  unfolding after
+  restarted-accepted st g one y cs up = accepted-of (held t (afterAll (after st (restarts g)) cs .cells')) (calls-good (after st (restarts g)) cs up restarted)
+    where
+      on : (b : Bool) → T b → Live (held t (restartCall g .cells')) → Live (held t (cond b (stands (restartCall g .record') (restartCall g .cells') 1) st .cells'))
+      on true y v = v
+      on false y v = absurd y
+
+      restarted : Live (held t (after st (restarts g) .cells'))
+      restarted = on (isTicked (restartCall g .answer)) y (left-good (restarts g) one (restartCall g) (view (restarts g)) y)
 
 -- ---- and answer 9 is never given to them
 abbrev NotBad : Answer → Type 0
@@ -153,13 +167,13 @@ walked-not-bad g t (done s r t' (world f ans)) = tt
 walked-not-bad g t (asks n x) = tt
 walked-not-bad g t short = tt
 
-module _ (t : Tree) (st : Standing) (g : Given) (up : TakesUp t st g) (a : Accepted (held t (st .cells'))) where
-  found-none : (p : ℕ) → Why g (BadCell p) → ⊥
+module _ (t : Tree) (st : Standing) (g : Given) (up : TakesUp t st (ticks g)) (a : Accepted (held t (st .cells'))) where
+  found-none : (p : ℕ) → Why (ticks g) (BadCell p) → ⊥
   found-none p h =
       let q : h .0 ≡ t = up .the-table (h .0) (h .1) in
-      subst IsFaulty (sym (h .3) ∙ ap (λ (u : Tree). badCell false false 0 (heldBy u g)) q ∙ ap (badCell false false 0) (same-tree t st g up (long-cells g (size t) (rw q at (h .2)))) ∙ a) tt
+      subst IsFaulty (sym (h .3) ∙ ap (λ (u : Tree). badCell false false 0 (heldBy u g)) q ∙ ap (badCell false false 0) (same-tree t st (ticks g) up refl (rw q at (h .2))) ∙ a) tt
 
-  not-bad : (b : Answer) → Why g b → NotBad b
+  not-bad : (b : Answer) → Why (ticks g) b → NotBad b
   not-bad (Ticked s r v u) h = tt
   not-bad (Asked n x) h = tt
   not-bad Finished h = tt
@@ -170,10 +184,13 @@ module _ (t : Tree) (st : Standing) (g : Given) (up : TakesUp t st g) (a : Accep
   not-bad OutOfFuel h = tt
   not-bad (BadCell p) h = found-none p h
 
-  by-view : (l : Left) → View g l → NotBad (l .answer)
+  by-view : (l : Left) → View (ticks g) l → NotBad (l .answer)
   by-view l (refusing b n) = not-bad b n
-  by-view l (walking u w) = walked-not-bad g (heldBy u g) (walk u g)
+  by-view l (walking u w) = walked-not-bad g (heldBy u g) (walk u (ticks g))
+
+  pub accepted-not-bad : (p : ℕ) → tickCall g .answer ≡ BadCell p → ⊥
+  accepted-not-bad p q = subst NotBad q (by-view (tickCall g) (view (ticks g)))
 
 pub never-bad-cell : (kinds ns : List ℕ) (limits : List Float) (t : Tree) → table kinds ns limits ≡ good t → (st : Standing) → FreshCells t (st .cells') → (cs : List Call) → TakeUps t st cs
-    → (g : Given) → TakesUp t (afterAll st cs) g → (p : ℕ) → tickCall g .answer ≡ BadCell p → ⊥
-never-bad-cell kinds ns limits t e st f cs up g next p q = subst NotBad q (by-view t (afterAll st cs) g next (reached-accepted kinds ns limits t e st f cs up) (tickCall g) (view g))
+    → (g : Given) → TakesUp t (afterAll st cs) (ticks g) → (p : ℕ) → tickCall g .answer ≡ BadCell p → ⊥
+never-bad-cell kinds ns limits t e st f cs up g next = accepted-not-bad t (afterAll st cs) g next (reached-accepted kinds ns limits t e st f cs up)

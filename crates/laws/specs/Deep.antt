@@ -1,4 +1,4 @@
--- The 16 levels of the call's tick are never what ends its walk: with any number that the tree is no deeper than, it is the same walk.
+-- The 16 levels of a call's walk are never what ends it: with any number that the tree is no deeper than, it is the same walk.
 use mathlib.Core.Path.{_≡_}
 use Prim.Native.Nat.{ℕ, _≤_}
 use lib.Ieee.{binary64}
@@ -6,16 +6,16 @@ use Rattle.rules.specs.Tree.{Tree, depth}
 use Rattle.rules.specs.Outcome.{world}
 use Rattle.rules.specs.State.{tick}
 use Rattle.rules.specs.Table.{mostDeep}
-use Rattle.rules.specs.Call.{Given, answers, cleanedEvent}
+use Rattle.rules.specs.Call.{answers, cleanedEvent}
 use Rattle.calls.specs.Shape.{depth-shape}
-use Rattle.calls.specs.Memory.{held-shape}
 use Rattle.calls.specs.Tables.{tabled}
-use Rattle.calls.specs.View.{heldBy, walk, Walked}
+use Rattle.calls.specs.View.{Call, startOf, walk, start-shape, Walked}
 use Rattle.laws.specs.Alone.{depth-free}
 
-pub deep-enough : (g : Given) (t : Tree) → Walked g t → (d : ℕ) → depth t ≤ d
-    → walk t g ≡ tick binary64 d (heldBy t g) (cleanedEvent (g .event)) (world (g .fuel) (answers (g .statuses) (g .leftovers)))
-deep-enough g t w d h =
-    let q : depth (heldBy t g) ≡ depth t = depth-shape (heldBy t g) t (held-shape t (g .cells')) in
-    depth-free binary64 mostDeep d (heldBy t g) (cleanedEvent (g .event)) (world (g .fuel) (answers (g .statuses) (g .leftovers)))
+pub deep-enough : (a : Call) (t : Tree) → Walked a t → (d : ℕ) → depth t ≤ d
+    → walk t a ≡ tick binary64 d (startOf t a) (cleanedEvent (a .given' .event)) (world (a .given' .fuel) (answers (a .given' .statuses) (a .given' .leftovers)))
+deep-enough a t w d h =
+    let g = a .given' in
+    let q : depth (startOf t a) ≡ depth t = depth-shape (startOf t a) t (start-shape t a) in
+    depth-free binary64 mostDeep d (startOf t a) (cleanedEvent (g .event)) (world (g .fuel) (answers (g .statuses) (g .leftovers)))
     (rw q (tabled (g .kinds) (g .ns) (g .limits) t (w .table-good) .1)) (rw q h)

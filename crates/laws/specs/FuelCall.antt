@@ -10,11 +10,10 @@ use Rattle.rules.specs.declared.answer.Answer.the-variants.{Ticked, Asked, Fini
 use Rattle.rules.specs.Tree.{Tree, node, Forest, [], _∷_, size}
 use Rattle.rules.specs.Outcome.{world, Out, done, asks, short}
 use Rattle.rules.specs.Table.{mostDeep, good, table}
-use Rattle.rules.specs.Call.{Given, Left, answers, cleanedEvent, walked, tickCall}
+use Rattle.rules.specs.Call.{Given, Left, answers, cleanedEvent, walked}
 use Rattle.calls.specs.Shape.{shape, shapes, size-shape, depth-of}
-use Rattle.calls.specs.Memory.{held-shape}
 use Rattle.calls.specs.Tables.{tabled, one-tree}
-use Rattle.calls.specs.View.{not-walked, heldBy, walk, NotWalked, View, walking, refusing, view}
+use Rattle.calls.specs.View.{Call, leftBy, heldBy, startOf, walk, start-shape, NotWalked, not-walked, View, walking, refusing, view}
 use Rattle.laws.specs.Fuel.{noLoop, NoLoops, NoLoopsIn, Plain, never-short}
 use Rattle.laws.specs.Live.{tabled-right}
 use Rattle.laws.specs.CellsGood.{live-of}
@@ -66,18 +65,21 @@ refused-not-out (BadAnswer i) h = tt
 refused-not-out OutOfFuel h = h
 refused-not-out (BadCell p) h = tt
 
-module _ (g : Given) (t : Tree) (e : table (g .kinds) (g .ns) (g .limits) ≡ good t) (w : T (loopless t)) (f : size t ≤ g .fuel) where
-  plain-held : Plain mostDeep (shape (heldBy t g))
-  plain-held = let r = tabled (g .kinds) (g .ns) (g .limits) t e in rw (held-shape t (g .cells')) (tabled-right t (r .0), rw (depth-of t) at (r .1), no-loops t w)
+module _ (a : Call) (t : Tree) (e : table (a .given' .kinds) (a .given' .ns) (a .given' .limits) ≡ good t) (w : T (loopless t)) (f : size t ≤ a .given' .fuel) where
+  abbrev g : Given
+  g = a .given'
 
-  by-view : (l : Left) → View g l → NotOut (l .answer)
-  by-view l (refusing a n) = refused-not-out a (not-walked g a n)
+  plain-start : Plain mostDeep (shape (startOf t a))
+  plain-start = let r = tabled (g .kinds) (g .ns) (g .limits) t e in rw (start-shape t a) (tabled-right t (r .0), rw (depth-of t) at (r .1), no-loops t w)
+
+  by-view : (l : Left) → View a l → NotOut (l .answer)
+  by-view l (refusing b n) = refused-not-out b (not-walked a b n)
   by-view l (walking u v) =
       let q : u ≡ t = one-tree (table (g .kinds) (g .ns) (g .limits)) t u e (v .table-good) in
-      rw q (walked-not-out g (heldBy t g) (walk t g)
-      (never-short binary64 mostDeep (heldBy t g) (cleanedEvent (g .event)) (g .fuel) (answers (g .statuses) (g .leftovers)) plain-held
-      (live-of (heldBy t g) (v .cells-good .0) (rw q at (v .cells-good .1)))
-      (rw (size-shape (heldBy t g) t (held-shape t (g .cells'))) f)))
+      rw q (walked-not-out g (heldBy t g) (walk t a)
+      (never-short binary64 mostDeep (startOf t a) (cleanedEvent (g .event)) (g .fuel) (answers (g .statuses) (g .leftovers)) plain-start
+      (live-of (startOf t a) (v .cells-good .0) (rw q at (v .cells-good .1)))
+      (rw (size-shape (startOf t a) t (start-shape t a)) f)))
 
-  pub fuel-enough : tickCall g .answer ≡ OutOfFuel → ⊥
-  fuel-enough q = subst NotOut q (by-view (tickCall g) (view g))
+  pub fuel-enough : leftBy a .answer ≡ OutOfFuel → ⊥
+  fuel-enough q = subst NotOut q (by-view (leftBy a) (view a))

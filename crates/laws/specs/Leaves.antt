@@ -1,12 +1,13 @@
--- What a call leaves: a refusal leaves everything; answers 7 and 1 leave all but the spare, which holds the cells at entry.
-use mathlib.Core.Path.{_≡_, refl}
+-- What a call leaves, a tick or a restart: a refusal leaves everything; answers 7 and 1 leave all but the spare, which holds the cells at entry.
+use mathlib.Core.Path.{_≡_, refl, subst}
+use lib.Dec.{T}
 use Rattle.rules.specs.declared.answer.Answer.{Answer}
 use Rattle.rules.specs.declared.answer.Answer.the-variants.{Ticked, Asked, Finished, BadTable, TooShort, BadTime, BadAnswer, OutOfFuel, BadCell}
 use Rattle.rules.specs.Tree.{Tree}
 use Rattle.rules.specs.Outcome.{world, Out, done, asks, short}
 use Rattle.rules.specs.Table.{good, table}
-use Rattle.rules.specs.Call.{Given, Left, left, ontoRun, walked, refused, tickCall}
-use Rattle.calls.specs.View.{not-walked, heldBy, walk, NotWalked, View, walking, refusing, view}
+use Rattle.rules.specs.Call.{Given, Left, left, ontoRun, walked, refused, restartCall}
+use Rattle.calls.specs.View.{Call, restarts, leftBy, heldBy, walk, NotWalked, Why, not-walked, View, walking, refusing, view}
 
 -- by the answer: 0 leaves what the rules say; 7 and 1 all but the spare; any other all
 abbrev pub Leaves : Given → Left → Answer → Type 0
@@ -36,9 +37,44 @@ walked-leaves g t e (done s r t' (world f ans)) = tt
 walked-leaves g t e (asks n x) = (t, e, refl)
 walked-leaves g t e short = (t, e, refl)
 
-by-view : (g : Given) (l : Left) → View g l → Leaves g l (l .answer)
-by-view g l (refusing a n) = refused-leaves g a (not-walked g a n)
-by-view g l (walking t w) = walked-leaves g t (w .table-good) (walk t g)
+by-view : (a : Call) (l : Left) → View a l → Leaves (a .given') l (l .answer)
+by-view a l (refusing b n) = refused-leaves (a .given') b (not-walked a b n)
+by-view a l (walking t w) = walked-leaves (a .given') t (w .table-good) (walk t a)
 
-pub leaves : (g : Given) → Leaves g (tickCall g) (tickCall g .answer)
-leaves g = by-view g (tickCall g) (view g)
+pub leaves : (a : Call) → Leaves (a .given') (leftBy a) (leftBy a .answer)
+leaves a = by-view a (leftBy a) (view a)
+
+-- ---- a restart is never answered 9 or 2
+abbrev pub OfRestart : Answer → Type 0
+OfRestart (Ticked s r v u) = Unit {0}
+OfRestart (Asked n x) = Unit {0}
+OfRestart OutOfFuel = Unit {0}
+OfRestart Finished = ⊥
+OfRestart (BadTable p) = Unit {0}
+OfRestart TooShort = Unit {0}
+OfRestart BadTime = Unit {0}
+OfRestart (BadAnswer i) = Unit {0}
+OfRestart (BadCell p) = ⊥
+
+refused-restart : (g : Given) (b : Answer) → Why (restarts g) b → OfRestart b
+refused-restart g (Ticked s r v u) h = tt
+refused-restart g (Asked n x) h = tt
+refused-restart g OutOfFuel h = tt
+refused-restart g Finished h = subst T (h .1) tt
+refused-restart g (BadTable p) h = tt
+refused-restart g TooShort h = tt
+refused-restart g BadTime h = tt
+refused-restart g (BadAnswer i) h = tt
+refused-restart g (BadCell p) h = subst T (h .4) tt
+
+walked-restart : (g : Given) (t : Tree) (o : Out Tree) → OfRestart (walked g t o .answer)
+walked-restart g t (done s r t' (world f ans)) = tt
+walked-restart g t (asks n x) = tt
+walked-restart g t short = tt
+
+pub restart-says : (g : Given) → OfRestart (restartCall g .answer)
+restart-says g = on (restartCall g) (view (restarts g))
+  where
+    on : (l : Left) → View (restarts g) l → OfRestart (l .answer)
+    on l (refusing b n) = refused-restart g b n
+    on l (walking t w) = walked-restart g (heldBy t g) (walk t (restarts g))

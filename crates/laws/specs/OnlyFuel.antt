@@ -1,7 +1,7 @@
 -- Answer 7 only ever means fuel: the walk would make visit fuel + 1. Each visit takes one of the fuel, so that visit is the one that finds none
 -- left; the rules are `short` there, and in clauses that no accepted cell leads to: a child that is not there, a place past its range, the depth
 -- and the loops' budget. So that the two can be told apart, that one visit gets an outcome of its own.
-use mathlib.Core.Path.{_≡_, refl, ap, subst}
+use mathlib.Core.Path.{_≡_, refl, sym, ap, subst}
 use mathlib.Core.Logic.{_⊎_, inl, inr}
 use mathlib.Core.List.{List}
 use mathlib.Core.List
@@ -18,12 +18,11 @@ use Rattle.rules.specs.Outcome.{dt, World, world, Out, done, asks, short, Ticke
 use Rattle.rules.specs.State.{rule, tick}
 use Rattle.rules.specs.Table.{mostDeep, good, table}
 use Rattle.rules.specs.Cells.{elapsed}
-use Rattle.rules.specs.Call.{Given, Left, answers, cleanedEvent, walked, tickCall}
+use Rattle.rules.specs.Call.{Left, answers, cleanedEvent, walked}
 use Rattle.calls.specs.Shape.{Shape, Shapes, shape, shapes, depthOf, depthsOf, depth-of}
 use Rattle.calls.specs.Shape
-use Rattle.calls.specs.Memory.{held-shape}
 use Rattle.calls.specs.Tables.{tabled}
-use Rattle.calls.specs.View.{heldBy, walk, Walked, Why, View, walking, refusing, view}
+use Rattle.calls.specs.View.{Call, leftBy, heldBy, startOf, walk, start-shape, Walked, Why, View, walking, refusing, view}
 use Rattle.calls.specs.Walks.{walks}
 use Rattle.laws.specs.Pair.{Pairing, Sim, goes, ends, back}
 use Rattle.laws.specs.PairDrivers.{Same, Each, Alike, Any, any-each}
@@ -142,41 +141,43 @@ module _ (n : ℕ) (x : Float) where
         on o o' (ends u u' q) h = stop u u' q h
 
 -- ---- the walk of a call
-abbrev pub walkOr : Out Tree → Tree → Given → Out Tree
-walkOr out t g = tickOr out binary64 mostDeep (heldBy t g) (cleanedEvent (g .event)) (world (g .fuel) (answers (g .statuses) (g .leftovers)))
+abbrev pub walkOr : Out Tree → Tree → Call → Out Tree
+walkOr out t a = tickOr out binary64 mostDeep (startOf t a) (cleanedEvent (a .given' .event)) (world (a .given' .fuel) (answers (a .given' .statuses) (a .given' .leftovers)))
 
-pub walk-or : (g : Given) (t : Tree) → Walked g t → (n : ℕ) (x : Float) → walkOr (asks n x) t g ≡ instead (asks n x) (walk t g)
-walk-or g t w n x =
+pub walk-or : (a : Call) (t : Tree) → Walked a t → (n : ℕ) (x : Float) → walkOr (asks n x) t a ≡ instead (asks n x) (walk t a)
+walk-or a t w n x =
+    let g = a .given' in
     let r = tabled (g .kinds) (g .ns) (g .limits) t (w .table-good) in
-    only-fuel n x binary64 mostDeep (heldBy t g) (cleanedEvent (g .event)) (world (g .fuel) (answers (g .statuses) (g .leftovers)))
-    (rw (held-shape t (g .cells')) (tabled-right t (r .0), rw (depth-of t) at (r .1))) (live-of (heldBy t g) (w .cells-good .0) (w .cells-good .1))
+    only-fuel n x binary64 mostDeep (startOf t a) (cleanedEvent (g .event)) (world (g .fuel) (answers (g .statuses) (g .leftovers)))
+    (rw (start-shape t a) (tabled-right t (r .0), rw (depth-of t) at (r .1))) (live-of (startOf t a) (w .cells-good .0) (w .cells-good .1))
     (event-elapsed (g .event) (w .time-good)) (answers-elapsed 0 (w .answers-good .0) (g .statuses) (g .leftovers) (w .answers-good .1))
 
 -- 7: the visit that finds no fuel left is met, and its outcome, whichever, is that of the walk. 0 and 1: it is not met
-abbrev pub ByFuel : Given → Tree → Answer → Type 0
-ByFuel g t OutOfFuel = (n : ℕ) (x : Float) → walkOr (asks n x) t g ≡ asks n x
-ByFuel g t (Ticked s r v u) = (n : ℕ) (x : Float) → walkOr (asks n x) t g ≡ walk t g
-ByFuel g t (Asked m y) = (n : ℕ) (x : Float) → walkOr (asks n x) t g ≡ walk t g
-ByFuel g t Finished = ⊥
-ByFuel g t (BadTable p) = ⊥
-ByFuel g t TooShort = ⊥
-ByFuel g t BadTime = ⊥
-ByFuel g t (BadAnswer i) = ⊥
-ByFuel g t (BadCell p) = ⊥
+abbrev pub ByFuel : Call → Tree → Answer → Type 0
+ByFuel a t OutOfFuel = (n : ℕ) (x : Float) → walkOr (asks n x) t a ≡ asks n x
+ByFuel a t (Ticked s r v u) = (n : ℕ) (x : Float) → walkOr (asks n x) t a ≡ walk t a
+ByFuel a t (Asked m y) = (n : ℕ) (x : Float) → walkOr (asks n x) t a ≡ walk t a
+ByFuel a t Finished = ⊥
+ByFuel a t (BadTable p) = ⊥
+ByFuel a t TooShort = ⊥
+ByFuel a t BadTime = ⊥
+ByFuel a t (BadAnswer i) = ⊥
+ByFuel a t (BadCell p) = ⊥
 
-pub by-fuel : (g : Given) (t : Tree) → Walked g t → ByFuel g t (tickCall g .answer)
-by-fuel g t w = rw (walks g t w) (on (walk t g) refl (walk-or g t w))
+pub by-fuel : (a : Call) (t : Tree) → Walked a t → ByFuel a t (leftBy a .answer)
+by-fuel a t w = subst (λ (l : Left). ByFuel a t (l .answer)) (sym (walks a t w)) (on (walk t a) refl (walk-or a t w))
   where
-    on : (o : Out Tree) → walk t g ≡ o → ((n : ℕ) (x : Float) → walkOr (asks n x) t g ≡ instead (asks n x) o) → ByFuel g t (walked g (heldBy t g) o .answer)
+    on : (o : Out Tree) → walk t a ≡ o → ((n : ℕ) (x : Float) → walkOr (asks n x) t a ≡ instead (asks n x) o) → ByFuel a t (walked (a .given') (heldBy t (a .given')) o .answer)
     on (done s r t' (world f ans)) q h = rw (← q) at h
     on (asks m y) q h = rw (← q) at h
     on short q h = h
 
 -- so a call is answered 7 only where that visit ends its walk
-pub seven-is-fuel : (g : Given) → tickCall g .answer ≡ OutOfFuel
-    → (t : Tree) × (table (g .kinds) (g .ns) (g .limits) ≡ good t) × ((n : ℕ) (x : Float) → walkOr (asks n x) t g ≡ asks n x)
-seven-is-fuel g q = on (tickCall g) (view g) q
+pub seven-is-fuel : (a : Call) → leftBy a .answer ≡ OutOfFuel
+    → (t : Tree) × (table (a .given' .kinds) (a .given' .ns) (a .given' .limits) ≡ good t) × ((n : ℕ) (x : Float) → walkOr (asks n x) t a ≡ asks n x)
+seven-is-fuel a q = on (leftBy a) (view a) q
   where
-    on : (l : Left) → View g l → l .answer ≡ OutOfFuel → (t : Tree) × (table (g .kinds) (g .ns) (g .limits) ≡ good t) × ((n : ℕ) (x : Float) → walkOr (asks n x) t g ≡ asks n x)
-    on l (refusing a y) e = absurd (subst (Why g) e y)
-    on l (walking t w) e = (t, w .table-good, subst (ByFuel g t) q (by-fuel g t w))
+    on : (l : Left) → View a l → l .answer ≡ OutOfFuel
+        → (t : Tree) × (table (a .given' .kinds) (a .given' .ns) (a .given' .limits) ≡ good t) × ((n : ℕ) (x : Float) → walkOr (asks n x) t a ≡ asks n x)
+    on l (refusing b y) e = absurd (subst (Why a) e y)
+    on l (walking t w) e = (t, w .table-good, subst (ByFuel a t) q (by-fuel a t w))

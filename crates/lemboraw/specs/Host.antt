@@ -3,16 +3,15 @@ use mathlib.Core.Bool.{Bool, cond}
 use mathlib.Core.List.{List}
 use Prim.Native.Nat.{ℕ}
 use lib.Dec.{leb}
-use lib.Ieee.{Float}
 use Rattle.rules.specs.declared.answer.Record.{Record}
 use Rattle.rules.specs.declared.answer.Said.{Said}
 use Rattle.rules.specs.declared.answer.BoundAnswer.{BoundAnswer}
 use Rattle.rules.specs.declared.answer.BoundAnswer.the-variants.{Within, Never, Above, BadTable, NoBound}
 use Rattle.rules.specs.Kinds.{code, kindOf, memory}
-use Rattle.rules.specs.Call.{Run, Given, Left, ResetLeft, tickCall, resetCall, saidOf, saidOfReset}
+use Rattle.rules.specs.Call.{Run, Given, Left, tickCall, restartCall, saidOf}
 use Rattle.lemboraw.specs.declared.numbers.Bound.{Bound}
 
--- what a tick leaves
+-- what a call leaves
 pub record HostLeft : Type 0 where
   pub said : Said
   pub record' : Record
@@ -29,20 +28,8 @@ told l = hostLeft (saidOf (l .answer)) (l .record') (l .cells') (l .spare) (l .b
 unfoldable pub hostTick : Given → HostLeft
 hostTick g = told (tickCall g)
 
--- what a reset leaves
-pub record HostResetLeft : Type 0 where
-  pub said : Said
-  pub record' : Record
-  pub cells' : Run
-
-abbrev pub hostResetLeft : Said → Record → Run → HostResetLeft
-hostResetLeft a r c = record { said = a; record' = r; cells' = c }
-
-abbrev pub toldReset : ResetLeft → HostResetLeft
-toldReset l = hostResetLeft (saidOfReset (l .answer)) (l .record') (l .cells')
-
-unfoldable pub hostReset : List ℕ → List ℕ → List Float → Record → Run → HostResetLeft
-hostReset ks ns ls r c = toldReset (resetCall ks ns ls r c)
+unfoldable pub hostRestart : Given → HostLeft
+hostRestart g = told (restartCall g)
 
 -- the number of a kind with its memory on or off; a number that is no kind stays
 abbrev pub memoryOf : ℕ → Bool → ℕ

@@ -8,13 +8,13 @@ use numbers::bound_of;
 use rules::Kind;
 use rules::Record;
 use rules::Said;
-use value::reset_said;
+use value::restart_said;
 use value::tick_said;
 ghost use mathlib.Core.Path.{_≡_};
 ghost use Rattle.rules.specs.Outcome.{eventOf};
 ghost use Rattle.rules.specs.Call.{run, given};
 ghost use Rattle.rules.specs.Bound.{boundCall};
-ghost use Rattle.lemboraw.specs.Host.{hostTick, hostLeft, hostReset, hostResetLeft, memoryOf, boundOf};
+ghost use Rattle.lemboraw.specs.Host.{hostTick, hostRestart, hostLeft, memoryOf, boundOf};
 
 // A tick: the cells, the board and the record change only as its answer says.
 #[no_mangle]
@@ -69,9 +69,10 @@ pub extern "C" fn lemboraw_tick(
     told.said
 }
 
-// A reset: the table's cells are made fresh, and the record is no longer finished.
+// A restart: a tick as from a fresh tree, of cells that may hold anything. If it does not end in answer 0, the cells, the
+// board and the record are as they were.
 #[no_mangle]
-pub extern "C" fn lemboraw_reset(
+pub extern "C" fn lemboraw_restart(
     record: &mut Record,
     kinds: &[u8],
     ns: &[u16],
@@ -79,14 +80,45 @@ pub extern "C" fn lemboraw_reset(
     times: &mut [f64],
     places: &mut [u16],
     marks: &mut [u8],
+    spare_times: &mut [f64],
+    spare_places: &mut [u16],
+    spare_marks: &mut [u8],
+    board: &mut [u8],
+    update: bool,
+    dt: f64,
+    fuel: u32,
+    statuses: &[u8],
+    leftovers: &[f64],
 ) -> Said
     ensures { λ r. ⌜
-        hostReset (now (kinds .entry)) (now (ns .entry)) (now (limits .entry)) (now («record» .entry))
+        hostRestart (given (now («record» .entry)) (now (kinds .entry)) (now (ns .entry)) (now (limits .entry))
         (run (now (times .entry)) (now (places .entry)) (now (marks .entry)))
-        ≡ hostResetLeft r (now («record» .exit)) (run (now (times .exit)) (now (places .exit)) (now (marks .exit)))
+        (run (now («spare_times» .entry)) (now («spare_places» .entry)) (now («spare_marks» .entry)))
+        (now (board .entry)) (eventOf update dt) fuel (now (statuses .entry)) (now (leftovers .entry)))
+        ≡ hostLeft r (now («record» .exit))
+        (run (now (times .exit)) (now (places .exit)) (now (marks .exit)))
+        (run (now («spare_times» .exit)) (now («spare_places» .exit)) (now («spare_marks» .exit)))
+        (now (board .exit))
         ⌝ }
 {
-    let told = reset_said(*record, kinds, ns, limits, times, places, marks);
+    let told = restart_said(
+        *record,
+        kinds,
+        ns,
+        limits,
+        times,
+        places,
+        marks,
+        spare_times,
+        spare_places,
+        spare_marks,
+        board,
+        update,
+        dt,
+        fuel,
+        statuses,
+        leftovers,
+    );
     *record = told.record;
     told.said
 }

@@ -1,13 +1,13 @@
 // The calls by value, in a host's numbers: the record comes and goes with the answer.
 use crate::numbers::event_of;
-use call::reset_value;
+use call::restart_value;
 use call::tick_value;
 use rules::Record;
 use rules::Said;
 ghost use mathlib.Core.Path.{_≡_};
 ghost use Rattle.rules.specs.Outcome.{eventOf};
 ghost use Rattle.rules.specs.Call.{run, given};
-ghost use Rattle.lemboraw.specs.Host.{hostTick, hostLeft, hostReset, hostResetLeft};
+ghost use Rattle.lemboraw.specs.Host.{hostTick, hostRestart, hostLeft};
 
 // What is said, and the record that stands after the call.
 pub struct Told {
@@ -72,8 +72,8 @@ pub fn tick_said(
     }
 }
 
-// A reset.
-pub fn reset_said(
+// A restart.
+pub fn restart_said(
     record: Record,
     kinds: &[u8],
     ns: &[u16],
@@ -81,16 +81,50 @@ pub fn reset_said(
     times: &mut [f64],
     places: &mut [u16],
     marks: &mut [u8],
+    spare_times: &mut [f64],
+    spare_places: &mut [u16],
+    spare_marks: &mut [u8],
+    board: &mut [u8],
+    update: bool,
+    dt: f64,
+    fuel: u32,
+    statuses: &[u8],
+    leftovers: &[f64],
 ) -> Told
     ensures { λ r. ⌜
-        hostReset (now (kinds .entry)) (now (ns .entry)) (now (limits .entry)) «record»
+        hostRestart (given «record» (now (kinds .entry)) (now (ns .entry)) (now (limits .entry))
         (run (now (times .entry)) (now (places .entry)) (now (marks .entry)))
-        ≡ hostResetLeft (r .said) (r .«record») (run (now (times .exit)) (now (places .exit)) (now (marks .exit)))
+        (run (now («spare_times» .entry)) (now («spare_places» .entry)) (now («spare_marks» .entry)))
+        (now (board .entry)) (eventOf update dt) fuel (now (statuses .entry)) (now (leftovers .entry)))
+        ≡ hostLeft (r .said) (r .«record»)
+        (run (now (times .exit)) (now (places .exit)) (now (marks .exit)))
+        (run (now («spare_times» .exit)) (now («spare_places» .exit)) (now («spare_marks» .exit)))
+        (now (board .exit))
         ⌝ }
 {
-    let was = reset_value(record, kinds, ns, limits, times, places, marks);
-    let kept = was.record;
-    let answer = was.answer;
+    let event = event_of(update, dt);
+    let restarted = restart_value(
+        record,
+        kinds,
+        ns,
+        limits,
+        times,
+        places,
+        marks,
+        spare_times,
+        spare_places,
+        spare_marks,
+        board,
+        event,
+        fuel,
+        statuses,
+        leftovers,
+    );
+    let after = restarted.record;
+    let answer = restarted.answer;
     let said = answer.said();
-    Told { said, record: kept }
+    Told {
+        said,
+        record: after,
+    }
 }

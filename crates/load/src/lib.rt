@@ -3,8 +3,10 @@ use work::mark_of;
 use work::place_of;
 use work::seen_of;
 ghost use mathlib.Core.Path.{_≡_};
+ghost use mathlib.Core.List.{_++_};
 ghost use Prim.Native.Nat.{_+_, _-_, _≤_};
-ghost use lib.ListN.{length};
+ghost use lib.ListN.{length, drop, replicate};
+ghost use Rattle.rules.specs.Tree.{zeroTime};
 ghost use Rattle.work.specs.Word.{placeOf, markOf, seenOf};
 ghost use Rattle.refine.specs.Words.{pack};
 ghost use Rattle.load.specs.Load.{loadWords, over, Room};
@@ -48,6 +50,20 @@ pub fn load(
     let mut p = 0;
     while p < n {
         work[p] = word(below(p, wide(ends[p])), kinds[p], places[p], marks[p]);
+        p += 1;
+    }
+}
+
+// The same of a tree that starts fresh: no place and no mark, and its times become zero.
+pub fn load_fresh(work: &mut [u32; 260], kinds: &[u8], ends: &[u16], times: &mut [f64], n: usize)
+    requires { ⌜ (n ≤ 256) × (n ≤ length (now kinds)) × (n ≤ length (now ends)) × (n ≤ length (now times)) ⌝ }
+    ensures { λ _. ⌜ now (work .exit) ≡ loadWords (now (kinds .entry)) (now (ends .entry)) (replicate n 0) (replicate n 0) 0 n (now (work .entry)) ⌝ }
+    ensures { λ _. ⌜ now (times .exit) ≡ replicate n zeroTime ++ drop n (now (times .entry)) ⌝ }
+{
+    let mut p = 0;
+    while p < n {
+        work[p] = word(below(p, wide(ends[p])), kinds[p], 0, 0);
+        times[p] = 0.0;
         p += 1;
     }
 }

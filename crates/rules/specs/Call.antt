@@ -1,4 +1,4 @@
--- The whole call: what a tick and a reset answer and what they leave, refusals in their order. Document 01, "What a call can say".
+-- The whole call: what a tick and a restart answer and what they leave, refusals in their order. Document 01, "What a call can say".
 use mathlib.Core.Bool.{Bool, true, false, cond, not, _||_}
 use mathlib.Core.List.{List}
 use mathlib.Core.List
@@ -12,8 +12,6 @@ use Rattle.rules.specs.declared.event.Event.{Event}
 use Rattle.rules.specs.declared.event.Event.the-variants.{Update, Other}
 use Rattle.rules.specs.declared.answer.Answer.{Answer}
 use Rattle.rules.specs.declared.answer.Answer.the-variants.{Ticked, Asked, Finished, BadTable, TooShort, BadTime, BadAnswer, OutOfFuel, BadCell}
-use Rattle.rules.specs.declared.answer.ResetAnswer.{ResetAnswer}
-use Rattle.rules.specs.declared.answer.ResetAnswer.the-variants as resets
 use Rattle.rules.specs.declared.answer.Record.{Record}
 use Rattle.rules.specs.declared.answer.Said.{Said}
 use Rattle.rules.specs.Tree.{zeroTime, Tree, size}
@@ -36,7 +34,7 @@ run ts ps ms = record { times = ts; places = ps; marks = ms }
 abbrev pub runLength : Run → ℕ
 runLength r = length (cells (r .times) (r .places) (r .marks))
 
--- what a tick is given
+-- what a tick or a restart is given
 pub record Given : Type 0 where
   pub kinds : List ℕ
   pub ns : List ℕ
@@ -109,7 +107,7 @@ counted s r = record { finished = ended s; ticks = (r .ticks + 1) % 2 ^ 64 }
 abbrev pub refused : Given → Answer → Left
 refused g a = left a (g .record') (g .cells') (g .spare) (g .board)
 
--- the walk of the tree t, whose cells are those at entry
+-- a walk, before which the tree t stood with the cells at entry
 abbrev pub walked : Given → Tree → Out Tree → Left
 walked g t (done s r t' (world f ans)) = left
     (Ticked s r (g .fuel - f) (length (answers (g .statuses) (g .leftovers)) - length ans))
@@ -117,52 +115,45 @@ walked g t (done s r t' (world f ans)) = left
 walked g t (asks n x) = left (Asked n x) (g .record') (g .cells') (ontoRun t (g .spare)) (g .board)
 walked g t short = left OutOfFuel (g .record') (g .cells') (ontoRun t (g .spare)) (g .board)
 
--- the tree with its cells; 5, 6 and 2, and then the walk
-unfoldable pub tickTree : Given → Tree → Left
-unfolding tick answers badAnswer counted ontoRun ontoBoard shownAs
-tickTree g t = cond (timeAllowed (g .event))
-    (elim (badAnswer 0 (g .statuses) (g .leftovers)) [
-      | faulty i ↦ refused g (BadAnswer i)
-      | none _ ↦ cond (g .record' .finished)
-          (refused g Finished)
-          (walked g t (tick binary64 mostDeep t (cleanedEvent (g .event)) (world (g .fuel) (answers (g .statuses) (g .leftovers)))))
-    ])
-    (refused g BadTime)
-
 abbrev pub tooShort : Given → ℕ → Bool
 tooShort g n = not (leb n (runLength (g .cells'))) || not (leb n (runLength (g .spare))) || not (leb n (length (g .board)))
 
--- 3, 4 and 9 come first
-unfoldable pub tickCall : Given → Left
-unfolding tickTree table withCells badCell cells
-tickCall g = elim (table (g .kinds) (g .ns) (g .limits)) [
+-- 3 and 4, of a tick and a restart alike; then what is due of the table's fresh tree
+abbrev pub onTable : Given → (Tree → Left) → Left
+onTable g due = elim (table (g .kinds) (g .ns) (g .limits)) [
   | bad p ↦ refused g (BadTable p)
-  | good t₀ ↦ cond (tooShort g (size t₀))
-      (refused g TooShort)
-      (let t = withCells t₀ (cells (g .cells' .times) (g .cells' .places) (g .cells' .marks)) .0 in
-      elim (badCell false false 0 t) [
-        | faulty p ↦ refused g (BadCell p)
-        | none _ ↦ tickTree g t
-      ])
+  | good t₀ ↦ cond (tooShort g (size t₀)) (refused g TooShort) (due t₀)
 ]
 
--- ---- a reset: it looks only at table and cells, and writes neither spare nor board
-pub record ResetLeft : Type 0 where
-  pub answer : ResetAnswer
-  pub record' : Record
-  pub cells' : Run
+-- 5 and 6, and then what is due
+abbrev pub onInputs : Given → Left → Left
+onInputs g due = cond (timeAllowed (g .event))
+    (elim (badAnswer 0 (g .statuses) (g .leftovers)) [
+      | faulty i ↦ refused g (BadAnswer i)
+      | none _ ↦ due
+    ])
+    (refused g BadTime)
 
-abbrev pub resetLeft : ResetAnswer → Record → Run → ResetLeft
-resetLeft a r c = record { answer = a; record' = r; cells' = c }
+-- the table's tree with the cells at entry
+abbrev pub atEntry : Given → Tree → Tree
+atEntry g t₀ = withCells t₀ (cells (g .cells' .times) (g .cells' .places) (g .cells' .marks)) .0
 
-unfoldable pub resetCall : List ℕ → List ℕ → List Float → Record → Run → ResetLeft
-unfolding table ontoRun
-resetCall kinds ns limits r c = elim (table kinds ns limits) [
-  | bad p ↦ resetLeft (resets.BadTable p) r c
-  | good t ↦ cond (leb (size t) (runLength c))
-      (resetLeft resets.Reset (record { finished = false; ticks = r .ticks }) (ontoRun t c))
-      (resetLeft resets.TooShort r c)
+-- the walk that starts from the tree t
+abbrev pub walkFrom : Given → Tree → Out Tree
+walkFrom g t = tick binary64 mostDeep t (cleanedEvent (g .event)) (world (g .fuel) (answers (g .statuses) (g .leftovers)))
+
+-- a tick: 3 and 4, 9, 5 and 6, 2; then the walk starts from the tree with the cells at entry
+unfoldable pub tickCall : Given → Left
+unfolding tick table withCells badCell cells answers badAnswer counted ontoRun ontoBoard shownAs
+tickCall g = onTable g λ t₀. let t = atEntry g t₀ in elim (badCell false false 0 t) [
+  | faulty p ↦ refused g (BadCell p)
+  | none _ ↦ onInputs g (cond (g .record' .finished) (refused g Finished) (walked g t (walkFrom g t)))
 ]
+
+-- a restart: 3 and 4, 5 and 6; then the walk starts from the table's fresh tree. The cells at entry may hold anything, and go to the spare as they are
+unfoldable pub restartCall : Given → Left
+unfolding tick table withCells cells answers badAnswer counted ontoRun ontoBoard shownAs
+restartCall g = onTable g λ t₀. onInputs g (walked g (atEntry g t₀) (walkFrom g t₀))
 
 -- ---- document 01's numbers: "every field that a line doesn't name is 0"
 abbrev pub numbers : ℕ → ℕ → ℕ → ℕ → ℕ → Float → Said
@@ -178,8 +169,3 @@ saidOf BadTime = numbers 5 0 0 0 0 zeroTime
 saidOf (BadAnswer i) = numbers 6 0 0 0 i zeroTime
 saidOf OutOfFuel = numbers 7 0 0 0 0 zeroTime
 saidOf (BadCell p) = numbers 9 0 0 0 p zeroTime
-
-abbrev pub saidOfReset : ResetAnswer → Said
-saidOfReset resets.Reset = numbers 0 0 0 0 0 zeroTime
-saidOfReset (resets.BadTable p) = numbers 3 0 0 0 p zeroTime
-saidOfReset resets.TooShort = numbers 4 0 0 0 0 zeroTime

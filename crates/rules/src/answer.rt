@@ -2,7 +2,7 @@
 use crate::status::Status;
 ghost use mathlib.Core.Path.{_≡_};
 ghost use Rattle.rules.specs.Tree.{zeroTime};
-ghost use Rattle.rules.specs.Call.{numbers, saidOf, saidOfReset};
+ghost use Rattle.rules.specs.Call.{numbers, saidOf};
 
 // Finished, and how many ticks were carried out.
 #[repr(C)]
@@ -11,7 +11,7 @@ pub struct Record {
     pub ticks: u64,
 }
 
-// What a tick can say, as a case for each number.
+// What a tick and a restart can say, as a case for each number.
 pub enum Answer {
     Ticked {
         status: Status,
@@ -30,13 +30,6 @@ pub enum Answer {
     BadAnswer(usize),
     OutOfFuel,
     BadCell(usize),
-}
-
-// What a reset can say.
-pub enum ResetAnswer {
-    Reset,
-    BadTable(usize),
-    TooShort,
 }
 
 // What the finish bound can say: a number of ticks, none, above 2^53; or 3 and 8.
@@ -60,7 +53,7 @@ pub struct Said {
 }
 
 impl Answer {
-    // A tick's answer in numbers.
+    // The answer in numbers.
     pub fn said(self) -> Said
         ensures { λ r. ⌜ r ≡ saidOf self ⌝ }
     {
@@ -93,19 +86,6 @@ impl Answer {
             Answer::BadAnswer(i) => bare(6, i),
             Answer::OutOfFuel => bare(7, 0),
             Answer::BadCell(p) => bare(9, p),
-        }
-    }
-}
-
-impl ResetAnswer {
-    // A reset's answer in numbers.
-    pub fn said(self) -> Said
-        ensures { λ r. ⌜ r ≡ saidOfReset self ⌝ }
-    {
-        match self {
-            ResetAnswer::Reset => bare(0, 0),
-            ResetAnswer::BadTable(p) => bare(3, p),
-            ResetAnswer::TooShort => bare(4, 0),
         }
     }
 }

@@ -9,7 +9,6 @@ mod status;
 pub use answer::Answer;
 pub use answer::BoundAnswer;
 pub use answer::Record;
-pub use answer::ResetAnswer;
 pub use answer::Said;
 pub use behavior::Kind;
 pub use event::Event;

@@ -90,7 +90,8 @@ pub fn refusal(call: &Call, cells: &Cells, finished: bool) -> Option<Said> {
     if call.lent.iter().any(|&lent| lent.min(cells.times.len()) < length(&call.table)) {
         return said(4, 0);
     }
-    if let Some(place) = cell_fault(&call.table, cells) {
+    // A restart looks at no cell and at no record.
+    if let Some(place) = cell_fault(&call.table, cells).filter(|_| !call.restart) {
         return said(9, place);
     }
     if call.ev.dt().is_some_and(|dt| !is_time(dt)) {
@@ -100,5 +101,5 @@ pub fn refusal(call: &Call, cells: &Cells, finished: bool) -> Option<Said> {
     if let Some(index) = call.statuses.iter().zip(call.leftovers).position(bad) {
         return said(6, index);
     }
-    finished.then(|| Said { no: 2, ..Said::default() })
+    (finished && !call.restart).then(|| Said { no: 2, ..Said::default() })
 }

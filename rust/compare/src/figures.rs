@@ -5,7 +5,7 @@ use crate::small::split;
 use crate::theirs::{Answer, Ev};
 use crate::tree::{Act, Node, Tree, ACTION, IF, TIMEOUT, WAIT, WHEN_ALL};
 use crate::{ActionArgs, Status, BT};
-use lemboraw::raw::{self, Record};
+use lemboraw::raw::{self, Record, Said, Table};
 use std::arch::asm;
 use std::collections::HashMap;
 use std::hint::black_box;
@@ -23,14 +23,14 @@ struct Case {
     tree: Tree,
     ev: Ev,
     answers: Vec<Answer>,
-    /// Whether the tick ends the tree, so that a reset follows.
-    reset: bool,
+    /// Whether the tick ends the tree, so that each is a restart.
+    restart: bool,
 }
 
-fn case(name: &str, nodes: &[Node], dt: f64, reset: bool) -> Case {
+fn case(name: &str, nodes: &[Node], dt: f64, restart: bool) -> Case {
     let tree = Tree::new(nodes);
     let actions = tree.kinds.iter().filter(|&&kind| kind == ACTION).count();
-    Case { name: name.to_string(), tree, ev: Ev::Update(dt), answers: vec![(Status::Running, 0.0); actions], reset }
+    Case { name: name.to_string(), tree, ev: Ev::Update(dt), answers: vec![(Status::Running, 0.0); actions], restart }
 }
 
 fn above(kind: u8, n: usize, leaf: Node) -> Vec<Node> {
@@ -46,7 +46,7 @@ fn wide(kind: u8, nodes: usize) -> Case {
         WHEN_ALL => case(&format!("WhenAll, {nodes} nodes"), &above(kind, n, (WAIT, 0, LONG)), 1.0, false),
         // Each wait takes 1 of the time, and the last ends the tree.
         SEQUENCE => {
-            case(&format!("Sequence, {nodes} nodes, and a reset"), &above(kind, n, (WAIT, 0, 1.0)), n as f64, true)
+            case(&format!("Sequence, {nodes} nodes, restarted"), &above(kind, n, (WAIT, 0, 1.0)), n as f64, true)
         }
         // The last wait gets half of what it needs.
         _ => {
@@ -94,15 +94,31 @@ struct Side<'a> {
     tick: Box<dyn FnMut() + 'a>,
 }
 
-/// This library; with fuel 0 it stops before the first visit, and a finished tree before the copy
-/// into the spare.
-fn ours<'a>(case: &'a Case, name: &'static str, fuel: u32, finished: bool) -> Side<'a> {
-    let (statuses, leftovers) = split(&case.answers);
-    let mut record = Record { finished, ticks: 0 };
+/// This library; with fuel 0 it stops before the first visit, and where it is to be refused before the
+/// copy into the spare.
+fn ours<'a>(case: &'a Case, name: &'static str, fuel: u32, refused: bool) -> Side<'a> {
+    if case.restart {
+        side(case, name, fuel, refused, raw::restart)
+    } else {
+        side(case, name, fuel, refused, raw::tick)
+    }
+}
+
+fn side<'a, F>(case: &'a Case, name: &'static str, fuel: u32, refused: bool, call: F) -> Side<'a>
+where
+    F: Fn(&mut Record, Table, raw::Cells, raw::Cells, &mut [u8], Option<f64>, u32, &[u8], &[f64]) -> Said + 'a,
+{
+    let (mut statuses, mut leftovers) = split(&case.answers);
+    // The last refusal of a tick is that of a finished tree, and of a restart that of a bad answer.
+    if refused && case.restart {
+        statuses.push(0);
+        leftovers.push(0.0);
+    }
+    let mut record = Record { finished: refused, ticks: 0 };
     let len = case.tree.len();
     let (mut cells, mut spare, mut board) = (Cells::fresh(len), Cells::fresh(len), vec![0; len]);
     let tick = move || {
-        let said = raw::tick(
+        let said = call(
             &mut record,
             case.tree.table(),
             cells.lend(),
@@ -114,9 +130,6 @@ fn ours<'a>(case: &'a Case, name: &'static str, fuel: u32, finished: bool) -> Si
             &leftovers,
         );
         black_box(&said);
-        if case.reset && said.no == 0 {
-            raw::reset(&mut record, case.tree.table(), cells.lend());
-        }
     };
     Side { name, tick: Box::new(tick) }
 }
@@ -130,7 +143,7 @@ fn bonsai(case: &Case) -> Side<'_> {
             given.next().copied().unwrap_or((Status::Failure, 0.0))
         });
         black_box(result);
-        if case.reset {
+        if case.restart {
             bt.reset_bt();
         }
     };
@@ -160,7 +173,7 @@ fn sides(case: &Case) -> Vec<Side<'_>> {
         bonsai(case),
         ours(case, "ours", FUEL, false),
         ours(case, "fuel 0", 0, false),
-        ours(case, "finished", FUEL, true),
+        ours(case, "refused", FUEL, true),
     ];
     if case.name.ends_with("actions") {
         all.push(asking(case.answers.len()));
@@ -228,13 +241,13 @@ fn tables(costs: Costs) -> bool {
     println!("|---|---|---|---|---|---|---|");
     let (ticked, asked) = (cases(), asked());
     for (i, case) in ticked.iter().enumerate() {
-        let Some(&[bonsai, ours, fuel_0, finished]) = costs(i, case).as_deref() else {
+        let Some(&[bonsai, ours, fuel_0, refused]) = costs(i, case).as_deref() else {
             return false;
         };
-        let without: f64 = ours - (fuel_0 - finished).max(0.0);
+        let without: f64 = ours - (fuel_0 - refused).max(0.0);
         let (ratio, bare) = (ours / bonsai, without / bonsai);
         let name = &case.name;
-        println!("| {name} | {bonsai:.0} | {ours:.0} | {ratio:.2} | {without:.0} | {bare:.2} | {finished:.0} |");
+        println!("| {name} | {bonsai:.0} | {ours:.0} | {ratio:.2} | {without:.0} | {bare:.2} | {refused:.0} |");
     }
     println!("\nWhat it costs a host that its tick asks again for each action:\n");
     println!("| tree | bonsai | all answers known | asking | asking / bonsai |");

@@ -37,12 +37,14 @@ pub struct Count {
     asked: u64,
     fuel: u64,
     refused: u64,
-    resets: u64,
+    restarts: u64,
     bounds: u64,
 }
 
 impl Count {
-    fn said(&mut self, no: u8) {
+    /// A call and what it said.
+    fn said(&mut self, restart: bool, no: u8) {
+        self.restarts += u64::from(restart);
         match no {
             0 => self.done += 1,
             1 => self.asked += 1,
@@ -56,7 +58,7 @@ impl Count {
         self.asked += other.asked;
         self.fuel += other.fuel;
         self.refused += other.refused;
-        self.resets += other.resets;
+        self.restarts += other.restarts;
         self.bounds += other.bounds;
     }
 }
@@ -146,8 +148,8 @@ fn compare(full: bool, seed: u64) -> bool {
         }
     }
     println!(
-        "all the same: {} ticks done, {} stopped to ask, {} out of fuel, {} refused, {} resets, {} bounds",
-        total.done, total.asked, total.fuel, total.refused, total.resets, total.bounds
+        "all the same: {} ticks done, {} stopped to ask, {} out of fuel, {} refused ({} of all these were restarts), {} bounds",
+        total.done, total.asked, total.fuel, total.refused, total.restarts, total.bounds
     );
     true
 }

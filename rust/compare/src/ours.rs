@@ -17,7 +17,7 @@ impl Cells {
     }
 
     /// What may lie in memory before the library writes there.
-    fn rubbish(len: usize) -> Self {
+    pub fn rubbish(len: usize) -> Self {
         Cells { times: vec![-123.456; len], places: vec![0xbeef; len], marks: vec![0xcd; len] }
     }
 
@@ -29,7 +29,7 @@ impl Cells {
     }
 
     /// Takes over the first `len` cells of another.
-    fn copy(&mut self, from: &Cells, len: usize) {
+    pub fn copy(&mut self, from: &Cells, len: usize) {
         self.times[..len].copy_from_slice(&from.times[..len]);
         self.places[..len].copy_from_slice(&from.places[..len]);
         self.marks[..len].copy_from_slice(&from.marks[..len]);
@@ -51,8 +51,10 @@ impl Cells {
     }
 }
 
-/// One tick's input, but for the memory.
+/// The input of a tick or a restart, but for the memory.
+#[derive(Clone, Copy)]
 pub struct Call<'a> {
+    pub restart: bool,
     pub table: Table<'a>,
     pub ev: Ev,
     pub fuel: u32,
@@ -125,9 +127,9 @@ impl Ours {
         &mut self.now.cells
     }
 
-    /// Calls the library and compares what it says and leaves. `then` is bonsai after the tick,
+    /// Calls the library and compares what it says and leaves. `then` is bonsai after the call,
     /// with what that left; it is looked at for answer 0 alone.
-    pub fn tick(&mut self, call: &Call, said: Said, then: Option<(&Theirs, &Left)>) -> Result<(), String> {
+    pub fn call(&mut self, call: &Call, said: Said, then: Option<(&Theirs, &Left)>) -> Result<(), String> {
         self.must.copy_all(&self.now);
         match (said.no, then) {
             (0, Some((theirs, left))) => {
@@ -142,7 +144,8 @@ impl Ours {
         let now = &mut self.now;
         let cut = |i: usize, len: usize| call.lent[i].min(len);
         let all = now.board.len();
-        let got = raw::tick(
+        let carry_out = if call.restart { raw::restart } else { raw::tick };
+        let got = carry_out(
             &mut now.record,
             call.table,
             raw::Cells {
@@ -164,27 +167,6 @@ impl Ours {
         self.verdict(got, said, call)
     }
 
-    /// Resets the tree; only whether the cells are lent in full can make a difference.
-    pub fn reset(&mut self, table: Table, lent: [usize; 7], said: Said) -> Result<(), String> {
-        self.must.copy_all(&self.now);
-        if said.no == 0 {
-            self.must.cells.clear(self.len);
-            self.must.record.finished = false;
-        }
-        let now = &mut self.now;
-        let all = now.board.len();
-        let got = raw::reset(
-            &mut now.record,
-            table,
-            raw::Cells {
-                times: &mut now.cells.times[..lent[0].min(all)],
-                places: &mut now.cells.places[..lent[1].min(all)],
-                marks: &mut now.cells.marks[..lent[2].min(all)],
-            },
-        );
-        self.verdict(got, said, &Call { table, ev: Ev::Other, fuel: 0, statuses: &[], leftovers: &[], lent })
-    }
-
     fn verdict(&self, got: Said, said: Said, call: &Call) -> Result<(), String> {
         let differs = self.now.differs(&self.must);
         if got == said && got.time.to_bits() == said.time.to_bits() && differs.is_none() {
@@ -192,7 +174,8 @@ impl Ours {
         }
         let answers: Vec<_> = call.statuses.iter().zip(call.leftovers).collect();
         Err(format!(
-            "{:?}, fuel {}, lent {:?}, answers {answers:?}\nsaid {got:?}\nmust {said:?}\ndiffers in {}\nnow {:?} {:?} board {:?}\nmust {:?} {:?} board {:?}\n",
+            "{} {:?}, fuel {}, lent {:?}, answers {answers:?}\nsaid {got:?}\nmust {said:?}\ndiffers in {}\nnow {:?} {:?} board {:?}\nmust {:?} {:?} board {:?}\n",
+            if call.restart { "restart" } else { "tick" },
             call.ev,
             call.fuel,
             call.lent,

@@ -72,28 +72,31 @@ fn run(random: &mut Random) -> Option<Run> {
     }
     for _ in 0..3 + random.below(3) {
         let ev = if random.one_in(3) { Ev::Other } else { Ev::Update(time(random)) };
-        if theirs.bt.finished {
-            // The Rust says None.
-            tick(&mut run.stdin, ev, &[]);
+        let restart = theirs.bt.finished;
+        if restart {
+            // The Rust says None; then it is reset and ticked.
+            call(&mut run.stdin, "02", ev, &[]);
             line(&mut run.stdout, format_args!("82 02 00 {:016x} {:08x} 0000 0000", 0, 0));
             theirs.bt.reset_bt();
-            line(&mut run.stdin, format_args!("03"));
-            line(&mut run.stdout, format_args!("83 00"));
         }
         let before = theirs.left(&tree).cells;
+        let (asks, says) = if restart { ("03", "83") } else { ("02", "82") };
         let watched = theirs.watch(&tree, ev, FUEL, &mut |_| {
             (random.pick(&[Status::Running, Status::Success, Status::Failure]), random.pick(&[-0.0, 0.0, 1.0, 2.0]))
         });
         let trace = &watched.trace;
         let ((status, left), visits) = trace.end.filter(|_| trace.asks.len() <= 4)?;
         for (k, ask) in trace.asks.iter().enumerate() {
-            tick(&mut run.stdin, ev, &trace.answers[..k]);
+            call(&mut run.stdin, asks, ev, &trace.answers[..k]);
             let bits = ask.dt.to_bits();
-            line(&mut run.stdout, format_args!("82 01 00 {bits:016x} 00000000 0000 {:04x}", ask.number));
+            line(&mut run.stdout, format_args!("{says} 01 00 {bits:016x} 00000000 0000 {:04x}", ask.number));
         }
-        tick(&mut run.stdin, ev, &trace.answers);
+        call(&mut run.stdin, asks, ev, &trace.answers);
         let (bits, used) = (left.to_bits(), trace.asks.len());
-        line(&mut run.stdout, format_args!("82 00 {:02x} {bits:016x} {visits:08x} {used:04x} 0000", number(status)));
+        line(
+            &mut run.stdout,
+            format_args!("{says} 00 {:02x} {bits:016x} {visits:08x} {used:04x} 0000", number(status)),
+        );
         theirs.tick(ev, &watched).ok()?;
         let after = theirs.left(&tree).cells;
         show(&mut run.shown, &tree, ev, &theirs.seen.board, &before, &after);
@@ -106,12 +109,12 @@ fn line(text: &mut String, frame: std::fmt::Arguments) {
     let _ = writeln!(text, "{frame}");
 }
 
-fn tick(text: &mut String, ev: Ev, answers: &[Answer]) {
+fn call(text: &mut String, head: &str, ev: Ev, answers: &[Answer]) {
     let (event, dt) = match ev {
         Ev::Update(dt) => (1, dt),
         Ev::Other => (0, 0.0),
     };
-    let mut frame = format!("02 {event:02x} {:016x} {FUEL:08x} {:04x}", dt.to_bits(), answers.len());
+    let mut frame = format!("{head} {event:02x} {:016x} {FUEL:08x} {:04x}", dt.to_bits(), answers.len());
     for (status, left) in answers {
         frame += &format!(" {:02x} {:016x}", number(*status), left.to_bits());
     }

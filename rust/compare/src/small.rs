@@ -1,6 +1,6 @@
 //! Every tree of few nodes, with every answer and both events, for three ticks.
 
-use crate::ours::{Call, Ours, ALL};
+use crate::ours::{Call, Cells, Ours, ALL};
 use crate::theirs::{number, Answer, Ev, Left, Theirs, Trace};
 use crate::tree::{children_of, Node, Tree, ACTION, TIMEOUT, WAIT};
 use crate::{Count, Status};
@@ -78,6 +78,7 @@ pub fn explore(nodes: &[Node], count: &mut Count) -> Result<(), String> {
         let mut next = vec![];
         for point in &mut level {
             for ev in EVENTS {
+                again(&tree, point.clone(), ev, count).map_err(|wrong| format!("{tree}{wrong}"))?;
                 follow(&tree, point, ev, &mut next, count).map_err(|wrong| format!("{tree}{wrong}"))?;
             }
         }
@@ -99,25 +100,25 @@ fn follow(tree: &Tree, point: &mut Point, ev: Ev, next: &mut Vec<Point>, count: 
         });
         let trace = &watched.trace;
         for given in known..trace.asks.len() {
-            tick(tree, point, ev, trace, FUEL, given, None, count)?;
+            call(tree, &mut point.ours, false, ev, trace, FUEL, given, None, count)?;
         }
         let all = trace.asks.len();
         if let Some((_, visits)) = trace.end.filter(|end| end.1 <= u64::from(FUEL)) {
             let visits = visits as u32;
-            tick(tree, point, ev, trace, visits - 1, all, None, count)?;
+            call(tree, &mut point.ours, false, ev, trace, visits - 1, all, None, count)?;
             let mut after = point.clone();
             after.theirs.tick(ev, &watched)?;
             let left = after.theirs.left(tree);
             let fuel = visits + all as u32 % 2;
-            let theirs = after.theirs.clone();
-            tick(tree, &mut after, ev, trace, fuel, all, Some((&theirs, &left)), count)?;
+            call(tree, &mut after.ours, false, ev, trace, fuel, all, Some((&after.theirs, &left)), count)?;
             if after.theirs.bt.finished {
-                restart(tree, &mut after, ev, trace, count)?;
+                finished(tree, &mut after, ev, trace, count)?;
+                again(tree, after, ev, count)?;
             } else if next.iter().all(|other| other.theirs.state_differs(&after.theirs)) {
                 next.push(after);
             }
         } else {
-            tick(tree, point, ev, trace, FUEL, all, None, count)?;
+            call(tree, &mut point.ours, false, ev, trace, FUEL, all, None, count)?;
         }
         while digits.last() == Some(&(ANSWERS.len() - 1)) {
             digits.pop();
@@ -130,21 +131,52 @@ fn follow(tree: &Tree, point: &mut Point, ev: Ev, next: &mut Vec<Point>, count: 
     }
 }
 
-/// A finished tree refuses to tick, and is fresh after a reset.
-fn restart(tree: &Tree, point: &mut Point, ev: Ev, trace: &Trace, count: &mut Count) -> Result<(), String> {
+/// A finished tree refuses to tick.
+fn finished(tree: &Tree, point: &mut Point, ev: Ev, trace: &Trace, count: &mut Count) -> Result<(), String> {
     let (statuses, leftovers) = split(&trace.answers);
-    let call = Call { table: tree.table(), ev, fuel: FUEL, statuses: &statuses, leftovers: &leftovers, lent: ALL };
-    count.refused += 1;
-    point.ours.tick(&call, Said { no: 2, ..Said::default() }, None)?;
-    point.theirs.bt.reset_bt();
-    count.resets += 1;
-    point.ours.reset(tree.table(), ALL, Said::default())
+    let call = Call {
+        restart: false,
+        table: tree.table(),
+        ev,
+        fuel: FUEL,
+        statuses: &statuses,
+        leftovers: &leftovers,
+        lent: ALL,
+    };
+    count.said(false, 2);
+    point.ours.call(&call, Said { no: 2, ..Said::default() }, None)
+}
+
+/// A restart is the Rust's reset and tick, wherever the tree stands and whatever its cells hold: with each
+/// answer missing, with too little fuel, and carried out.
+fn again(tree: &Tree, point: Point, ev: Ev, count: &mut Count) -> Result<(), String> {
+    let Point { mut theirs, mut ours } = point;
+    if ev != Ev::Other {
+        ours.cells_mut().copy(&Cells::rubbish(tree.len()), tree.len());
+    }
+    theirs.bt.reset_bt();
+    let watched = theirs.watch(tree, ev, FUEL, &mut |k| ANSWERS[k % ANSWERS.len()]);
+    let trace = &watched.trace;
+    let all = trace.asks.len();
+    for given in 0..all {
+        call(tree, &mut ours, true, ev, trace, FUEL, given, None, count)?;
+    }
+    match trace.end.filter(|end| end.1 <= u64::from(FUEL)) {
+        Some((_, visits)) => {
+            call(tree, &mut ours, true, ev, trace, visits as u32 - 1, all, None, count)?;
+            theirs.tick(ev, &watched)?;
+            let left = theirs.left(tree);
+            call(tree, &mut ours, true, ev, trace, visits as u32, all, Some((&theirs, &left)), count)
+        }
+        None => call(tree, &mut ours, true, ev, trace, FUEL, all, None, count),
+    }
 }
 
 #[allow(clippy::too_many_arguments)]
-fn tick(
+fn call(
     tree: &Tree,
-    point: &mut Point,
+    ours: &mut Ours,
+    restart: bool,
     ev: Ev,
     trace: &Trace,
     fuel: u32,
@@ -153,10 +185,10 @@ fn tick(
     count: &mut Count,
 ) -> Result<(), String> {
     let (statuses, leftovers) = split(&trace.answers[..given]);
-    let call = Call { table: tree.table(), ev, fuel, statuses: &statuses, leftovers: &leftovers, lent: ALL };
+    let call = Call { restart, table: tree.table(), ev, fuel, statuses: &statuses, leftovers: &leftovers, lent: ALL };
     let said = trace.said(fuel, given);
-    count.said(said.no);
-    point.ours.tick(&call, said, then)
+    count.said(restart, said.no);
+    ours.call(&call, said, then)
 }
 
 /// Answers as the library takes them.

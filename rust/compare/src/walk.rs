@@ -2,12 +2,12 @@
 
 use crate::bound;
 use crate::expect;
-use crate::ours::{Call, Ours, ALL};
+use crate::ours::{Call, Cells, Ours, ALL};
 use crate::random::Random;
 use crate::small::split;
 use crate::theirs::{Answer, Ev, Left, Theirs, Trace};
 use crate::tree::{Tree, ACTION};
-use crate::wrapped::Wrapped;
+use crate::wrapped::{How, Wrapped};
 use crate::{Count, Status};
 use lemboraw::raw::{Said, Table};
 
@@ -82,16 +82,20 @@ fn walk(tree: &Tree, source: Source, random: &mut Random, count: &mut Count) -> 
         if random.one_in(3) {
             spoiled(tree, &theirs, &ours, ev, random, count)?;
         }
-        if theirs.bt.finished || random.one_in(30) {
-            if theirs.bt.finished {
-                let call = Call { table: tree.table(), ev, fuel: most, statuses: &[], leftovers: &[], lent: ALL };
-                count.said(2);
-                ours.tick(&call, Said { no: 2, ..Said::default() }, None)?;
-            }
+        if theirs.bt.finished {
+            let call =
+                Call { restart: false, table: tree.table(), ev, fuel: most, statuses: &[], leftovers: &[], lent: ALL };
+            count.said(false, 2);
+            ours.call(&call, Said { no: 2, ..Said::default() }, None)?;
+        }
+        let restart = theirs.bt.finished || random.one_in(20);
+        let before = restart.then(|| (theirs.clone(), ours.clone()));
+        if restart {
+            // In the Rust the pair of both.
             theirs.bt.reset_bt();
-            count.resets += 1;
-            ours.reset(tree.table(), ALL, Said::default())?;
-            wrapped.iter_mut().for_each(Wrapped::reset);
+            if random.one_in(2) {
+                spoil(ours.cells_mut(), tree.len(), random);
+            }
         }
         let watched = theirs.watch(tree, ev, most, &mut |_| answer(source, patient, random));
         let trace = &watched.trace;
@@ -101,23 +105,30 @@ fn walk(tree: &Tree, source: Source, random: &mut Random, count: &mut Count) -> 
             let given = random.below(all);
             let entered = trace.asks[given].entered as u32;
             for fuel in [entered - 1, entered, entered + 1] {
-                tick(tree, &mut ours, ev, trace, fuel.min(most), given, 0, None, count)?;
+                call(tree, &mut ours, restart, ev, trace, fuel.min(most), given, 0, None, count)?;
             }
         }
         match trace.end {
             Some((_, visits)) if visits <= u64::from(most) => {
                 let visits = visits as u32;
-                tick(tree, &mut ours, ev, trace, visits - 1, all, 0, None, count)?;
+                call(tree, &mut ours, restart, ev, trace, visits - 1, all, 0, None, count)?;
                 theirs.tick(ev, &watched)?;
                 let left = theirs.left(tree);
                 if let Some(wrapped) = &mut wrapped {
-                    wrapped.tick(ev, trace)?;
+                    let again = [How::Restart, How::ResetAndTick];
+                    wrapped.call(if restart { random.pick(&again) } else { How::Tick }, ev, trace)?;
                 }
                 let fuel = random.pick(&[visits, visits, visits + 1, u32::MAX]);
                 let unused = random.pick(&[0, 0, 0, 3]);
-                tick(tree, &mut ours, ev, trace, fuel, all, unused, Some((&theirs, &left)), count)?;
+                call(tree, &mut ours, restart, ev, trace, fuel, all, unused, Some((&theirs, &left)), count)?;
             }
-            _ => tick(tree, &mut ours, ev, trace, most, all, 0, None, count)?,
+            _ => {
+                call(tree, &mut ours, restart, ev, trace, most, all, 0, None, count)?;
+                // It goes on from where it stood.
+                if let Some(stood) = before {
+                    (theirs, ours) = stood;
+                }
+            }
         }
     }
     Ok(())
@@ -132,11 +143,23 @@ fn answer(source: Source, patient: bool, random: &mut Random) -> Answer {
     (status, source.time(random))
 }
 
-/// Ticks with that many of the trace's answers, and some that are not used behind them.
+/// Puts anything into some cells: only a restart takes them.
+fn spoil(cells: &mut Cells, len: usize, random: &mut Random) {
+    for place in 0..len {
+        if random.one_in(2) {
+            cells.times[place] = f64::from_bits(random.next());
+            cells.places[place] = random.next() as u16;
+            cells.marks[place] = random.next() as u8;
+        }
+    }
+}
+
+/// Calls with that many of the trace's answers, and some that are not used behind them.
 #[allow(clippy::too_many_arguments)]
-fn tick(
+fn call(
     tree: &Tree,
     ours: &mut Ours,
+    restart: bool,
     ev: Ev,
     trace: &Trace,
     fuel: u32,
@@ -148,10 +171,10 @@ fn tick(
     let (mut statuses, mut leftovers) = split(&trace.answers[..given]);
     statuses.resize(given + unused, 3);
     leftovers.resize(given + unused, -0.0);
-    let call = Call { table: tree.table(), ev, fuel, statuses: &statuses, leftovers: &leftovers, lent: ALL };
+    let call = Call { restart, table: tree.table(), ev, fuel, statuses: &statuses, leftovers: &leftovers, lent: ALL };
     let said = trace.said(fuel, given);
-    count.said(said.no);
-    ours.tick(&call, said, then)
+    count.said(restart, said.no);
+    ours.call(&call, said, then)
 }
 
 /// A call with one or two things wrong in it, which must leave everything as it was.
@@ -213,15 +236,11 @@ fn spoiled(
         }
     }
     let table = Table { kinds: &tree.kinds, ns: &tree.ns, limits: &tree.limits };
-    let call = Call { table, ev, fuel: 9, statuses: &statuses, leftovers: &leftovers, lent };
-    if let Some(said) = expect::refusal(&call, ours.cells(), theirs.bt.finished) {
-        count.said(said.no);
-        ours.tick(&call, said, None)?;
-        // A reset looks at the table and at the room for cells alone.
-        let short = lent[..3].iter().any(|&lent| lent < len);
-        if said.no == 3 || said.no == 4 && short {
-            count.resets += 1;
-            ours.reset(table, lent, said)?;
+    for restart in [false, true] {
+        let call = Call { restart, table, ev, fuel: 9, statuses: &statuses, leftovers: &leftovers, lent };
+        if let Some(said) = expect::refusal(&call, ours.cells(), theirs.bt.finished) {
+            count.said(restart, said.no);
+            ours.call(&call, said, None)?;
         }
     }
     Ok(())

@@ -8,31 +8,44 @@ use lemboraw::{ActionArgs, Behavior, Event, UpdateArgs, BT};
 /// A tree in the crate; an action is told by its number.
 pub struct Wrapped(BT<u16, ()>);
 
+/// What is asked of the crate.
+#[derive(Clone, Copy, Debug, PartialEq)]
+pub enum How {
+    Tick,
+    Restart,
+    ResetAndTick,
+}
+
 impl Wrapped {
     pub fn new(tree: &Tree) -> Result<Self, String> {
         BT::new(behavior(tree, 0), ()).map(Wrapped).map_err(|refusal| refusal.to_string())
     }
 
-    pub fn reset(&mut self) {
-        self.0.reset_bt();
-    }
-
-    /// Ticks with a callback that answers as in the trace: each action must be asked once, in the
+    /// Ticks, or restarts by one of two ways, with a callback that answers as in the trace: each action must be asked once, in the
     /// same order and with the same dt, and the tick must end in the same way.
-    pub fn tick(&mut self, ev: Ev, trace: &Trace) -> Result<(), String> {
+    pub fn call(&mut self, how: How, ev: Ev, trace: &Trace) -> Result<(), String> {
         let event = ev.dt().map_or(Event::Other, |dt| UpdateArgs { dt }.into());
         let mut asked = vec![];
-        let got = self.0.tick(&event, &mut |args: ActionArgs<Event, u16>, _: &mut ()| {
+        let mut act = |args: ActionArgs<Event, u16>, _: &mut ()| {
             let given = trace.answers.get(asked.len()).copied();
             asked.push((*args.action, args.dt.to_bits()));
             given.map_or((lemboraw::Running, 0.0), |(status, left)| (convert(status), left))
-        });
+        };
+        if how == How::ResetAndTick {
+            self.0.reset_bt();
+        }
+        let got = match how {
+            How::Restart => self.0.restart(&event, &mut act),
+            How::Tick | How::ResetAndTick => self.0.tick(&event, &mut act),
+        };
         let must = trace.end.map(|((status, left), _)| (convert(status), left.to_bits()));
         let asks: Vec<_> = trace.asks.iter().map(|ask| (ask.number, ask.dt.to_bits())).collect();
         if got.ok().map(|(status, left)| (status, left.to_bits())) == must && asked == asks {
             Ok(())
         } else {
-            Err(format!("the Rust crate: {ev:?}\nanswered {got:?}, asked {asked:x?}\nmust be {must:x?}, {asks:x?}\n"))
+            Err(format!(
+                "the Rust crate: {how:?} {ev:?}\nanswered {got:?}, asked {asked:x?}\nmust be {must:x?}, {asks:x?}\n"
+            ))
         }
     }
 }

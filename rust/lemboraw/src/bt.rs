@@ -37,6 +37,8 @@ pub enum FinishBound {
 pub struct BT<A, B> {
     pub(crate) tree: Tree<A>,
     record: Record,
+    /// Whether the next tick is to be a restart.
+    again: bool,
     pub(crate) cells: Room,
     spare: Room,
     pub(crate) board: Vec<u8>,
@@ -83,6 +85,7 @@ impl<A, B> BT<A, B> {
         let mut bt = BT {
             tree,
             record: Record::default(),
+            again: false,
             cells: Room::new(len),
             spare: Room::new(len),
             board: vec![0; len],
@@ -113,12 +116,48 @@ impl<A, B> BT<A, B> {
         E: UpdateEvent,
         F: FnMut(ActionArgs<E, A>, &mut B) -> (Status, f64),
     {
+        self.carry_out(self.again, e, f)
+    }
+
+    /// A restart and its first tick in one call: ticks the tree as from a fresh one, finished or not. The
+    /// tick count goes up by one and the blackboard stays.
+    ///
+    /// After a refusal, or a panic in `f`, the tree is as it was before the call, finished included: a
+    /// display never sees a tree that was reset and not ticked.
+    ///
+    /// ```
+    /// use lemboraw::{Action, ActionArgs, Event, Refusal, Sequence, Success, UpdateArgs, Wait, BT};
+    ///
+    /// let mut bt = BT::new(Sequence(vec![Wait(2.0), Action("send")]), ())?;
+    /// let e: Event = UpdateArgs { dt: 3.0 }.into();
+    /// let mut act = |args: ActionArgs<Event, &str>, _: &mut ()| (Success, args.dt);
+    /// assert_eq!(bt.tick(&e, &mut act), Ok((Success, 1.0)));
+    /// assert_eq!(bt.tick(&e, &mut act), Err(Refusal::Finished));
+    /// assert_eq!(bt.restart(&e, &mut act), Ok((Success, 1.0)));
+    /// assert_eq!(bt.tick_count(), 2);
+    /// # Ok::<(), Refusal>(())
+    /// ```
+    pub fn restart<E, F>(&mut self, e: &E, f: &mut F) -> Result<(Status, f64), Refusal>
+    where
+        E: UpdateEvent,
+        F: FnMut(ActionArgs<E, A>, &mut B) -> (Status, f64),
+    {
+        self.carry_out(true, e, f)
+    }
+
+    /// A tick or a restart, walked until it has all its answers.
+    fn carry_out<E, F>(&mut self, restart: bool, e: &E, f: &mut F) -> Result<(Status, f64), Refusal>
+    where
+        E: UpdateEvent,
+        F: FnMut(ActionArgs<E, A>, &mut B) -> (Status, f64),
+    {
         let dt = e.update_args().map(|args| args.dt);
         self.forget();
         loop {
-            let said = self.walk(dt, self.fuel);
+            let said = self.walk(restart, dt, self.fuel);
             match (said.no, Status::from_number(said.status), self.tree.actions.get(said.extra)) {
                 (0, Some(status), _) => {
+                    self.again = false;
                     self.visits = said.visits;
                     return Ok((status, said.time));
                 }
@@ -135,25 +174,29 @@ impl<A, B> BT<A, B> {
         }
     }
 
-    /// Makes the tree fresh. The tick count and the blackboard stay.
+    /// Makes the next tick a [`restart`](BT::restart), as in bonsai: that tick starts from a fresh tree. The
+    /// tick count and the blackboard stay.
+    ///
+    /// What is shown of the tree (`println!("{bt}")`, [`nodes`](BT::nodes), [`last_status`](BT::last_status))
+    /// stays until that tick is carried out; a refused one leaves it asked for.
     pub fn reset_bt(&mut self) {
-        // The table was found good by `new`, so nothing is left to refuse.
-        raw::reset(&mut self.record, self.tree.table(), self.cells.lend());
+        self.again = true;
     }
 
-    /// Whether the last tick ended in success or failure.
+    /// Whether the last tick ended in success or failure, and no [`reset_bt`](BT::reset_bt) came since.
     pub fn is_finished(&self) -> bool {
-        self.record.finished
+        self.record.finished && !self.again
     }
 
-    /// The ticks carried out, resets or not.
+    /// The ticks carried out, restarts among them.
     pub fn tick_count(&self) -> u64 {
         self.record.ticks
     }
 
     /// At most how many ticks a fresh tree takes to finish, whatever statuses the actions give.
     ///
-    /// The number holds for ticks of this kind, counted from a fresh tree on:
+    /// The number holds for ticks of this kind, counted from a fresh tree on; a restart is the first of
+    /// them:
     ///
     /// - each is an update, by a whole time from `step` to 2^40 (milliseconds, say; [`Timer`](crate::Timer)
     ///   gives these);
@@ -214,14 +257,16 @@ impl<A, B> BT<A, B> {
         self.fuel = fuel;
     }
 
-    /// The tree's state, to keep.
+    /// The tree's state, to keep: what the next tick starts from, which is fresh after a
+    /// [`reset_bt`](BT::reset_bt).
     pub fn state(&self) -> State {
         let Room { times, places, marks } = &self.cells;
         let cells = times.iter().zip(places).zip(marks);
+        let kept = |((&time, &place), &mark)| Cell { time, place, mark: mark == 1 };
         State {
-            finished: self.record.finished,
+            finished: self.is_finished(),
             ticks: self.record.ticks,
-            cells: cells.map(|((&time, &place), &mark)| Cell { time, place, mark: mark == 1 }).collect(),
+            cells: cells.map(|cell| if self.again { Cell::default() } else { kept(cell) }).collect(),
         }
     }
 
@@ -240,6 +285,7 @@ impl<A, B> BT<A, B> {
             return Err(refusal);
         }
         self.record = Record { finished: state.finished, ticks: state.ticks };
+        self.again = false;
         self.board.fill(0);
         Ok(())
     }
@@ -269,7 +315,7 @@ impl<A, B> BT<A, B> {
     /// Whether table and cells can be ticked: a tick without fuel looks at both, and leaves them.
     fn look(&mut self) -> Result<(), Refusal> {
         self.forget();
-        let said = self.walk(None, 0);
+        let said = self.walk(false, None, 0);
         match said.no {
             7 => Ok(()),
             _ => Err(self.refusal(said, 0.0)),
@@ -277,8 +323,9 @@ impl<A, B> BT<A, B> {
     }
 
     /// One walk, with the answers there are.
-    fn walk(&mut self, dt: Option<f64>, fuel: u32) -> Said {
-        raw::tick(
+    fn walk(&mut self, restart: bool, dt: Option<f64>, fuel: u32) -> Said {
+        raw::carry_out(
+            restart,
             &mut self.record,
             self.tree.table(),
             self.cells.lend(),

@@ -9,7 +9,8 @@
 //!   tree), there is a [`Refusal`], and the tree is as before the call.
 //! - A tree has at most 256 behaviors and is at most 16 deep. The evaluator is for x86-64 Linux.
 //! - [`BT::finish_bound`] says after how many ticks a tree has ended at the latest.
-//! - [`BT::state`] and [`BT::restore`] carry a tree over a restart; `println!("{bt}")`, [`BT::nodes`]
+//! - [`BT::restart`] starts a tree again and ticks it in one call; [`BT::reset_bt`] makes the next tick one.
+//! - [`BT::state`] and [`BT::restore`] carry a tree over a halt of the host; `println!("{bt}")`, [`BT::nodes`]
 //!   and [`BT::dot`] show a tick; [`Behavior::from_words`] reads a tree from a file.
 //!
 //! The crate's README has a table for moving from bonsai, line by line.
@@ -59,7 +60,7 @@
 //! let a = tick(a, 0.5, &mut bt);
 //! assert_eq!(a, 1);
 //! assert!(bt.is_finished());
-//! bt.reset_bt();
+//! bt.reset_bt(); // the next tick starts again
 //! ```
 //!
 //! # A tree that gives up

@@ -19,7 +19,7 @@ pub struct Record {
     pub ticks: u64,
 }
 
-/// What a tick or a reset says; a field that `no` does not use is 0.
+/// What a tick or a restart says; a field that `no` does not use is 0.
 #[repr(C)]
 #[derive(Clone, Copy, Debug, Default, PartialEq)]
 pub struct Said {
@@ -87,10 +87,47 @@ pub fn tick(
     statuses: &[u8],
     leftovers: &[f64],
 ) -> Said {
+    carry_out(false, record, table, cells, spare, board, dt, fuel, statuses, leftovers)
+}
+
+/// A restart and its first tick in one call: it ticks as from a fresh tree. The cells are not checked
+/// and may hold anything; where it does not say 0, they and the record are as they were.
+#[allow(clippy::too_many_arguments)]
+#[inline]
+pub fn restart(
+    record: &mut Record,
+    table: Table,
+    cells: Cells,
+    spare: Cells,
+    board: &mut [u8],
+    dt: Option<f64>,
+    fuel: u32,
+    statuses: &[u8],
+    leftovers: &[f64],
+) -> Said {
+    carry_out(true, record, table, cells, spare, board, dt, fuel, statuses, leftovers)
+}
+
+/// Lends everything to a tick, or to a restart.
+#[allow(clippy::too_many_arguments)]
+#[inline]
+pub(crate) fn carry_out(
+    restart: bool,
+    record: &mut Record,
+    table: Table,
+    cells: Cells,
+    spare: Cells,
+    board: &mut [u8],
+    dt: Option<f64>,
+    fuel: u32,
+    statuses: &[u8],
+    leftovers: &[f64],
+) -> Said {
+    let call = if restart { lemboraw_restart } else { lemboraw_tick };
     // SAFETY: every pointer goes with the length of its slice, the borrows keep the slices apart,
-    // and the function is proved to stay within them.
+    // and both functions are proved to stay within them.
     usual(|| unsafe {
-        lemboraw_tick(
+        call(
             record,
             table.kinds.as_ptr(),
             table.kinds.len(),
@@ -119,28 +156,6 @@ pub fn tick(
             statuses.len(),
             leftovers.as_ptr(),
             leftovers.len(),
-        )
-    })
-}
-
-/// Makes the cells fresh and the record unfinished.
-pub fn reset(record: &mut Record, table: Table, cells: Cells) -> Said {
-    // SAFETY: as for `tick`.
-    usual(|| unsafe {
-        lemboraw_reset(
-            record,
-            table.kinds.as_ptr(),
-            table.kinds.len(),
-            table.ns.as_ptr(),
-            table.ns.len(),
-            table.limits.as_ptr(),
-            table.limits.len(),
-            cells.times.as_mut_ptr(),
-            cells.times.len(),
-            cells.places.as_mut_ptr(),
-            cells.places.len(),
-            cells.marks.as_mut_ptr(),
-            cells.marks.len(),
         )
     })
 }
@@ -199,7 +214,7 @@ extern "C" {
         leftovers_len: usize,
     ) -> Said;
 
-    fn lemboraw_reset(
+    fn lemboraw_restart(
         record: *mut Record,
         kinds: *const u8,
         kinds_len: usize,
@@ -213,6 +228,21 @@ extern "C" {
         places_len: usize,
         marks: *mut u8,
         marks_len: usize,
+        spare_times: *mut f64,
+        spare_times_len: usize,
+        spare_places: *mut u16,
+        spare_places_len: usize,
+        spare_marks: *mut u8,
+        spare_marks_len: usize,
+        board: *mut u8,
+        board_len: usize,
+        update: bool,
+        dt: f64,
+        fuel: u32,
+        statuses: *const u8,
+        statuses_len: usize,
+        leftovers: *const f64,
+        leftovers_len: usize,
     ) -> Said;
 
     fn lemboraw_bound(

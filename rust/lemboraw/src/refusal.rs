@@ -8,7 +8,8 @@ use std::fmt;
 /// in preorder.
 #[derive(Clone, Copy, Debug, PartialEq)]
 pub enum Refusal {
-    /// The tree has ended: [`reset_bt`](crate::BT::reset_bt) starts it again.
+    /// The tree has ended: [`restart`](crate::BT::restart) starts it again, and so does a tick after
+    /// [`reset_bt`](crate::BT::reset_bt).
     Finished,
     /// A tree that can't be ticked.
     BadTree {
@@ -111,7 +112,7 @@ pub enum NoBound {
 impl fmt::Display for Refusal {
     fn fmt(&self, f: &mut fmt::Formatter<'_>) -> fmt::Result {
         match self {
-            Refusal::Finished => write!(f, "the tree is finished; a reset starts it again"),
+            Refusal::Finished => write!(f, "the tree is finished; a restart starts it again"),
             Refusal::BadTree { place, kind, fault } => write!(f, "behavior {place} in preorder ({kind}) {fault}"),
             Refusal::BadTime { dt } => write!(f, "an update by {dt:?}: {A_TIME}"),
             Refusal::BadAnswer { index, leftover } => {

@@ -1,6 +1,6 @@
 //! A tree's state as plain data.
 
-/// What a tree carries from one tick to the next: for a host that keeps it over a restart.
+/// What a tree carries from one tick to the next: for a host that keeps it while it is not running.
 ///
 /// [`BT::state`](crate::BT::state) gives it and [`BT::restore`](crate::BT::restore) takes it back.
 /// The tree itself, its blackboard, its fuel and the statuses of its last tick are not part of it.

@@ -49,7 +49,7 @@ impl Behavior<u16> {
     /// - `limit TIME` is left out where the limit is 0. A time is a decimal number that an f64 holds
     ///   exactly, or the nearest one to a number behind `~`, or the 16 digits of its bits behind `0x`.
     ///
-    /// `#` and what follows it is passed over. What comes behind the first `tick` or `reset` is for the
+    /// `#` and what follows it is passed over. What comes behind the first `tick` or `restart` is for the
     /// bench program, and is not looked at.
     ///
     /// ```
@@ -108,13 +108,13 @@ fn rows(text: &str) -> Result<Vec<Row<'_>>, WordsError> {
         let mut words = text.split_whitespace().take_while(|word| !word.starts_with('#'));
         match words.next() {
             None => {}
-            Some("tick" | "reset") => break,
+            Some("tick" | "restart") => break,
             Some("node") if rows.len() == MOST_LINES => return Err(wrong(format!("more than {MOST_LINES} nodes"))),
             Some("node") => {
                 let (kind, n, limit) = node(words).map_err(wrong)?;
                 rows.push(Row { line, indent, kind, n, limit });
             }
-            Some(word) => return Err(wrong(format!("{} is neither node, tick nor reset", short(word)))),
+            Some(word) => return Err(wrong(format!("{} is neither node, tick nor restart", short(word)))),
         }
     }
     Ok(rows)

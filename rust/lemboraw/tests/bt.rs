@@ -72,6 +72,51 @@ fn state_is_kept_and_reset() {
     assert!(!bt.is_finished());
     assert_eq!(bt.tick_count(), 3);
     assert_eq!(quiet(&mut bt, update(1.0)), Ok((Running, 0.0)));
+    assert_eq!(bt.tick_count(), 4);
+    // It was for one tick.
+    assert_eq!(quiet(&mut bt, update(3.0)), Ok((Success, 1.0)));
+    assert_eq!(quiet(&mut bt, update(3.0)), Err(Refusal::Finished));
+}
+
+#[test]
+fn a_restart_resets_and_ticks_in_one_call() {
+    let mut bt = tree(Sequence(vec![Wait(2.0), Action("a")]));
+    let mut good = |args: ActionArgs<Event, &str>, _: &mut ()| (Success, args.dt);
+    let mut bad = |_: ActionArgs<Event, &str>, _: &mut ()| (Success, -1.0);
+    let mut unended = |_: ActionArgs<Event, &str>, _: &mut ()| (Running, 0.0);
+    // Under way or finished, it starts again.
+    assert_eq!(quiet(&mut bt, update(1.0)), Ok((Running, 0.0)));
+    assert_eq!(bt.restart(&update(1.0), &mut good), Ok((Running, 0.0)));
+    assert_eq!(bt.tick(&update(3.0), &mut good), Ok((Success, 2.0)));
+    assert_eq!((bt.is_finished(), bt.tick_count()), (true, 3));
+
+    // Refused, it leaves the tree as it was, finished included.
+    let (ended, shown) = (bt.state(), bt.to_string());
+    assert_eq!(bt.restart(&update(3.0), &mut bad), Err(Refusal::BadAnswer { index: 0, leftover: -1.0 }));
+    assert!(matches!(bt.restart(&update(-1.0), &mut good), Err(Refusal::BadTime { .. })));
+    bt.set_fuel(2);
+    assert_eq!(bt.restart(&update(3.0), &mut good), Err(Refusal::OutOfFuel { fuel: 2, questions: 0 }));
+    bt.set_fuel(3);
+    assert_eq!((bt.state(), bt.to_string()), (ended.clone(), shown.clone()));
+    assert_eq!(bt.tick(&update(3.0), &mut good), Err(Refusal::Finished));
+
+    // Asked for by reset_bt, it is shown when it is ticked; kept and taken back, the tree is fresh.
+    bt.reset_bt();
+    assert_eq!((bt.is_finished(), bt.to_string()), (false, shown.clone()));
+    assert_eq!(bt.tick(&update(3.0), &mut bad), Err(Refusal::BadAnswer { index: 0, leftover: -1.0 }));
+    assert_eq!((bt.is_finished(), bt.to_string()), (false, shown));
+    let mut later = tree(Sequence(vec![Wait(2.0), Action("a")]));
+    later.restore(&bt.state()).unwrap();
+    assert_eq!(bt.tick(&update(3.0), &mut unended), Ok((Running, 0.0)));
+    assert_eq!(later.tick(&update(3.0), &mut unended), Ok((Running, 0.0)));
+    assert_eq!(later.state(), bt.state());
+    assert_eq!((bt.is_finished(), bt.tick_count(), bt.last_questions()), (false, 4, 1));
+
+    // A state that is taken back is not restarted.
+    bt.reset_bt();
+    bt.restore(&ended).unwrap();
+    assert!(bt.is_finished());
+    assert_eq!(bt.tick(&update(3.0), &mut good), Err(Refusal::Finished));
 }
 
 #[test]
@@ -400,5 +445,5 @@ fn refusals_say_what_and_where() {
         assert_eq!(refusal.to_string(), text);
     }
     let error: Box<dyn std::error::Error> = Box::new(Refusal::Finished);
-    assert_eq!(error.to_string(), "the tree is finished; a reset starts it again");
+    assert_eq!(error.to_string(), "the tree is finished; a restart starts it again");
 }

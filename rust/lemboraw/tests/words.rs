@@ -110,7 +110,7 @@ fn remarks_and_what_follows_the_tree() {
             node Action 1       # scan
           # and
           node Wait limit 5
-        reset
+        restart other fuel 9
     ";
     assert_eq!(read(words), Select(vec![Timeout(30.0, Box::new(Action(1))), Wait(5.0)]));
 }
@@ -215,7 +215,7 @@ fn what_is_wrong_and_in_which_line() {
         ("node Wait 0 limit 1 1", 1, "\"1\" is one word too many"),
         ("node Wait limit soon", 1, "limit: \"soon\" is no time, as 2, 0.5, ~0.1 or 0x and 16 digits"),
         ("node Sequence limit 1\n  node Wait", 1, "limit: Sequence has none"),
-        ("nodes", 1, "\"nodes\" is neither node, tick nor reset"),
+        ("nodes", 1, "\"nodes\" is neither node, tick nor restart"),
     ] {
         assert_eq!(wrong(words), (line, why.to_owned()), "{words}");
     }

@@ -1,108 +1,132 @@
 -- The walk to its end, or the times put back.
+use mathlib.Core.Path.{_≡_, ap, _∙_}
+use mathlib.Core.Logic.{⊎-elim}
 use native.Mathlib.Omega.{arith}
+use lib.ListN.{length}
 use borrow.Author.Needs.{needs}
-use Rattle.call.proofs.Walks.{goes-told, carried, put-back}
+use Rattle.rules.specs.Call.{run}
+use Rattle.call.proofs.Walks.{Begun, begun-fresh, begun-held, goes-told, carried, put-back}
 use Rattle.call.proofs.carry_out.Statement.{statement}
 use Rattle.call.proofs.carry_out.Tie as tie
 
+-- ---- the way up to the walk
+abbrev start : tie.After-copy-cells → tie.Start
+start c = c .before .before .before .before .before .before .before .before .before .before .before .before .before .before .before .before .before .before .before .before
+
+abbrev copied : tie.After-slice-known10 → tie.After-copy-cells
+copied c = c .before .before .before .before .before .before
+
+-- what the walk begins with, by either arm
+begun : (c : tie.Joined1) → let a = start (copied (c .before)) .args in
+    Begun (a .fresh) (a .kinds .now) (a .ends .now) (run (a .times .now) (a .places .now) (a .marks .now)) (a .n) (c .if1 .work) (c .if1 .times)
+begun c = ⊎-elim
+    (λ w. begun-fresh _ _ _ _ _ _ _ (w .0 .taken) (w .7 ∙ w .3 .ensures .0) (w .6 ∙ w .3 .ensures .1))
+    (λ w. begun-held _ _ _ _ _ _ _ (w .0 .left) (w .6 ∙ w .4 .ensures) (w .5))
+    (c .if1 .came)
+
+-- the walk
+abbrev joined : tie.After-enter → tie.Joined1
+joined c = c .before .before .before
+
+abbrev at-start : tie.After-enter → tie.Start
+at-start c = start (copied (joined c .before))
+
+abbrev stopped : tie.After-copy-times-arg2 → tie.After-enter
+stopped c = c .before .before .before .before .before .before
+
+-- what is shown behind it, and the walk to its end
+abbrev shown : tie.After-put-back-arg3 → tie.After-show-ended
+shown c = c .before .before .before .before
+
+abbrev ended : tie.After-put-back-arg3 → tie.After-enter
+ended c = shown c .before .before .before .before .before
+
+-- ---- the needs
+load-fresh-requires : tie.Need-load-fresh-requires
+load-fresh-requires c κs =
+    let pre = start (copied (c .before .before .before)) .pre in
+    (pre .few, pre .in-kinds, omega (arith, pre .few, pre .ends-long), pre .cells-long .times)
+
+-- either arm leaves the times as long as they were
+times-long : (c : tie.Joined1) → let a = start (copied (c .before)) .args in length (c .if1 .times) ≡ length (a .times .now)
+times-long c = ⊎-elim (λ w. ap length (w .6) ∙ w .3 .kept .1 .1 .1 .0) (λ w. ap length (w .5)) (c .if1 .came)
+
 enter-requires : tie.Need-enter-requires
-enter-requires c κs =
-    let pre = c .before .before .before .before .before .before .before .before .before .before .before .before .before .before .before .before .before .before
-    .before .before .before .before .before .before .before .before .before .before .before .before .before .before .pre in
-    pre .cells-long .times
+enter-requires c κs = let at = c .before .before in omega (arith, times-long at, start (copied (at .before)) .pre .cells-long .times)
 
 copy-times-requires : tie.Need-copy-times-requires
 copy-times-requires c κs =
-    let enter = c .before .before .before .before .before .before .enter in
-    let copy-cells = c .before .before .before .before .before .before .before .before .before .before .before .before .before .before .before .before .before .before .before .copy-cells in
-    let pre = c .before .before .before .before .before .before .before .before .before .before .before .before .before .before .before .before .before .before
-    .before .before .before .before .before .before .before .before .before .before .before .before .before .before .before .before .before .before .before .before
-    .before .pre in
-    (omega (arith, copy-cells .kept .1 .1 .1 .0, pre .spare-long .times), omega (arith, enter .kept .1 .1 .1 .1 .0, pre .cells-long .times))
+    let enter = stopped c in
+    let pre = at-start enter .pre in
+    let copy-cells = copied (joined enter .before) .copy-cells in (
+      omega (arith, copy-cells .kept .1 .1 .1 .0, pre .spare-long .times),
+      omega (arith, enter .enter .kept .1 .1 .1 .1 .0, times-long (joined enter), pre .cells-long .times),
+    )
+
+abbrev back : tie.After-told-stopped → tie.After-copy-times
+back c = c .before .before .before .before
+
+same-length : tie.Need-same-length
+same-length c = let walk = stopped (back c .before) in back c .copy-times .kept .1 .0 ∙ walk .enter .kept .1 .1 .1 .1 .0 ∙ times-long (joined walk)
 
 returns : tie.Need-returns
 returns c =
-    let told-stopped = c .told-stopped in
-    let copy-times = c .before .before .before .before .copy-times in
-    let enum-told = c .before .before .before .before .before .before .before .enum-told in
-    let enter = c .before .before .before .before .before .before .before .before .before .before .before .enter in
-    let load = c .before .before .before .before .before .before .before .before .before .before .before .before .before .before .load in
-    let copy-cells = c .before .before .before .before .before .before .before .before .before .before .before .before .before .before .before .before .before .before
-    .before .before .before .before .before .before .copy-cells in
-    let pre = c .before .before .before .before .before .before .before .before .before .before .before .before .before .before .before .before .before .before
-    .before .before .before .before .before .before .before .before .before .before .before .before .before .before .before .before .before .before .before .before
-    .before .before .before .before .before .before .pre in
-    let fits = c .before .before .before .before .before .before .before .before .before .before .before .before .before .before .before .before .before .before
-    .before .before .before .before .before .before .before .before .before .before .before .before .before .before .before .before .before .before .before .before
-    .before .before .before .before .before .before .fits in
-    put-back pre (enter .result) _ (enter .last .0) (enter .last .1 .1 .1 .1 .0) (load .ensures) (enter .ensures .0) (enter .ensures .1) (omega (arith, fits .fuel)) _
-    (copy-cells .ensures) (enum-told .given .1) _ (told-stopped .ensures) _ (copy-times .ensures)
+    let walk = stopped (back c .before) in
+    let enter = walk .enter in
+    put-back (at-start walk .pre) (enter .result) _ (enter .last .0) _ (enter .last .1 .1 .1 .1 .0) (begun (joined walk)) (enter .ensures .0) (enter .ensures .1)
+    (omega (arith, at-start walk .fits .fuel)) _ (copied (joined walk .before) .copy-cells .ensures) (back c .before .before .before .enum-told .given .1) _ (c .told-stopped .ensures) _
+    (back c .copy-times .ensures)
 
 show-ended-requires : tie.Need-show-ended-requires
-show-ended-requires c κs =
-    let pre = c .before .before .before .before .before .before .before .before .before .before .before .before .before .before .before .before .before .before
-    .before .before .before .before .before .before .before .before .before .before .before .before .before .before .before .before .before .before .before .pre in
-    pre .few
+show-ended-requires c κs = at-start (c .before .before .before .before) .pre .few
 
 put-back-requires : tie.Need-put-back-requires
 put-back-requires c κs =
-    let pre = c .before .before .before .before .before .before .before .before .before .before .before .before .before .before .before .before .before .before
-    .before .before .before .before .before .before .before .before .before .before .before .before .before .before .before .before .before .before .before .before
-    .before .before .before .before .pre in
+    let pre = at-start (ended c) .pre in
     (omega (arith, pre .few), omega (arith, pre .cells-long .places), omega (arith, pre .cells-long .marks), omega (arith, pre .board-long))
 
+-- the place at which what is put back has come back
+abbrev put : tie.After-counted → tie.After-put-back
+put c = c .before .before .before .before .before .before .before .before .before .before
+
+same-length-7 : tie.Need-same-length-7
+same-length-7 c = let walk = ended (put c .before) in walk .enter .kept .1 .1 .1 .1 .0 ∙ times-long (joined walk)
+
+module _ (c : tie.After-counted) where
+  abbrev spared : tie.After-copy-cells
+  spared = copied (joined (ended (put c .before)) .before)
+
 same-length-10 : tie.Need-same-length-10
-same-length-10 c =
-    let copy-cells = c .before .before .before .before .before .before .before .before .before .before .before .before .before .before .before .before .before
-    .before .before .before .before .before .before .before .before .before .before .before .before .before .before .before .before .copy-cells in
-    copy-cells .kept .1 .1 .1 .0
+same-length-10 c = spared c .copy-cells .kept .1 .1 .1 .0
 
 same-length-11 : tie.Need-same-length-11
-same-length-11 c =
-    let copy-cells = c .before .before .before .before .before .before .before .before .before .before .before .before .before .before .before .before .before
-    .before .before .before .before .before .before .before .before .before .before .before .before .before .before .before .before .copy-cells in
-    copy-cells .kept .1 .1 .1 .1 .0
+same-length-11 c = spared c .copy-cells .kept .1 .1 .1 .1 .0
 
 same-length-12 : tie.Need-same-length-12
-same-length-12 c =
-    let copy-cells = c .before .before .before .before .before .before .before .before .before .before .before .before .before .before .before .before .before
-    .before .before .before .before .before .before .before .before .before .before .before .before .before .before .before .before .copy-cells in
-    copy-cells .kept .1 .1 .1 .1 .1 .0
+same-length-12 c = spared c .copy-cells .kept .1 .1 .1 .1 .1 .0
 
 returns-2 : tie.Need-returns-2
 returns-2 c =
-    let counted = c .counted in
-    let told-done = c .before .told-done in
-    let lent = c .before .before .lent in
-    let put-back = c .before .before .before .before .before .before .before .before .before .before .put-back in
-    let show-ended = c .before .before .before .before .before .before .before .before .before .before .before .before .before .before .before .show-ended in
-    let match = c .before .before .before .before .before .before .before .before .before .before .before .before .before .before .before .before .before .match in
-    let enter = c .before .before .before .before .before .before .before .before .before .before .before .before .before .before .before .before .before .before .before .before .enter in
-    let load = c .before .before .before .before .before .before .before .before .before .before .before .before .before .before .before .before .before .before
-    .before .before .before .before .before .load in
-    let copy-cells = c .before .before .before .before .before .before .before .before .before .before .before .before .before .before .before .before .before
-    .before .before .before .before .before .before .before .before .before .before .before .before .before .before .before .before .copy-cells in
-    let pre = c .before .before .before .before .before .before .before .before .before .before .before .before .before .before .before .before .before .before
-    .before .before .before .before .before .before .before .before .before .before .before .before .before .before .before .before .before .before .before .before
-    .before .before .before .before .before .before .before .before .before .before .before .before .before .before .before .pre in
-    let fits = c .before .before .before .before .before .before .before .before .before .before .before .before .before .before .before .before .before .before
-    .before .before .before .before .before .before .before .before .before .before .before .before .before .before .before .before .before .before .before .before
-    .before .before .before .before .before .before .before .before .before .before .before .before .before .before .before .fits in
-    carried pre (enter .result) _ (enter .last .0) (enter .last .1 .1 .1 .1 .0) (load .ensures) (enter .ensures .0) (enter .ensures .1) (omega (arith, fits .fuel)) _
-    (copy-cells .ensures) (goes-told _ (match .keys2)) _ (show-ended .ensures) _ _ (lent .ensures) (told-done .ensures) _ (counted .ensures) _ _ _ (put-back .ensures .0)
-    (put-back .ensures .1 .0) (put-back .ensures .1 .1)
+    let walk = ended (put c .before) in
+    let enter = walk .enter in
+    let back = put c .put-back in
+    carried (at-start walk .pre) (enter .result) _ (enter .last .0) _ (enter .last .1 .1 .1 .1 .0) (begun (joined walk)) (enter .ensures .0) (enter .ensures .1)
+    (omega (arith, at-start walk .fits .fuel)) _ (spared c .copy-cells .ensures) (goes-told _ (shown (put c .before) .before .before .match .keys2)) _
+    (shown (put c .before) .show-ended .ensures) _ _ (c .before .before .lent .ensures)
+    (c .before .told-done .ensures) _ (c .counted .ensures) _ _ _ (back .ensures .0) (back .ensures .1 .0) (back .ensures .1 .1)
 
 pub carry-out-spec : {M : Type 1} → statement M
 carry-out-spec =
     tie.close
     (tie.spec
     (λ c κs. search needs)
+    load-fresh-requires
     (λ c κs. search needs)
     enter-requires
     (λ c. search needs)
     copy-times-requires
     (λ c κs. search needs)
-    (λ c. search needs)
+    same-length
     (λ c. search needs)
     (λ c. search needs)
     (λ c. search needs)
@@ -114,7 +138,7 @@ carry-out-spec =
     (λ c κs. search needs)
     (λ c κs. search needs)
     (λ c κs. search needs)
-    (λ c. search needs)
+    same-length-7
     (λ c. search needs)
     (λ c. search needs)
     same-length-10

@@ -3,7 +3,7 @@ use native.Mathlib.Omega.{arith}
 use borrow.Author.Needs.{needs}
 use Rattle.rules.specs.Call.{Run, run}
 use Rattle.bench_lib.specs.Bench.{rows}
-use Rattle.bench_lib.proofs.Came.{Came, came, node-few, node-step, tick-few, tick-step, reset-step, stop-step}
+use Rattle.bench_lib.proofs.Came.{Came, came, node-few, node-step, call-few, call-step, stop-step}
 use Rattle.bench_lib.proofs.step.one.Statement.{statement}
 use Rattle.bench_lib.proofs.step.one.Tie as tie
 
@@ -42,93 +42,62 @@ returns c =
     let k = kept .before .before .before .before .before in
     node-step (line (node k)) (cells (node k)) _ _ _ _ _ _ (k .kind .given .1) (kept .keep .ensures)
 
--- a tick
-abbrev happened : tie.After-times → tie.After-event
+-- a tick or a restart
+abbrev happened : tie.After-times → tie.After-call
 happened c = c .before .before .before .before
 
-abbrev event : tie.After-event → tie.After-admit
-event c = c .before .before
+abbrev asked : tie.After-call → tie.After-admit
+asked c = c .before .before
 
-abbrev timed : tie.After-tick → tie.After-times
+abbrev timed : tie.After-serve → tie.After-times
 timed c = c .before .before .before .before .before .before .before .before .before .before .before
 
-abbrev ticked : tie.After-said → tie.After-tick
-ticked c = c .before .before .before .before .before .before .before .before
+abbrev served : tie.After-said → tie.After-serve
+served c = c .before .before .before .before .before .before .before .before
 
-abbrev tick : tie.After-said → tie.After-admit
-tick c = event (happened (timed (ticked c)))
+abbrev call : tie.After-said → tie.After-admit
+call c = asked (happened (timed (served c)))
 
-tick-requires : tie.Need-tick-requires
-tick-requires c κs =
+serve-requires : tie.Need-serve-requires
+serve-requires c κs =
     let t = c .before .before .before .before .before .before .before .before .before .before in
     let e = happened t in
-    let few = tick-few (line (event e)) _ _ _ (e .event .given .1) in
-    let p = start (event e) .pre in
+    let few = call-few (line (asked e)) _ _ _ _ (e .call .given .1) in
+    let p = start (asked e) .pre in
     let r = p .1 .0 in (
       record { kinds = omega (arith, p .0, r .kinds); ns = omega (arith, p .0, r .ns); limits = omega (arith, p .0, r .limits) },
       (few .1, omega (arith, few .0, t .times .kept .1 .1 .0, p .1 .1 .leftovers-long)),
     )
 
 tell-requires : tie.Need-tell-requires
-tell-requires c κs = let said = c .before in (rw (said .said .ensures), start (tick said) .pre .1 .1 .room-long)
+tell-requires c κs = let said = c .before in (rw (said .said .ensures), start (call said) .pre .1 .1 .room-long)
 
 same-length-12 : tie.Need-same-length-12
-same-length-12 c = read (tick (c .before .before .before .before)) .read .kept .1 .0
+same-length-12 c = read (call (c .before .before .before .before)) .read .kept .1 .0
 
 same-length-13 : tie.Need-same-length-13
-same-length-13 c = read (tick (c .before .before .before .before)) .read .kept .1 .1 .0
+same-length-13 c = read (call (c .before .before .before .before)) .read .kept .1 .1 .0
 
 same-length-14 : tie.Need-same-length-14
-same-length-14 c = timed (ticked (c .before .before .before .before)) .times .kept .1 .1 .0
+same-length-14 c = timed (served (c .before .before .before .before)) .times .kept .1 .1 .0
 
 returns-2 : tie.Need-returns-2
 returns-2 c =
     let said = c .before .before .before .before in
-    let call = ticked said .tick in
-    let t = timed (ticked said) in
-    let m = tick said in
-    let last = call .last .1 .1 .1 .1 .1 .1 .1 in
-    tick-step (line m) _ _ _ (happened t .event .given .1) (cells m) (run (last .0) (last .1 .0) (last .1 .1 .0))
+    let left = served said .serve in
+    let t = timed (served said) in
+    let m = call said in
+    let last = left .last .1 .1 .1 .1 .1 .1 .1 .1 in
+    call-step (line m) _ _ _ _ (happened t .call .given .1) (cells m) (run (last .0) (last .1 .0) (last .1 .1 .0))
     (start m .args .leftovers .now) (t .times .last .1 .1 .0) _ _ _ _ _ _ (start m .pre .1 .1 .leftovers-long) (t .times .ensures)
-    (call .ensures) (said .said .ensures) (c .before .before .tell .ensures)
-
--- a reset
-abbrev reset : tie.After-enum-told → tie.After-admit
-reset c = c .before .before
-
-abbrev asked : tie.After-was-reset → tie.After-reset
-asked c = c .before .before .before .before .before .before .before .before
-
-abbrev told : tie.After-reset → tie.After-enum-told
-told c = c .before .before .before .before .before .before .before
-
-tell-requires-2 : tie.Need-tell-requires-2
-tell-requires-2 c κs =
-    let was = c .before in
-    (rw (was .was-reset .ensures), start (reset (told (asked was))) .pre .1 .1 .room-long)
-
-same-length-22 : tie.Need-same-length-22
-same-length-22 c = read (reset (told (asked (c .before .before .before .before)))) .read .kept .1 .0
-
-same-length-23 : tie.Need-same-length-23
-same-length-23 c = read (reset (told (asked (c .before .before .before .before)))) .read .kept .1 .1 .0
-
-returns-3 : tie.Need-returns-3
-returns-3 c =
-    let was = c .before .before .before .before in
-    let call = asked was .reset in
-    let t = told (asked was) in
-    let m = reset t in
-    let last = call .last .1 .1 .1 .1 in
-    reset-step (line m) (cells m) (run (last .0) (last .1 .0) (last .1 .1 .0)) _ _ _ _ _ _ (t .enum-told .given .1) (call .ensures)
-    (was .was-reset .ensures) (c .before .before .tell2 .ensures)
+    (left .ensures) (said .said .ensures) (c .before .before .tell .ensures)
 
 -- a malformed line
-returns-4 : tie.Need-returns-4
-returns-4 c =
+returns-3 : tie.Need-returns-3
+returns-3 c =
     let told = c .before .before .before .before in
     let m = told .before .before in
-    stop-step (line m) (cells m) _ _ _ (told .enum-told2 .given .1) (c .before .before .stop .ensures)
+    stop-step (line m) (cells m) _ _ _ (told .enum-told .given .1) (c .before .before .stop .ensures)
 
 pub one-spec : {M : Type 1} → statement M
 one-spec =
@@ -141,13 +110,9 @@ one-spec =
     (λ c. search needs)
     (λ c. search needs)
     (λ c κs. search needs)
-    tick-requires
+    serve-requires
     (λ c κs. search needs)
     tell-requires
-    (λ c. search needs)
-    (λ c κs. search needs)
-    (λ c κs. search needs)
-    tell-requires-2
     (λ c. search needs)
     (λ c κs. search needs)
     (λ c. search needs)
@@ -170,14 +135,4 @@ one-spec =
     (λ c. search needs)
     (λ c. search needs)
     (λ c. search needs)
-    (λ c. search needs)
-    (λ c. search needs)
-    (λ c. search needs)
-    same-length-22
-    same-length-23
-    (λ c. search needs)
-    returns-3
-    (λ c. search needs)
-    (λ c. search needs)
-    (λ c. search needs)
-    returns-4)
+    returns-3)

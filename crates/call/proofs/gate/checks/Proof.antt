@@ -1,16 +1,16 @@
 -- The refusals in their order.
-use mathlib.Core.Path.{_≡_, sym, _∙_}
-use mathlib.Core.Bool.{true}
+use mathlib.Core.Path.{_≡_, sym, _∙_, subst}
+use mathlib.Core.Bool.{Bool, true}
+use mathlib.Core.Logic.{⊎-elim}
 use mathlib.Core.List.{List}
 use Prim.Native.Nat.{ℕ}
 use borrow.Author.Needs.{needs}
 use borrow.Author.Tests.{not-true, not-false}
-use lib.Dec.{leb}
+use lib.Dec.{T, leb}
 use Rattle.rules.specs.declared.event.Event.{Event}
 use Rattle.rules.specs.Call.{Given, given, run, runLength}
 use Rattle.call.proofs.Good.{Good, found-good, found-bad}
-use Rattle.call.proofs.Gates.{Fit, Held, Timed, Answerable, bad-table, short-cells, short-spare, short-board}
-use Rattle.call.proofs.Gates.{room, bad-cell, fine-cells, bad-time, fine-time, bad-answer, fine-answers, finished, due}
+use Rattle.call.proofs.Gates.{Fit, Held, Timed, Answerable, bad-table, short-cells, short-spare, short-board, room, bad-cell, fine-cells, fresh-cells, bad-time, fine-time, bad-answer, fine-answers, finished, due}
 use Rattle.call.proofs.gate.checks.Statement.{statement}
 use Rattle.call.proofs.gate.checks.Tie as tie
 
@@ -30,8 +30,8 @@ ends c = c .check-table .last .1 .1 .1 .0
 abbrev nodes : tie.After-n → ℕ
 nodes c = c .n .given .0 .0
 
-abbrev used : tie.After-known-told4 → Event
-used c = c .before .used .given .0 .0
+abbrev fresh : tie.After-n → Bool
+fresh c = start (c .before .before) .args .fresh
 
 module _ (fuel : ℕ) where
   abbrev Known : ((g : Given) → List ℕ → ℕ → Type 0) → tie.After-n → Type 0
@@ -49,18 +49,34 @@ module _ (fuel : ℕ) where
   spare : (c : tie.Else2) → Known (λ g ends n. leb n (runLength (g .spare)) ≡ true) (c .before .before .before .before .before)
   spare c = sym (c .before .long-enough2 .ensures) ∙ not-false _ (c .if2 .left)
 
-  fit : (c : tie.Else3) → Known Fit (c .before .before .before .before .before .before)
-  fit c = record { good = table (c .before .before .before .before .before .before); cells = cells (c .before .before .before); spare = spare (c .before); board = c .if3 .left }
+  abbrev found : tie.Else3 → tie.After-n
+  found c = c .before .before .before .before .before .before
 
-  held : (c : tie.After-enum-told) → Known Held (c .before .before .before .before .before .before .before .before .before .before)
-  held c = fine-cells (fit (c .before .before .before .before)) (c .before .before .check-cells .ensures) (c .enum-told .given .1)
+  fit : (c : tie.Else3) → Known Fit (found c)
+  fit c = record { good = table (found c); cells = cells (c .before .before .before); spare = spare (c .before); board = c .if3 .left }
 
-  timed : (c : tie.After-known-told4) → Known (λ g ends n. Timed g ends n (used c)) (c .before .before .before .before .before .before .before .before .before .before .before .before .before .before)
-  timed c = fine-time (held (c .before .before .before .before)) (c .before .before .before .event-of .ensures) _ (c .before .used .given .1)
+  -- a tick's cells were looked at, a restart's were not
+  held : (c : tie.Joined4) → Known (Held (fresh (found (c .before)))) (found (c .before))
+  held c = ⊎-elim
+      (λ w. fine-cells (fit (c .before)) (w .2 .ensures) _ (not-true _ (w .0 .taken)) (w .4 .given .1))
+      (λ w. fresh-cells (fit (c .before)) _ (not-false _ (w .left)))
+      (c .if4 .came)
 
-  answerable : (c : tie.After-enum-told3)
-      → Known (λ g ends n. Answerable g ends n (used (c .before .before .before))) (c .before .before .before .before .before .before .before .before .before .before .before .before .before .before .before .before .before)
-  answerable c = fine-answers (timed (c .before .before .before)) (c .before .before .bad-answer .ensures) (c .enum-told3 .given .1)
+  -- the cells have passed, and the event to use is known
+  abbrev looked : tie.After-known-told4 → tie.Joined4
+  looked c = c .before .before .before .before
+
+  abbrev used : tie.After-known-told4 → Event
+  used c = c .before .used .given .0 .0
+
+  timed : (c : tie.After-known-told4) → Known (λ g ends n. Timed (fresh (found (looked c .before))) g ends n (used c)) (found (looked c .before))
+  timed c = fine-time (held (looked c)) (c .before .before .before .event-of .ensures) _ (c .before .used .given .1)
+
+  abbrev passed : tie.After-enum-told3 → tie.After-known-told4
+  passed c = c .before .before .before
+
+  answerable : (c : tie.After-enum-told3) → Known (λ g ends n. Answerable (fresh (found (looked (passed c) .before))) g ends n (used (passed c))) (found (looked (passed c) .before))
+  answerable c = fine-answers (timed (passed c)) (c .before .before .bad-answer .ensures) (c .enum-told3 .given .1)
 
 -- ---- the needs
 check-table-requires : tie.Need-check-table-requires
@@ -76,25 +92,28 @@ long-enough-requires : tie.Need-long-enough-requires
 long-enough-requires c κs = search needs
 
 returns : tie.Need-returns
-returns c fuel = short-cells _ (table fuel (c .before .before .before)) (sym (c .before .long-enough .ensures) ∙ not-true _ (c .if1 .taken))
+returns c fuel = short-cells _ _ (table fuel (c .before .before .before)) (sym (c .before .long-enough .ensures) ∙ not-true _ (c .if1 .taken))
 
 long-enough-requires-2 : tie.Need-long-enough-requires-2
 long-enough-requires-2 c κs = search needs
 
 returns-2 : tie.Need-returns-2
-returns-2 c fuel = short-spare _ (table fuel (c .before .before .before .before .before)) (cells fuel (c .before .before)) (sym (c .before .long-enough2 .ensures) ∙ not-true _ (c .if2 .taken))
+returns-2 c fuel = short-spare _ _ (table fuel (c .before .before .before .before .before)) (cells fuel (c .before .before)) (sym (c .before .long-enough2 .ensures) ∙ not-true _ (c .if2 .taken))
 
 returns-3 : tie.Need-returns-3
-returns-3 c fuel = short-board _ (table fuel (c .before .before .before .before .before .before)) (cells fuel (c .before .before .before)) (spare fuel (c .before)) (c .if3 .taken)
+returns-3 c fuel = short-board _ _ (table fuel (c .before .before .before .before .before .before)) (cells fuel (c .before .before .before)) (spare fuel (c .before)) (c .if3 .taken)
 
 check-cells-requires : tie.Need-check-cells-requires
-check-cells-requires c κs = room (fit 0 (c .before))
+check-cells-requires c κs = room (fit 0 (c .before .before))
 
 enum-known-p-2 : tie.Need-enum-known-p-2
 enum-known-p-2 c = search needs
 
 returns-4 : tie.Need-returns-4
-returns-4 c fuel = bad-cell (fit fuel (c .before .before .before .before .before)) (c .before .before .before .check-cells .ensures) _ (c .before .p2 .given .1)
+returns-4 c fuel =
+    let checked = c .before .before .before in
+    let tick = checked .before .before in
+    bad-cell (fit fuel (tick .before)) (checked .check-cells .ensures) _ (not-true _ (tick .if4 .taken)) _ (c .before .p2 .given .1)
 
 enum-told : tie.Need-enum-told
 enum-told c = search needs
@@ -124,13 +143,14 @@ enum-told-3 : tie.Need-enum-told-3
 enum-told-3 c = search needs
 
 returns-7 : tie.Need-returns-7
-returns-7 c fuel = finished (answerable fuel (c .before)) (c .if4 .taken)
+returns-7 c fuel = finished (answerable fuel (c .before .before)) (not-true _ (c .before .if5 .taken)) (c .if6 .taken)
 
 returns-8 : tie.Need-returns-8
-returns-8 c fuel = bad-table (call (start (c .before .before .before)) fuel) _ (found-bad _ _ _ _ _ _ (c .before .before .before .check-table .ensures) _ (c .before .p .given .1))
+returns-8 c fuel = bad-table _ (call (start (c .before .before .before)) fuel) _ (found-bad _ _ _ _ _ _ (c .before .before .before .check-table .ensures) _ (c .before .p .given .1))
 
+-- a tick of a tree that has not finished, or a restart
 returns-9 : tie.Need-returns-9
-returns-9 c fuel = due (answerable fuel (c .before)) (c .if4 .left)
+returns-9 c fuel = due (answerable fuel (c .before)) (⊎-elim (λ w e. w .1 .left) (λ w e. absurd (subst T (sym (not-false _ (w .left)) ∙ e) tt)) (c .if5 .came))
 
 pub checks-spec : {M : Type 1} → statement M
 checks-spec =

@@ -23,12 +23,6 @@ enum-told c = search needs
 enum-told-2 : tie.Need-enum-told-2
 enum-told-2 c = search needs
 
-enum-told-3 : tie.Need-enum-told-3
-enum-told-3 c = search needs
-
-enum-told-4 : tie.Need-enum-told-4
-enum-told-4 c = search needs
-
 returns-2 : tie.Need-returns-2
 returns-2 c = let a = c .before .before .before .before .before .args in
     early (a .nodes) (a .begun) (a .frame) _ _ _ (c .before .before .before .frame .given .1) (c .before .if1 .left) (c .if2 .taken)
@@ -47,12 +41,6 @@ returns-5 c = search needs
 returns-6 : tie.Need-returns-6
 returns-6 c = search needs
 
-returns-7 : tie.Need-returns-7
-returns-7 c = search needs
-
-returns-8 : tie.Need-returns-8
-returns-8 c = search needs
-
 pub frame-admitted-spec : {M : Type 1} → statement M
 frame-admitted-spec =
     tie.close
@@ -62,12 +50,8 @@ frame-admitted-spec =
     enum-known-frame-2
     enum-told
     enum-told-2
-    enum-told-3
-    enum-told-4
     returns-2
     returns-3
     returns-4
     returns-5
-    returns-6
-    returns-7
-    returns-8)
+    returns-6)

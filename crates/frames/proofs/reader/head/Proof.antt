@@ -10,17 +10,17 @@ number-requires c κs = search needs
 node-requires : tie.Need-node-requires
 node-requires c κs = search needs
 
-tick-requires : tie.Need-tick-requires
-tick-requires c κs = search needs
+asked-requires : tie.Need-asked-requires
+asked-requires c κs = search needs
 
-reset-requires : tie.Need-reset-requires
-reset-requires c κs = search needs
+asked-requires-2 : tie.Need-asked-requires-2
+asked-requires-2 c κs = search needs
 
 said-requires : tie.Need-said-requires
 said-requires c κs = search needs
 
-was-reset-requires : tie.Need-was-reset-requires
-was-reset-requires c κs = search needs
+said-requires-2 : tie.Need-said-requires-2
+said-requires-2 c κs = search needs
 
 malformed-requires : tie.Need-malformed-requires
 malformed-requires c κs = search needs
@@ -29,16 +29,16 @@ returns : tie.Need-returns
 returns c = by-kind _ (c .before .before .number .result) 0x01 (c .node .result) (c .before .before .number .ensures) (c .before .match .keys1) (c .node .ensures)
 
 returns-2 : tie.Need-returns-2
-returns-2 c = by-kind _ (c .before .before .number .result) 0x02 (c .tick .result) (c .before .before .number .ensures) (c .before .match .keys2) (c .tick .ensures)
+returns-2 c = by-kind _ (c .before .before .number .result) 0x02 (c .asked .result) (c .before .before .number .ensures) (c .before .match .keys2) (c .asked .ensures)
 
 returns-3 : tie.Need-returns-3
-returns-3 c = by-kind _ (c .before .before .number .result) 0x03 (c .reset .result) (c .before .before .number .ensures) (c .before .match .keys3) (c .reset .ensures)
+returns-3 c = by-kind _ (c .before .before .number .result) 0x03 (c .asked2 .result) (c .before .before .number .ensures) (c .before .match .keys3) (c .asked2 .ensures)
 
 returns-4 : tie.Need-returns-4
 returns-4 c = by-kind _ (c .before .before .number .result) 0x82 (c .said .result) (c .before .before .number .ensures) (c .before .match .keys4) (c .said .ensures)
 
 returns-5 : tie.Need-returns-5
-returns-5 c = by-kind _ (c .before .before .number .result) 0x83 (c .was-reset .result) (c .before .before .number .ensures) (c .before .match .keys5) (c .was-reset .ensures)
+returns-5 c = by-kind _ (c .before .before .number .result) 0x83 (c .said2 .result) (c .before .before .number .ensures) (c .before .match .keys5) (c .said2 .ensures)
 
 returns-6 : tie.Need-returns-6
 returns-6 c = by-kind _ (c .before .before .number .result) 0x8f (c .malformed .result) (c .before .before .number .ensures) (c .before .match .keys6) (c .malformed .ensures)
@@ -55,10 +55,10 @@ head-spec =
     (tie.spec
     number-requires
     node-requires
-    tick-requires
-    reset-requires
+    asked-requires
+    asked-requires-2
     said-requires
-    was-reset-requires
+    said-requires-2
     malformed-requires
     returns
     returns-2

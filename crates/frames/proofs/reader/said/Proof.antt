@@ -1,7 +1,12 @@
 -- `said` meets its contract: its fields stand one after another up to the line's end, or no such fields do.
-use mathlib.Core.Path.{refl}
+use mathlib.Core.Path.{_≡_, refl}
 use mathlib.Core.List.{List, [], _∷_}
-use Rattle.frames.proofs.Bodies.{Seen, Chain, ended, not-ended, body-is, body-not}
+use Prim.Native.Nat.{ℕ}
+use Rattle.frames.specs.Line.{Field, saidNo, body}
+use Rattle.frames.specs.Back.{frameOf}
+use Rattle.frames.specs.declared.Call.{Call}
+use Rattle.frames.specs.declared.Call.the-variants.{Tick, Restart}
+use Rattle.frames.proofs.Bodies.{Seen, Chain, shaped, ended, not-ended, body-is, body-not}
 use borrow.Author.Needs.{needs}
 use Rattle.frames.proofs.reader.said.Statement.{statement}
 use Rattle.frames.proofs.reader.said.Tie as tie
@@ -23,6 +28,12 @@ read d =
     ∷ (4, d .before .field6 .result)
     ∷ []
 
+-- as many as either call has
+shape : (d : tie.After-ends) (call : Call) (fs : List Field) (xs ys : List ℕ)
+    → let B = body (frameOf (saidNo call) fs) xs ys in shaped (read d) B ≡ B
+shape d Tick fs xs ys = refl
+shape d Restart fs xs ys = refl
+
 chain : (d : tie.After-ends) → Chain (start d .args .line .now) (start d .args .at) (read d) (d .before .field6 .result .next)
 chain d =
     let t = three d in (
@@ -38,14 +49,14 @@ returns c =
     let test = c .before .before .before .before .before in
     let d = test .before in
     let a = start d .args in
-    body-is 0x82 _ (a .line .now) (a .at) (d .before .field6 .result .next) (read d) refl refl refl (chain d)
+    body-is (saidNo (a .call)) _ (a .line .now) (a .at) (d .before .field6 .result .next) (read d) refl refl refl (chain d)
     (ended _ _ (test .if1 .taken) (d .ends .ensures))
 
 returns-2 : tie.Need-returns-2
 returns-2 c =
     let d = c .before in
     let a = start d .args in
-    body-not 0x82 (a .line .now) (a .at) (d .before .field6 .result .next) (read d) (λ fs xs ys. refl) (chain d)
+    body-not (saidNo (a .call)) (a .line .now) (a .at) (d .before .field6 .result .next) (read d) (shape d (a .call)) (chain d)
     (not-ended _ _ (c .if1 .left) (d .ends .ensures))
 
 pub said-spec : {M : Type 1} → statement M

@@ -34,8 +34,8 @@ module _ (c : tie.After-slice-known) (f : Frame) (e : start c .args .frame ≡ f
 node-requires : tie.Need-node-requires
 node-requires c κs = fits (c .before .before .before .before) _ (c .before .before .frame .given .1)
 
-tick-requires : tie.Need-tick-requires
-tick-requires c κs =
+asked-requires : tie.Need-asked-requires
+asked-requires c κs =
     let s = start (c .before .before .before .before) in
     let e = c .before .before .frame2 .given .1 in (
       fits (c .before .before .before .before) _ e,
@@ -45,17 +45,11 @@ tick-requires c κs =
       ),
     )
 
-reset-requires : tie.Need-reset-requires
-reset-requires c κs = fits (c .before .before .before) _ (c .before .enum-told .given .1)
-
 said-requires : tie.Need-said-requires
 said-requires c κs = fits (c .before .before .before .before) _ (c .before .before .frame3 .given .1)
 
-was-reset-requires : tie.Need-was-reset-requires
-was-reset-requires c κs = fits (c .before .before .before .before) _ (c .before .before .frame4 .given .1)
-
 malformed-requires : tie.Need-malformed-requires
-malformed-requires c κs = fits (c .before .before .before .before) _ (c .before .before .frame5 .given .1)
+malformed-requires c κs = fits (c .before .before .before .before) _ (c .before .before .frame4 .given .1)
 
 returns : tie.Need-returns
 returns c =
@@ -67,32 +61,21 @@ returns c =
 returns-2 : tie.Need-returns-2
 returns-2 c =
     let told = c .before .before .before .before in
-    let t = c .before .before .tick .ensures in
+    let t = c .before .before .asked .ensures in
     whole (told .before .before .before) _ (told .before .frame2 .given .1) _ (t .0) (t .1)
 
 returns-3 : tie.Need-returns-3
 returns-3 c =
     let told = c .before .before .before .before in
-    whole (told .before .before) _ (told .enum-told .given .1) _ (c .before .before .reset .ensures) tt
-
-returns-4 : tie.Need-returns-4
-returns-4 c =
-    let told = c .before .before .before .before in
     let k = told .known-told3 .given in
     whole (told .before .before .before) _ (told .before .frame3 .given .1) _ (c .before .before .said .ensures)
     (omega (arith, k), (omega (arith, k), (omega (arith, k), (omega (arith, k), (omega (arith, k), (omega (arith, k), tt))))))
 
-returns-5 : tie.Need-returns-5
-returns-5 c =
+returns-4 : tie.Need-returns-4
+returns-4 c =
     let told = c .before .before .before .before in
-    whole (told .before .before .before) _ (told .before .frame4 .given .1) _ (c .before .before .was-reset .ensures)
+    whole (told .before .before .before) _ (told .before .frame4 .given .1) _ (c .before .before .malformed .ensures)
     (omega (arith, told .known-told4 .given), tt)
-
-returns-6 : tie.Need-returns-6
-returns-6 c =
-    let told = c .before .before .before .before in
-    whole (told .before .before .before) _ (told .before .frame5 .given .1) _ (c .before .before .malformed .ensures)
-    (omega (arith, told .known-told5 .given), tt)
 
 pub lay-spec : {M : Type 1} → statement M
 lay-spec =
@@ -101,13 +84,9 @@ lay-spec =
     (λ c. search needs)
     node-requires
     (λ c. search needs)
-    tick-requires
-    (λ c. search needs)
-    reset-requires
+    asked-requires
     (λ c. search needs)
     said-requires
-    (λ c. search needs)
-    was-reset-requires
     (λ c. search needs)
     malformed-requires
     (λ c. search needs)
@@ -117,8 +96,4 @@ lay-spec =
     (λ c. search needs)
     returns-3
     (λ c. search needs)
-    returns-4
-    (λ c. search needs)
-    returns-5
-    (λ c. search needs)
-    returns-6)
+    returns-4)

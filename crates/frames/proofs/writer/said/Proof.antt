@@ -1,8 +1,12 @@
 -- `said` meets its contract: its fields are put one after another.
-use mathlib.Core.Path.{_∙_}
+use mathlib.Core.Path.{ap, _∙_}
+use mathlib.Core.List.{_++_}
 use native.Mathlib.Omega.{arith}
-use Prim.Native.Nat.{_≤_}
+use Prim.Native.Nat.{ℕ, _≤_}
 use lib.ListN.{length, length-set}
+use Rattle.frames.specs.Hex.{digits}
+use Rattle.frames.specs.Line.{fields, front, laid}
+use Rattle.frames.specs.declared.Frame.the-variants.{Said}
 use Rattle.frames.proofs.Puts.{line-put, puts-on}
 use borrow.Author.Needs.{needs}
 use Rattle.frames.proofs.writer.said.Statement.{statement}
@@ -27,8 +31,11 @@ room1 c = room2 c .before .before .before .before
 abbrev room0 : tie.After-put6 → tie.After-put-number
 room0 c = room1 c .before .before .before .before
 
+abbrev head : tie.After-put6 → tie.After-said-no
+head c = room0 c .before
+
 abbrev start : tie.After-put6 → tie.Start
-start c = room0 c .before .before .before
+start c = head c .before .before .before
 
 slice-write-room : tie.Need-slice-write-room
 slice-write-room c = search needs
@@ -54,12 +61,16 @@ returns c =
     let p4 = puts-on two p3 (room4 d .put4 .ensures) in
     let p5 = puts-on two p4 (room5 d .put5 .ensures) in
     let p6 = puts-on two p5 (d .put6 .ensures) in
-    line-put (start d .args .room .now) 0x82 (room0 d .put-number .ensures) p6 (slice-write-room c)
+    let no = head d .said-no in
+    let a = start d .args in
+    line-put (a .room .now) (no .result) (room0 d .put-number .ensures) p6 (slice-write-room c)
+    ∙ ap (λ (x : ℕ). laid (digits 2 x ++ fields (front (Said (a .call) (a .number) (a .status) (a .time) (a .visits) (a .used) (a .extra)))) (a .room .now)) (no .ensures)
 
 pub said-spec : {M : Type 1} → statement M
 said-spec =
     tie.close
     (tie.spec
+    (λ c κs. search needs)
     (λ c κs. search needs)
     (λ c κs. search needs)
     (λ c κs. search needs)

@@ -1,7 +1,7 @@
 -- What `tick_value` leaves, told in numbers.
 use borrow.Author.Needs.{needs}
 use Rattle.lemboraw.specs.Host.{hostTick}
-use Rattle.lemboraw.proofs.Told.{tick-told}
+use Rattle.lemboraw.proofs.Told.{call-told}
 use Rattle.lemboraw.proofs.value.tick_said.Statement.{statement}
 use Rattle.lemboraw.proofs.value.tick_said.Tie as tie
 
@@ -10,7 +10,7 @@ unfolding hostTick
 returns c =
     let called = c .before .before .before .before .before .before .before .before .before .before .before .before .before .before .before .before in
     let event = called .before .before .before .before .before .before .before .before .event-of in
-    tick-told (rw (event .ensures) at (called .tick-value .ensures)) (c .said .ensures)
+    call-told (rw (event .ensures) at (called .tick-value .ensures)) (c .said .ensures)
 
 pub tick-said-spec : {M : Type 1} → statement M
 tick-said-spec =
