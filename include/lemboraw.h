@@ -48,8 +48,8 @@ extern "C" {
 #define LEMBORAW_MOST_NODES 256
 #define LEMBORAW_MOST_DEPTH 16
 
-/* More stack than any call takes, in bytes: a tick of a tree 16 deep takes about 6,000. */
-#define LEMBORAW_STACK 12288
+/* More stack than any call takes, in bytes: a tick of a tree 16 deep takes about 6,100. */
+#define LEMBORAW_STACK 8192
 
 /* The kinds of a node, with what the node's number n means. The limit is a time in Wait and
  * Timeout (finite, not below zero), and zero in every other kind. In limits, dt and leftovers minus
