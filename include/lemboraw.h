@@ -48,7 +48,7 @@ extern "C" {
 #define LEMBORAW_MOST_NODES 256
 #define LEMBORAW_MOST_DEPTH 16
 
-/* More stack than any call takes, in bytes: a tick of a tree 16 deep takes about 6,100. */
+/* More stack than any call takes, in bytes: a tick of a tree 16 deep takes about 6,000. */
 #define LEMBORAW_STACK 8192
 
 /* The kinds of a node, with what the node's number n means. The limit is a time in Wait and
