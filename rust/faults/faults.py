@@ -35,8 +35,8 @@ FAULTS = [
     (
         "an Action's (Running, 7) becomes (Running, 0)",
         "work/src/leaves.rt",
-        "left: number_at(leftovers, at)",
-        "left: if statuses[at] == 1 { 0.0 } else { number_at(leftovers, at) }",
+        "left: leftover,",
+        "left: if statuses[at] == 1 { 0.0 } else { leftover },",
     ),
     (
         "an ended child of WhenAll keeps its cells",
@@ -45,7 +45,7 @@ FAULTS = [
         "put_mark",
     ),
     (
-        "limits and leftovers keep the sign of zero",
+        "limits keep the sign of zero",
         "work/src/array.rt",
         "cleaned(numbers[p])",
         "numbers[p]",
