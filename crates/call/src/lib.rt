@@ -107,7 +107,76 @@ fn carry_out(
     }
 }
 
-// A tick: the checks, then the walk.
+// The checks, then the walk: of the cells at entry, or as from a fresh tree.
+fn value(
+    record: Record,
+    kinds: &[u8],
+    ns: &[u16],
+    limits: &[f64],
+    times: &mut [f64],
+    places: &mut [u16],
+    marks: &mut [u8],
+    spare_times: &mut [f64],
+    spare_places: &mut [u16],
+    spare_marks: &mut [u8],
+    board: &mut [u8],
+    event: Event,
+    fuel: u32,
+    statuses: &[u8],
+    leftovers: &[f64],
+    fresh: bool,
+) -> Called
+    ensures { λ r. ⌜
+        callOf fresh (given «record» (now (kinds .entry)) (now (ns .entry)) (now (limits .entry)) (run (now (times .entry)) (now (places .entry)) (now (marks .entry)))
+        (run (now («spare_times» .entry)) (now («spare_places» .entry)) (now («spare_marks» .entry))) (now (board .entry)) event fuel (now (statuses .entry))
+        (now (leftovers .entry))) ≡ left (r .answer) (r .record) (run (now (times .exit)) (now (places .exit)) (now (marks .exit))) (run (now («spare_times» .exit))
+        (now («spare_places» .exit)) (now («spare_marks» .exit))) (now (board .exit))
+        ⌝ }
+{
+    let mut ends = [0u16; 256];
+    match checks(
+        record,
+        kinds,
+        ns,
+        limits,
+        &mut ends,
+        times,
+        places,
+        marks,
+        spare_times,
+        spare_places,
+        spare_marks,
+        board,
+        event,
+        statuses,
+        leftovers,
+        fresh,
+    ) {
+        Gate::Refused(answer) => Called { answer, record },
+        Gate::Open(n, used) => carry_out(
+            record,
+            kinds,
+            ns,
+            limits,
+            &ends,
+            times,
+            places,
+            marks,
+            spare_times,
+            spare_places,
+            spare_marks,
+            board,
+            used,
+            fuel,
+            statuses,
+            leftovers,
+            n,
+            fresh,
+        ),
+    }
+}
+
+// A tick.
 pub fn tick_value(
     record: Record,
     kinds: &[u8],
@@ -132,13 +201,11 @@ pub fn tick_value(
         (now («spare_places» .exit)) (now («spare_marks» .exit))) (now (board .exit))
         ⌝ }
 {
-    let mut ends = [0u16; 256];
-    match checks(
+    value(
         record,
         kinds,
         ns,
         limits,
-        &mut ends,
         times,
         places,
         marks,
@@ -147,35 +214,14 @@ pub fn tick_value(
         spare_marks,
         board,
         event,
+        fuel,
         statuses,
         leftovers,
         false,
-    ) {
-        Gate::Refused(answer) => Called { answer, record },
-        Gate::Open(n, used) => carry_out(
-            record,
-            kinds,
-            ns,
-            limits,
-            &ends,
-            times,
-            places,
-            marks,
-            spare_times,
-            spare_places,
-            spare_marks,
-            board,
-            used,
-            fuel,
-            statuses,
-            leftovers,
-            n,
-            false,
-        ),
-    }
+    )
 }
 
-// A restart: the same as from a fresh tree. The cells at entry are not looked at, and may hold anything.
+// A restart: a tick as from a fresh tree. The cells at entry are not looked at, and may hold anything.
 pub fn restart_value(
     record: Record,
     kinds: &[u8],
@@ -200,13 +246,11 @@ pub fn restart_value(
         (now («spare_places» .exit)) (now («spare_marks» .exit))) (now (board .exit))
         ⌝ }
 {
-    let mut ends = [0u16; 256];
-    match checks(
+    value(
         record,
         kinds,
         ns,
         limits,
-        &mut ends,
         times,
         places,
         marks,
@@ -215,30 +259,9 @@ pub fn restart_value(
         spare_marks,
         board,
         event,
+        fuel,
         statuses,
         leftovers,
         true,
-    ) {
-        Gate::Refused(answer) => Called { answer, record },
-        Gate::Open(n, used) => carry_out(
-            record,
-            kinds,
-            ns,
-            limits,
-            &ends,
-            times,
-            places,
-            marks,
-            spare_times,
-            spare_places,
-            spare_marks,
-            board,
-            used,
-            fuel,
-            statuses,
-            leftovers,
-            n,
-            true,
-        ),
-    }
+    )
 }
