@@ -48,9 +48,11 @@ static struct lemboraw_tree lent_tree(void) {
     tree.times = (double *)lend(NODES * sizeof(double));
     tree.places = (uint16_t *)lend(NODES * sizeof(uint16_t));
     tree.marks = (uint8_t *)lend(NODES);
+    tree.sinces = (uint64_t *)lend(NODES * sizeof(uint64_t));
     tree.spare_times = (double *)lend(NODES * sizeof(double));
     tree.spare_places = (uint16_t *)lend(NODES * sizeof(uint16_t));
     tree.spare_marks = (uint8_t *)lend(NODES);
+    tree.spare_sinces = (uint64_t *)lend(NODES * sizeof(uint64_t));
     tree.board = (uint8_t *)lend(NODES);
     return tree;
 }
@@ -69,6 +71,7 @@ static void memory(void) {
     said = lemboraw_tree_tick(&tree, true, 3, NODES, one);
     CHECK(said.no == LEMBORAW_DONE && said.status == LEMBORAW_RUNNING && said.visits == NODES && said.used == 1);
     CHECK(tree.record.ticks == 1 && tree.marks[1] == 1 && tree.marks[2] == 1 && tree.times[4] == 3);
+    CHECK(tree.sinces[1] == 1 && tree.sinces[2] == 1 && tree.sinces[3] == 0 && lemboraw_tree_age(&tree, 4) == 1);
     CHECK(tree.board[2] == LEMBORAW_SUCCESS && tree.spare_times[4] == 0);
     said = lemboraw_tree_tick(&tree, true, -1, NODES, none);
     CHECK(said.no == LEMBORAW_BAD_TIME && tree.times[4] == 3 && tree.board[2] == LEMBORAW_SUCCESS);
@@ -77,22 +80,23 @@ static void memory(void) {
     CHECK(said.no == LEMBORAW_ASKS && tree.marks[2] == 1 && tree.times[4] == 3 && tree.spare_times[4] == 3);
     said = lemboraw_tree_restart(&tree, true, 1, NODES, one);
     CHECK(said.no == LEMBORAW_DONE && tree.marks[2] == 0 && tree.times[4] == 1 && tree.record.ticks == 2);
+    CHECK(tree.sinces[0] == 2 && tree.sinces[4] == 2 && tree.spare_sinces[1] == 1 && tree.spare_sinces[4] == 0);
 }
 
 /* Each of the runs, null and empty, in place of one that is long enough. */
 static void empty_runs(void) {
-    for (int run = 0; run <= 12; run++) {
+    for (int run = 0; run <= 14; run++) {
         struct lemboraw_tree t = lent_tree();
         t.times[4] = 7;
-        size_t len[13];
-        for (int i = 0; i < 13; i++) len[i] = i == run ? 0 : i < 10 ? NODES : 1;
+        size_t len[15];
+        for (int i = 0; i < 15; i++) len[i] = i == run ? 0 : i < 12 ? NODES : 1;
 #define RUN(i, pointer) (run == i ? NULL : pointer), len[i]
 #define ALL \
     &t.record, RUN(0, t.kinds), RUN(1, t.ns), RUN(2, t.limits), RUN(3, t.times), RUN(4, t.places), RUN(5, t.marks), \
-    RUN(6, t.spare_times), RUN(7, t.spare_places), RUN(8, t.spare_marks), RUN(9, t.board), true, 1.0, NODES, \
-    RUN(10, statuses), RUN(11, leftovers)
+    RUN(6, t.sinces), RUN(7, t.spare_times), RUN(8, t.spare_places), RUN(9, t.spare_marks), RUN(10, t.spare_sinces), \
+    RUN(11, t.board), true, 1.0, NODES, RUN(12, statuses), RUN(13, leftovers)
         struct lemboraw_said said = lemboraw_tick(ALL);
-        uint8_t must = run < 3 ? LEMBORAW_BAD_TABLE : run < 10 ? LEMBORAW_TOO_SHORT : run < 12 ? LEMBORAW_ASKS : LEMBORAW_DONE;
+        uint8_t must = run < 3 ? LEMBORAW_BAD_TABLE : run < 12 ? LEMBORAW_TOO_SHORT : run < 14 ? LEMBORAW_ASKS : LEMBORAW_DONE;
         CHECK(said.no == must);
         CHECK(t.times[4] == (must == LEMBORAW_DONE ? 8 : 7) && t.record.ticks == (must == LEMBORAW_DONE));
         said = lemboraw_restart(ALL);
@@ -103,8 +107,8 @@ static void empty_runs(void) {
     }
     struct lemboraw_record record = {true, 9};
     struct lemboraw_said said = lemboraw_tick(
-        &record, NULL, 0, NULL, 0, NULL, 0, NULL, 0, NULL, 0, NULL, 0, NULL, 0, NULL, 0, NULL, 0, NULL, 0, true, 1.0, 1,
-        NULL, 0, NULL, 0);
+        &record, NULL, 0, NULL, 0, NULL, 0, NULL, 0, NULL, 0, NULL, 0, NULL, 0, NULL, 0, NULL, 0, NULL, 0, NULL, 0, NULL, 0,
+        true, 1.0, 1, NULL, 0, NULL, 0);
     CHECK(said.no == LEMBORAW_BAD_TABLE && said.extra == 0 && record.finished && record.ticks == 9);
 }
 

@@ -23,6 +23,7 @@ static int run(void) {
     bool as_it_must = first.no == LEMBORAW_DONE && first.status == LEMBORAW_RUNNING && room.board[1] == LEMBORAW_RUNNING;
     struct lemboraw_said second = lemboraw_tree_tick(&tree, true, 3, 3, none);
     as_it_must = as_it_must && second.no == LEMBORAW_DONE && second.status == LEMBORAW_SUCCESS && second.time == 1;
+    as_it_must = as_it_must && lemboraw_tree_age(&tree, 0) == 2 && lemboraw_tree_age(&tree, 2) == 0;
     as_it_must = as_it_must && tree.record.finished && lemboraw_tree_bound(&tree, 1).ticks == 3;
     struct lemboraw_said again = lemboraw_tree_restart(&tree, true, 1, 3, none);
     return as_it_must && again.no == LEMBORAW_DONE && again.status == LEMBORAW_RUNNING ? 0 : 1;

@@ -1,7 +1,8 @@
 /* A sequencing station: take the broadcast, wait for the lane, scan, send the set. After 8 s it gives
  * that up and calls for hand rework, and after 3 s more it gives that up too. Times are milliseconds.
  * Here no action ever ends, which is the worst that can happen: the station finishes all the same, at
- * or before its bound. Then it is restarted for the next set.
+ * or before its bound, and can tell for how long the last branch has stood. Then it is restarted for
+ * the next set.
  *
  *   cc c/station.c -I include -L target/staticlib -llemboraw -o station && ./station
  */
@@ -21,7 +22,7 @@ static const char *const names[] = {"take the broadcast", "scan", "send the set"
  *   Timeout 3000
  *     Action HAND_REWORK
  */
-enum { NODES = 9 };
+enum { NODES = 9, REWORK = 7 };
 static const uint8_t kinds[NODES] = {LEMBORAW_SELECT, LEMBORAW_TIMEOUT, LEMBORAW_SEQUENCE, LEMBORAW_ACTION, LEMBORAW_WAIT,
                                      LEMBORAW_ACTION, LEMBORAW_ACTION, LEMBORAW_TIMEOUT, LEMBORAW_ACTION};
 static const uint16_t ns[NODES] = {2, 1, 4, BROADCAST, 0, SCAN, SEND, 1, HAND_REWORK};
@@ -71,6 +72,7 @@ int main(void) {
     }
     printf("gave up at tick %llu of %llu\n", (unsigned long long)station.record.ticks, (unsigned long long)bound.ticks);
     if (station.record.ticks > bound.ticks) return 1;
+    printf("hand rework was called for %llu ticks ago\n", (unsigned long long)lemboraw_tree_age(&station, REWORK));
 
     /* Until the restart has all its answers, the station stands as it ended. */
     printf("restart: tick %llu\n", (unsigned long long)station.record.ticks + 1);

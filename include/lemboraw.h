@@ -15,7 +15,8 @@
  *   the host's C library, or from the host; nothing else is needed.
  * - Each run of memory is lent as a pointer and a number of elements, and is there for its length.
  *   Where the length is 0 the pointer may be null. The record is always there.
- * - Every pointer is aligned as C aligns its type: 8 bytes for double and the record, 2 for uint16_t.
+ * - Every pointer is aligned as C aligns its type: 8 bytes for double, uint64_t and the record, 2 for
+ *   uint16_t.
  * - Two things lent to one call do not overlap, and nobody else writes to any of them, or reads what
  *   is not const, until the call is back. Cells are changed in place, and put back where the call
  *   then says 7 or 1.
@@ -29,9 +30,9 @@
  *   those of the rules, and with an exception unmasked a tick can end by a signal.
  *   lemboraw_floats_are_usual() looks.
  *
- * Several runs that make up one thing (kinds, ns and limits are the table; times, places and marks
- * the cells; statuses and leftovers the answers) count as long as the shortest of them. Nothing past
- * the table's length is read or written in cells, spare and board.
+ * Several runs that make up one thing (kinds, ns and limits are the table; times, places, marks and
+ * sinces the cells; statuses and leftovers the answers) count as long as the shortest of them. Nothing
+ * past the table's length is read or written in cells, spare and board.
  */
 #ifndef LEMBORAW_H
 #define LEMBORAW_H
@@ -48,7 +49,7 @@ extern "C" {
 #define LEMBORAW_MOST_NODES 256
 #define LEMBORAW_MOST_DEPTH 16
 
-/* More stack than any call takes, in bytes: a tick of a tree 16 deep takes about 6,000. */
+/* More stack than any call takes, in bytes: a tick of a tree 16 deep takes about 6,200. */
 #define LEMBORAW_STACK 8192
 
 /* The kinds of a node, with what the node's number n means. The limit is a time in Wait and
@@ -146,9 +147,13 @@ struct lemboraw_bound_said {
 
 /* One tick: an update by dt (update true) or another event (update false; dt is not looked at).
  *
- * The cells are the tree's state: a time, a place and a mark for each node, all 0 in a new tree.
- * The spare is room of the same shape, whose contents do not matter. Fuel bounds the visits; without
- * loops the number of nodes is always enough.
+ * The cells are the tree's state: a time, a place, a mark and a since for each node, all 0 in a new
+ * tree. The spare is room of the same shape, whose contents do not matter. Fuel bounds the visits;
+ * without loops the number of nodes is always enough.
+ *
+ * A since is the number of the tick that last made the node fresh, where a tick's number is the count
+ * after it: see lemboraw_age. It changes with the other cells, so on 0 alone, and no answer depends on
+ * it: any number is taken.
  *
  * The board gets a byte for each node, for displays: the status of its last visit in this tick. A
  * child that was not visited in it but has ended before shows how, by the cells after the tick:
@@ -170,9 +175,11 @@ struct lemboraw_said lemboraw_tick(
     double *times, size_t times_len,
     uint16_t *places, size_t places_len,
     uint8_t *marks, size_t marks_len,
+    uint64_t *sinces, size_t sinces_len,
     double *spare_times, size_t spare_times_len,
     uint16_t *spare_places, size_t spare_places_len,
     uint8_t *spare_marks, size_t spare_marks_len,
+    uint64_t *spare_sinces, size_t spare_sinces_len,
     uint8_t *board, size_t board_len,
     bool update, double dt, uint32_t fuel,
     const uint8_t *statuses, size_t statuses_len,
@@ -183,7 +190,8 @@ struct lemboraw_said lemboraw_tick(
  * Where it does not end in 0, cells and record are as they were before it, finished included: so a
  * question does not reset a tree that a display shows, and the restart is called again with one more
  * answer, as a tick is. The cells at entry are not checked and may hold anything; the spare gets them
- * as they are on 0, 7 and 1. On 0 the tick count goes up by one, as in any tick. */
+ * as they are on 0, 7 and 1. On 0 the tick count goes up by one, as in any tick, and every since is
+ * this tick's number. */
 struct lemboraw_said lemboraw_restart(
     struct lemboraw_record *record,
     const uint8_t *kinds, size_t kinds_len,
@@ -192,9 +200,11 @@ struct lemboraw_said lemboraw_restart(
     double *times, size_t times_len,
     uint16_t *places, size_t places_len,
     uint8_t *marks, size_t marks_len,
+    uint64_t *sinces, size_t sinces_len,
     double *spare_times, size_t spare_times_len,
     uint16_t *spare_places, size_t spare_places_len,
     uint8_t *spare_marks, size_t spare_marks_len,
+    uint64_t *spare_sinces, size_t spare_sinces_len,
     uint8_t *board, size_t board_len,
     bool update, double dt, uint32_t fuel,
     const uint8_t *statuses, size_t statuses_len,
@@ -215,6 +225,15 @@ struct lemboraw_bound_said lemboraw_bound(
     const uint16_t *ns, size_t ns_len,
     const double *limits, size_t limits_len,
     double step);
+
+/* For how many ticks a branch has stood: the record's tick count less the since of its cell. It wraps
+ * as the count does, so an age is also right where the count has gone from its largest number to 0.
+ *
+ * What makes a branch fresh, and so sets the since of the whole branch: a restart; a Sequence, Select,
+ * While or WhileAll that moves on, for the child it leaves and the one it goes to; an If that is
+ * decided, for its condition and the branch chosen; a memoryless node that is visited, for all its
+ * children; a WhenAll or WhenAny that marks a child, for that child. All else keeps its number. */
+uint64_t lemboraw_age(uint64_t ticks, uint64_t since);
 
 /* The kind with its memory on or off: Sequence and Select have a memoryless form each, and every
  * other kind is its own. */
@@ -239,10 +258,12 @@ struct lemboraw_tree {
     double *times; /* the cells, all 0 in a new tree */
     uint16_t *places;
     uint8_t *marks;
+    uint64_t *sinces;
 
     double *spare_times; /* the spare, whatever is in it */
     uint16_t *spare_places;
     uint8_t *spare_marks;
+    uint64_t *spare_sinces;
 
     uint8_t *board; /* a status for each node, or 0: see lemboraw_tick; left by the last tick carried out */
 };
@@ -250,6 +271,7 @@ struct lemboraw_tree {
 /* What a tree writes to, for the largest tree that there can be. */
 struct lemboraw_room {
     double times[LEMBORAW_MOST_NODES], spare_times[LEMBORAW_MOST_NODES];
+    uint64_t sinces[LEMBORAW_MOST_NODES], spare_sinces[LEMBORAW_MOST_NODES];
     uint16_t places[LEMBORAW_MOST_NODES], spare_places[LEMBORAW_MOST_NODES];
     uint8_t marks[LEMBORAW_MOST_NODES], spare_marks[LEMBORAW_MOST_NODES], board[LEMBORAW_MOST_NODES];
 };
@@ -270,6 +292,7 @@ static inline struct lemboraw_tree lemboraw_tree_new(
         room->times[i] = 0.0;
         room->places[i] = 0;
         room->marks[i] = 0;
+        room->sinces[i] = 0;
         room->board[i] = 0;
     }
     tree.record.finished = false;
@@ -281,9 +304,11 @@ static inline struct lemboraw_tree lemboraw_tree_new(
     tree.times = room->times;
     tree.places = room->places;
     tree.marks = room->marks;
+    tree.sinces = room->sinces;
     tree.spare_times = room->spare_times;
     tree.spare_places = room->spare_places;
     tree.spare_marks = room->spare_marks;
+    tree.spare_sinces = room->spare_sinces;
     tree.board = room->board;
     return tree;
 }
@@ -294,8 +319,8 @@ static inline struct lemboraw_said lemboraw_tree_tick(
     const size_t len = tree->len, room = len < LEMBORAW_MOST_NODES ? len : LEMBORAW_MOST_NODES;
     return lemboraw_tick(
         &tree->record, tree->kinds, len, tree->ns, len, tree->limits, len,
-        tree->times, room, tree->places, room, tree->marks, room,
-        tree->spare_times, room, tree->spare_places, room, tree->spare_marks, room,
+        tree->times, room, tree->places, room, tree->marks, room, tree->sinces, room,
+        tree->spare_times, room, tree->spare_places, room, tree->spare_marks, room, tree->spare_sinces, room,
         tree->board, room, update, dt, fuel,
         answers.statuses, answers.len, answers.leftovers, answers.len);
 }
@@ -306,8 +331,8 @@ static inline struct lemboraw_said lemboraw_tree_restart(
     const size_t len = tree->len, room = len < LEMBORAW_MOST_NODES ? len : LEMBORAW_MOST_NODES;
     return lemboraw_restart(
         &tree->record, tree->kinds, len, tree->ns, len, tree->limits, len,
-        tree->times, room, tree->places, room, tree->marks, room,
-        tree->spare_times, room, tree->spare_places, room, tree->spare_marks, room,
+        tree->times, room, tree->places, room, tree->marks, room, tree->sinces, room,
+        tree->spare_times, room, tree->spare_places, room, tree->spare_marks, room, tree->spare_sinces, room,
         tree->board, room, update, dt, fuel,
         answers.statuses, answers.len, answers.leftovers, answers.len);
 }
@@ -315,6 +340,11 @@ static inline struct lemboraw_said lemboraw_tree_restart(
 /* lemboraw_bound of a tree. */
 static inline struct lemboraw_bound_said lemboraw_tree_bound(const struct lemboraw_tree *tree, double step) {
     return lemboraw_bound(tree->kinds, tree->len, tree->ns, tree->len, tree->limits, tree->len, step);
+}
+
+/* lemboraw_age of the node at a place of the table: 0 to len - 1. */
+static inline uint64_t lemboraw_tree_age(const struct lemboraw_tree *tree, size_t place) {
+    return lemboraw_age(tree->record.ticks, tree->sinces[place]);
 }
 
 #ifdef __cplusplus

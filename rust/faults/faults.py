@@ -56,6 +56,24 @@ FAULTS = [
         "        times[p] = 0.0;\n",
         "",
     ),
+    (
+        "a since is the tick count before the tick",
+        "call/src/lib.rt",
+        "board, n, counted.ticks)",
+        "board, n, record.ticks)",
+    ),
+    (
+        "of a branch made fresh only the root gets a since",
+        "work/src/array.rt",
+        "work[at] = fresh_word(work[at]);",
+        "work[at] = fresh_word(work[at]) - if at == from { 0 } else { 0x2000000 };",
+    ),
+    (
+        "an age does not wrap",
+        "lemboraw/src/lib.rt",
+        "std::num::wrapping_sub_u64(ticks, since)",
+        "ticks.saturating_sub(since)",
+    ),
 ]
 
 HERE = os.path.dirname(os.path.abspath(__file__))

@@ -5,6 +5,10 @@ pub mod num {
         a.wrapping_add(b)
     }
 
+    pub fn wrapping_sub_u64(a: u64, b: u64) -> u64 {
+        a.wrapping_sub(b)
+    }
+
     pub fn truncating_f64_to_u64(x: f64) -> u64 {
         x as u64
     }

@@ -19,12 +19,16 @@ pub unsafe extern "C" fn lemboraw_tick(
     places_len: usize,
     marks: *mut u8,
     marks_len: usize,
+    sinces: *mut u64,
+    sinces_len: usize,
     spare_times: *mut f64,
     spare_times_len: usize,
     spare_places: *mut u16,
     spare_places_len: usize,
     spare_marks: *mut u8,
     spare_marks_len: usize,
+    spare_sinces: *mut u64,
+    spare_sinces_len: usize,
     board: *mut u8,
     board_len: usize,
     update: bool,
@@ -43,9 +47,11 @@ pub unsafe extern "C" fn lemboraw_tick(
         lent_mut(times, times_len),
         lent_mut(places, places_len),
         lent_mut(marks, marks_len),
+        lent_mut(sinces, sinces_len),
         lent_mut(spare_times, spare_times_len),
         lent_mut(spare_places, spare_places_len),
         lent_mut(spare_marks, spare_marks_len),
+        lent_mut(spare_sinces, spare_sinces_len),
         lent_mut(board, board_len),
         update,
         dt,
@@ -70,12 +76,16 @@ pub unsafe extern "C" fn lemboraw_restart(
     places_len: usize,
     marks: *mut u8,
     marks_len: usize,
+    sinces: *mut u64,
+    sinces_len: usize,
     spare_times: *mut f64,
     spare_times_len: usize,
     spare_places: *mut u16,
     spare_places_len: usize,
     spare_marks: *mut u8,
     spare_marks_len: usize,
+    spare_sinces: *mut u64,
+    spare_sinces_len: usize,
     board: *mut u8,
     board_len: usize,
     update: bool,
@@ -94,9 +104,11 @@ pub unsafe extern "C" fn lemboraw_restart(
         lent_mut(times, times_len),
         lent_mut(places, places_len),
         lent_mut(marks, marks_len),
+        lent_mut(sinces, sinces_len),
         lent_mut(spare_times, spare_times_len),
         lent_mut(spare_places, spare_places_len),
         lent_mut(spare_marks, spare_marks_len),
+        lent_mut(spare_sinces, spare_sinces_len),
         lent_mut(board, board_len),
         update,
         dt,
@@ -117,6 +129,11 @@ pub unsafe extern "C" fn lemboraw_bound(
     step: f64,
 ) -> Bound {
     lemboraw::lemboraw_bound(lent(kinds, kinds_len), lent(ns, ns_len), lent(limits, limits_len), step)
+}
+
+#[no_mangle]
+pub extern "C" fn lemboraw_age(ticks: u64, since: u64) -> u64 {
+    lemboraw::lemboraw_age(ticks, since)
 }
 
 #[no_mangle]

@@ -94,14 +94,15 @@ printed-fits out room′ {l} w h same p =
 
 -- ---- the loop over the lines of a part of the input
 -- nothing changed its length
-pub record Alike (kinds ns : List ℕ) (limits times : List Float) (places marks output : List ℕ)
-    (kinds′ ns′ : List ℕ) (limits′ times′ : List Float) (places′ marks′ output′ : List ℕ) : Type 0 where
+pub record Alike (kinds ns : List ℕ) (limits times : List Float) (places marks sinces output : List ℕ)
+    (kinds′ ns′ : List ℕ) (limits′ times′ : List Float) (places′ marks′ sinces′ output′ : List ℕ) : Type 0 where
   pub kinds-alike : length kinds′ ≡ length kinds
   pub ns-alike : length ns′ ≡ length ns
   pub limits-alike : length limits′ ≡ length limits
   pub times-alike : length times′ ≡ length times
   pub places-alike : length places′ ≡ length places
   pub marks-alike : length marks′ ≡ length marks
+  pub sinces-alike : length sinces′ ≡ length sinces
   pub output-alike : length output′ ≡ length output
 
 pub record Scratch (statuses patterns : List ℕ) (leftovers : List Float) : Type 0 where

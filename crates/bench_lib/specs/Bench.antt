@@ -48,7 +48,7 @@ pub record State : Type 0 where
 
 -- cells for every table, all fresh; a board beside them
 unfoldable pub freshRun : Run
-freshRun = run (replicate 257 zeroTime) (replicate 257 0) (replicate 257 0)
+freshRun = run (replicate 257 zeroTime) (replicate 257 0) (replicate 257 0) (replicate 257 0)
 
 unfoldable pub freshBoard : List ℕ
 freshBoard = replicate 257 0

@@ -70,6 +70,7 @@ fn lines(
     times: &mut [f64],
     places: &mut [u16],
     marks: &mut [u8],
+    sinces: &mut [u64],
     output: &mut [u8],
 ) -> Progress
     requires { ⌜ Fits at (now input) ⌝ }
@@ -77,9 +78,9 @@ fn lines(
     requires { ⌜ 4096 ≤ length (now output) ⌝ }
     ensures { λ r. ⌜ Lined
         at (rows (now (kinds .entry)) (now (ns .entry)) (now (limits .entry)))
-        (run (now (times .entry)) (now (places .entry)) (now (marks .entry))) (now (input .entry))
+        (run (now (times .entry)) (now (places .entry)) (now (marks .entry)) (now (sinces .entry))) (now (input .entry))
         r (rows (now (kinds .exit)) (now (ns .exit)) (now (limits .exit)))
-        (run (now (times .exit)) (now (places .exit)) (now (marks .exit))) (now (output .exit)) ⌝ }
+        (run (now (times .exit)) (now (places .exit)) (now (marks .exit)) (now (sinces .exit))) (now (output .exit)) ⌝ }
 {
     let mut statuses = [0u8; ANSWERS];
     let mut patterns = [0u64; ANSWERS];
@@ -106,6 +107,7 @@ fn lines(
             times,
             places,
             marks,
+            sinces,
             &mut statuses,
             &mut patterns,
             &mut leftovers,
@@ -168,6 +170,7 @@ pub fn between(from: i32, to: i32) {
     let mut times = [0.0f64; NODES];
     let mut places = [0u16; NODES];
     let mut marks = [0u8; NODES];
+    let mut sinces = [0u64; NODES];
     let mut at = first();
     // Nothing says that the input ends: so many turns are more than any input needs.
     let mut turns: u64 = 0xffff_ffff_ffff_ffff;
@@ -182,6 +185,7 @@ pub fn between(from: i32, to: i32) {
             &mut times,
             &mut places,
             &mut marks,
+            &mut sinces,
             &mut output,
         );
         flush(to, &output, at.written);

@@ -145,9 +145,11 @@ fn either(
     times: &mut [f64],
     places: &mut [u16],
     marks: &mut [u8],
+    sinces: &mut [u64],
     spare_times: &mut [f64],
     spare_places: &mut [u16],
     spare_marks: &mut [u8],
+    spare_sinces: &mut [u64],
     board: &mut [u8],
     event: rules::Event,
     fuel: u32,
@@ -155,11 +157,11 @@ fn either(
     leftovers: &[f64],
 ) -> Called
     ensures { λ r. ⌜ callOf call (given «record» (now (kinds .entry)) (now (ns .entry)) (now (limits .entry))
-        (run (now (times .entry)) (now (places .entry)) (now (marks .entry)))
-        (run (now («spare_times» .entry)) (now («spare_places» .entry)) (now («spare_marks» .entry))) (now (board .entry))
+        (run (now (times .entry)) (now (places .entry)) (now (marks .entry)) (now (sinces .entry)))
+        (run (now («spare_times» .entry)) (now («spare_places» .entry)) (now («spare_marks» .entry)) (now («spare_sinces» .entry))) (now (board .entry))
         event fuel (now (statuses .entry)) (now (leftovers .entry)))
-        ≡ left (r .answer) (r .record) (run (now (times .exit)) (now (places .exit)) (now (marks .exit)))
-        (run (now («spare_times» .exit)) (now («spare_places» .exit)) (now («spare_marks» .exit))) (now (board .exit)) ⌝ }
+        ≡ left (r .answer) (r .record) (run (now (times .exit)) (now (places .exit)) (now (marks .exit)) (now (sinces .exit)))
+        (run (now («spare_times» .exit)) (now («spare_places» .exit)) (now («spare_marks» .exit)) (now («spare_sinces» .exit))) (now (board .exit)) ⌝ }
 {
     match call {
         Call::Tick => call::tick_value(
@@ -170,9 +172,11 @@ fn either(
             times,
             places,
             marks,
+            sinces,
             spare_times,
             spare_places,
             spare_marks,
+            spare_sinces,
             board,
             event,
             fuel,
@@ -187,9 +191,11 @@ fn either(
             times,
             places,
             marks,
+            sinces,
             spare_times,
             spare_places,
             spare_marks,
+            spare_sinces,
             board,
             event,
             fuel,
@@ -212,6 +218,7 @@ fn serve(
     times: &mut [f64],
     places: &mut [u16],
     marks: &mut [u8],
+    sinces: &mut [u64],
     statuses: &[u8],
     leftovers: &[f64],
 ) -> Called
@@ -220,13 +227,14 @@ fn serve(
     requires { ⌜ count ≤ length (now leftovers) ⌝ }
     ensures { λ r. ⌜ Leaves
         (served (stateOf held (rows (now (kinds .entry)) (now (ns .entry)) (now (limits .entry)))
-        (run (now (times .entry)) (now (places .entry)) (now (marks .entry))))
+        (run (now (times .entry)) (now (places .entry)) (now (marks .entry)) (now (sinces .entry))))
         call event fuel (take count (now (statuses .entry))) (take count (now (leftovers .entry))))
-        (r .answer) (r .record) (run (now (times .exit)) (now (places .exit)) (now (marks .exit))) ⌝ }
+        (r .answer) (r .record) (run (now (times .exit)) (now (places .exit)) (now (marks .exit)) (now (sinces .exit))) ⌝ }
 {
     let mut spare_times = [0.0f64; NODES];
     let mut spare_places = [0u16; NODES];
     let mut spare_marks = [0u8; NODES];
+    let mut spare_sinces = [0u64; NODES];
     let mut board = [0u8; NODES];
     let nodes = held.nodes;
     let record = held.record;
@@ -239,9 +247,11 @@ fn serve(
         times,
         places,
         marks,
+        sinces,
         &mut spare_times,
         &mut spare_places,
         &mut spare_marks,
+        &mut spare_sinces,
         &mut board,
         event_of(event),
         fuel,
@@ -260,6 +270,7 @@ pub fn one(
     times: &mut [f64],
     places: &mut [u16],
     marks: &mut [u8],
+    sinces: &mut [u64],
     statuses: &mut [u8],
     patterns: &mut [u64],
     leftovers: &mut [f64],
@@ -270,10 +281,10 @@ pub fn one(
     requires { ⌜ Rooms (now statuses) (now patterns) (now leftovers) (now room) ⌝ }
     ensures { λ r. ⌜ Steps
         (stateOf held (rows (now (kinds .entry)) (now (ns .entry)) (now (limits .entry)))
-        (run (now (times .entry)) (now (places .entry)) (now (marks .entry))))
+        (run (now (times .entry)) (now (places .entry)) (now (marks .entry)) (now (sinces .entry))))
         (now (line .entry)) (now (room .entry))
         r (rows (now (kinds .exit)) (now (ns .exit)) (now (limits .exit)))
-        (run (now (times .exit)) (now (places .exit)) (now (marks .exit))) (now (room .exit)) ⌝ }
+        (run (now (times .exit)) (now (places .exit)) (now (marks .exit)) (now (sinces .exit))) (now (room .exit)) ⌝ }
 {
     let nodes = held.nodes;
     let begun = held.begun;
@@ -299,6 +310,7 @@ pub fn one(
                 times,
                 places,
                 marks,
+                sinces,
                 statuses,
                 leftovers,
             );

@@ -79,6 +79,9 @@ places-shown t behind = column-shown inCell.placeOf place-kept 0 t behind
 pub marks-shown : (t : Tree) (behind : List ℕ) → column inCell.markOf (shown t) behind ≡ column inCell.markOf t behind
 marks-shown t behind = column-shown inCell.markOf mark-kept 0 t behind
 
+pub sinces-shown : (t : Tree) (behind : List Bool) → column inCell.anewOf (shown t) behind ≡ column inCell.anewOf t behind
+sinces-shown t behind = column-shown inCell.anewOf (λ c b b'. refl) 0 t behind
+
 -- ---- the children alone: each shows what f says of it, if it was not visited
 abbrev top : ℕ → Tree → Tree
 top s (node k n l c b ts) = node k n l c (cond (eqb b 0) s b) ts
@@ -111,19 +114,19 @@ Puts f at = (t : Tree) (pre post : List ℕ) (q : ℕ) → length pre ≡ q → 
 module _ (s : ℕ) (small : s < 4) where
   ended-puts : Puts (λ t. s) (endedAt s)
   unfolding run Fits
-  ended-puts (node k n l c b ts) pre post q h v = rw (seen-pack (sizes ts) k (c .place) (c .mark) b) (go b)
+  ended-puts (node k n l c b ts) pre post q h v = rw (seen-pack (sizes ts) k (c .place) (c .mark) (c .anew) b) (go b)
     where
       word : ℕ → ℕ
-      word b = pack (sizes ts) (code k) (c .place) (c .mark) b
+      word b = pack (sizes ts) (code k) (c .place) (c .mark) (c .anew) b
 
       go : (b : ℕ) → cond (eqb b 0) (set (reverseAux pre (List._∷_ (word b) (runs wordOf ts post))) q (withSeen (word b) s)) (reverseAux pre (List._∷_ (word b) (runs wordOf ts post)))
           ≡ reverseAux pre (List._∷_ (word (cond (eqb b 0) s b)) (runs wordOf ts post))
-      go zero = rw (set-here pre (word 0) (runs wordOf ts post) q h (withSeen (word 0) s), put-seen (sizes ts) k (c .place) (c .mark) 0 s small)
+      go zero = rw (set-here pre (word 0) (runs wordOf ts post) q h (withSeen (word 0) s), put-seen (sizes ts) k (c .place) (c .mark) (c .anew) 0 s small)
       go (suc b) = rw (ne-eqb (suc b) 0 (λ z. omega arith))
 
   marked-puts : Puts (λ t. cond (marked t) s 0) (markedAt s)
   unfolding Fits
-  marked-puts (node k n l c b ts) pre post q h v = rw (mark-pack (sizes ts) k (c .place) (c .mark) b (v .0 .1)) (go (eqb (c .mark) 1))
+  marked-puts (node k n l c b ts) pre post q h v = rw (mark-pack (sizes ts) k (c .place) (c .mark) (c .anew) b (v .0 .1)) (go (eqb (c .mark) 1))
     where
       t : Tree
       t = node k n l c b ts
@@ -135,7 +138,7 @@ module _ (s : ℕ) (small : s < 4) where
 behind-child : (t t' : Tree) (pre post : List ℕ) (q : ℕ) → size t' ≡ size t → length pre ≡ q → q + size t ≤ 256
     → behindOf (wordOf t) q (reverseAux pre (run wordOf t' post)) ≡ q + size t
 unfolding size
-behind-child (node k n l c b ts) t' pre post q same h room = rw (below-pack (sizes ts) k (c .place) (c .mark) b (omega arith), end-in pre post q h t' (omega arith), same) (go (sizes ts))
+behind-child (node k n l c b ts) t' pre post q same h room = rw (below-pack (sizes ts) k (c .place) (c .mark) (c .anew) b (omega arith), end-in pre post q h t' (omega arith), same) (go (sizes ts))
   where
     go : (z : ℕ) → cond (eqb z 0) (q + 1) (q + suc z) ≡ q + suc z
     go zero = refl
@@ -193,13 +196,13 @@ before-place s p ts = go p 0 ts (omega arith)
 module _ (n : ℕ) (l : Float) (c : Cell) (b : ℕ) (ts : Forest) (pre post : List ℕ) (q : ℕ)
     (h : length pre ≡ q) (fit : (c .place ≤ count ts) × (c .mark < 2)) (v : FitsAll ts) (room : q + suc (sizes ts) ≤ 256) where
   abbrev array : Kind → Forest → List ℕ
-  array k us = reverseAux (List._∷_ (pack (sizes ts) (code k) (c .place) (c .mark) b) pre) (runs wordOf us post)
+  array k us = reverseAux (List._∷_ (pack (sizes ts) (code k) (c .place) (c .mark) (c .anew) b) pre) (runs wordOf us post)
 
   children : (k : Kind) (f : Tree → ℕ) (at : ℕ → ℕ → List ℕ → List ℕ) → Puts f at → (many : ℕ) (us : Forest) → firsts f many ts ≡ us
       → eachFrom at (endOf (array k ts) q) many (q + 1) (array k ts) ≡ array k us
   unfolding run size
   children k f at puts many us e = rw (end-in pre post q h (node k n l c b ts) room, ← e)
-      (each-firsts f at puts many ts (List._∷_ (pack (sizes ts) (code k) (c .place) (c .mark) b) pre) post (q + 1) (q + suc (sizes ts)) (omega arith) (omega arith) room v)
+      (each-firsts f at puts many ts (List._∷_ (pack (sizes ts) (code k) (c .place) (c .mark) (c .anew) b) pre) post (q + 1) (q + suc (sizes ts)) (omega arith) (omega arith) room v)
 
   marked-below : (k : Kind) (s : ℕ) → s < 4 → eachFrom (markedAt s) (endOf (array k ts) q) 256 (q + 1) (array k ts) ≡ array k (tops (λ i t. cond (marked t) s 0) 0 ts)
   marked-below k s small = children k (λ t. cond (marked t) s 0) (markedAt s) (marked-puts s small) 256 _ (every (λ t. cond (marked t) s 0) 256 0 ts (omega (arith, count-sizes ts)))
@@ -242,10 +245,10 @@ module _ (n : ℕ) (l : Float) (c : Cell) (b : ℕ) (ts : Forest) (pre post : Li
 
   pub node-ended : (k : Kind) → endedBelow q (array k ts) ≡ array k (tops (shows k (c .place)) 0 ts)
   node-ended k = rw (
-    get-here pre (pack (sizes ts) (code k) (c .place) (c .mark) b) (runs wordOf ts post) q h 0,
-    kind-pack (sizes ts) k (c .place) (c .mark) b,
-    place-pack (sizes ts) k (c .place) (c .mark) b (omega (arith, count-sizes ts, fit .0)),
-    below-pack (sizes ts) k (c .place) (c .mark) b (omega arith),
+    get-here pre (pack (sizes ts) (code k) (c .place) (c .mark) (c .anew) b) (runs wordOf ts post) q h 0,
+    kind-pack (sizes ts) k (c .place) (c .mark) (c .anew) b,
+    place-pack (sizes ts) k (c .place) (c .mark) (c .anew) b (omega (arith, count-sizes ts, fit .0)),
+    below-pack (sizes ts) k (c .place) (c .mark) (c .anew) b (omega arith),
   )
       (by-kind k (sizes ts) refl)
 
@@ -263,8 +266,8 @@ mutual
   tree-ended s (node k n l c b ts) pre post q h v room =
       let b' = cond (eqb b 0) s b in
       ap (λ (ws : List ℕ). endedWords (q + 1) (sizes ts) ws) (node-ended n l c b' ts pre post q h (v .0) (v .1) room k)
-      ∙ forest-ended k (c .place) 0 ts (List._∷_ (pack (sizes ts) (code k) (c .place) (c .mark) b') pre) post (q + 1) (omega arith) (v .1) (omega arith)
-      ∙ ap (λ (z : ℕ). reverseAux pre (List._∷_ (pack z (code k) (c .place) (c .mark) b') (runs wordOf (shownFrom k (c .place) 0 ts) post))) (sym (sizes-shown k (c .place) 0 ts))
+      ∙ forest-ended k (c .place) 0 ts (List._∷_ (pack (sizes ts) (code k) (c .place) (c .mark) (c .anew) b') pre) post (q + 1) (omega arith) (v .1) (omega arith)
+      ∙ ap (λ (z : ℕ). reverseAux pre (List._∷_ (pack z (code k) (c .place) (c .mark) (c .anew) b') (runs wordOf (shownFrom k (c .place) 0 ts) post))) (sym (sizes-shown k (c .place) 0 ts))
 
   forest-ended : (k : Kind) (p i : ℕ) (ts : Forest) (pre post : List ℕ) (q : ℕ) → length pre ≡ q → FitsAll ts → q + sizes ts ≤ 256
       → endedWords q (sizes ts) (reverseAux pre (runs wordOf (tops (shows k p) i ts) post)) ≡ reverseAux pre (runs wordOf (shownFrom k p i ts) post)

@@ -29,13 +29,13 @@ map-drop f (suc n) (List._∷_ x l) = map-drop f n l
 
 module _ {A : Type 0} (f : Cell → ℕ → A) where
   -- what the cells of a run have in the field
-  abbrev read : List Cell → List A
+  abbrev pub read : List Cell → List A
   read cs = map (λ (c : Cell). f c 0) cs
 
   mutual
     unfolding withCells column size
 
-    with-column : (t : Tree) (cs : List Cell) (behind : List A) → size t ≤ length cs → column f (withCells t cs .0) behind ≡ take (size t) (read cs) ++ behind
+    pub with-column : (t : Tree) (cs : List Cell) (behind : List A) → size t ≤ length cs → column f (withCells t cs .0) behind ≡ take (size t) (read cs) ++ behind
     with-column (node k n l c b ts) List.[] behind h = absurd (not-suc-le-zero h)
     with-column (node k n l c b ts) (List._∷_ c' cs) behind h = ap (λ (l : List A). List._∷_ (f c' 0) l) (with-columns ts cs behind (le-of-suc-le-suc h))
 
@@ -46,13 +46,13 @@ module _ {A : Type 0} (f : Cell → ℕ → A) where
         ∙ rw (with-columns ts (withCells t cs .1) behind (rw (with-drop t cs, length-drop) (omega arith)), with-drop t cs, map-drop, take-add, append-assoc)
 
 -- the first n cells of a run that is long enough
-record Cut (n : ℕ) (xs : List Float) (ps ms : List ℕ) : Type 0 where
-  enough : n ≤ length (cells xs ps ms)
-  times : take n (read timeOf (cells xs ps ms)) ≡ take n xs
+pub record Cut (n : ℕ) (xs : List Float) (ps ms : List ℕ) : Type 0 where
+  pub enough : n ≤ length (cells xs ps ms)
+  pub times : take n (read timeOf (cells xs ps ms)) ≡ take n xs
   places : take n (read placeOf (cells xs ps ms)) ≡ take n ps
   marks : take n (read markOf (cells xs ps ms)) ≡ take n ms
 
-cells-run : (n : ℕ) (xs : List Float) (ps ms : List ℕ) → n ≤ length xs → n ≤ length ps → n ≤ length ms → Cut n xs ps ms
+pub cells-run : (n : ℕ) (xs : List Float) (ps ms : List ℕ) → n ≤ length xs → n ≤ length ps → n ≤ length ms → Cut n xs ps ms
 unfolding cells
 cells-run zero xs ps ms a b c = record { enough = omega arith; times = refl; places = refl; marks = refl }
 cells-run (suc n) List.[] ps ms a b c = absurd (not-suc-le-zero a)

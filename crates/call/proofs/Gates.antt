@@ -2,22 +2,21 @@
 use mathlib.Core.Path.{_≡_, refl, sym, _∙_}
 use mathlib.Core.Bool.{Bool, true, false, cond}
 use mathlib.Core.List.{List}
-use Prim.Native.Nat.{ℕ, zero, suc, _≤_, _<_}
+use Prim.Native.Nat.{ℕ, _≤_, _<_}
 use borrow.Author.Tests.{le-leb, lt-leb}
 use lib.Dec.{leb}
 use lib.Ieee.{Float}
-use lib.ListN.{length, take, replicate}
+use lib.ListN.{length}
 use Rattle.rules.specs.declared.answer.Answer.{Answer}
 use Rattle.rules.specs.declared.answer.Answer.the-variants.{BadTable, TooShort, BadCell, BadTime, BadAnswer, Finished}
 use Rattle.rules.specs.declared.event.Event.{Event}
 use Rattle.rules.specs.declared.event.Event.the-variants.{Update}
 use Rattle.rules.specs.Table.{cleaned, number, bad, table}
-use Rattle.rules.specs.Tree.{zeroTime, Tree, size}
-use Rattle.rules.specs.Cells.{cells, Found, faulty, none, badCell}
+use Rattle.rules.specs.Tree.{Tree, fresh, size}
+use Rattle.rules.specs.Cells.{Found, faulty, none, badCell}
 use Rattle.rules.specs.Call.{Given, Left, runLength, badAnswer, cleanedEvent, timeAllowed, refused, walked, onTable, onInputs, atEntry, walkFrom, tickCall, restartCall}
-use Rattle.calls.specs.Memory.{held}
-use Rattle.calls.specs.Tables.{tabled, tabled-fine}
-use Rattle.calls.specs.Fresh.{AllFresh, fresh-held}
+use Rattle.calls.specs.Tables.{tabled, fresh-fine}
+use Rattle.calls.specs.Fresh.{made-fresh}
 use Rattle.calls.specs.Zeros.{withEvent, same-event, same-walk}
 use Rattle.tables.specs.declared.number.Number.{Number}
 use Rattle.tables.specs.declared.number.Number.the-variants as number
@@ -31,7 +30,7 @@ use Rattle.call.specs.declared.gate.Gate.{Gate}
 use Rattle.call.specs.declared.gate.Gate.the-variants.{Refused, Open}
 use Rattle.call.specs.declared.gate.Timed.{Timed as Chosen}
 use Rattle.call.specs.declared.gate.Timed.the-variants as timed
-use Rattle.call.specs.Due.{callOf, startOf, walkWith, Due, timedOf, Passed}
+use Rattle.call.specs.Due.{callOf, begun, walkWith, Due, timedOf, Passed}
 use Rattle.call.proofs.Good.{Good}
 use Rattle.call.proofs.Long.{long}
 
@@ -84,7 +83,7 @@ used-alike false g = same-event false g
 
 -- ---- a tick and a restart: what is due of a table's tree once its memory is found long enough, and what once its cells and its inputs pass
 abbrev endOf : Bool → Given → Tree → Left
-endOf true g t = walked g (atEntry g t) (walkFrom g t)
+endOf true g t = walked g (atEntry g t) (walkFrom g (fresh t))
 endOf false g t = cond (g .record' .finished) (refused g Finished) (walked g (atEntry g t) (walkFrom g (atEntry g t)))
 
 abbrev dueOf : Bool → Given → Tree → Left
@@ -99,9 +98,9 @@ call-is false g = refl
 end-finished : (fresh : Bool) (g : Given) (t : Tree) → fresh ≡ false → g .record' .finished ≡ true → endOf fresh g t ≡ refused g Finished
 end-finished fresh g t e f = rw (e, f)
 
--- the walk starts from the cells at entry, or from zeros
-starts : (fresh : Bool) (g : Given) (n : ℕ) (t : Tree) → held t (startOf true n (g .cells')) ≡ t → (fresh ≡ false → g .record' .finished ≡ false)
-    → endOf fresh g t ≡ walked g (atEntry g t) (walkFrom g (held t (startOf fresh n (g .cells'))))
+-- the walk starts from the cells at entry, or from fresh ones
+starts : (anew : Bool) (g : Given) (n : ℕ) (t : Tree) → begun true n t (g .cells') ≡ fresh t → (anew ≡ false → g .record' .finished ≡ false)
+    → endOf anew g t ≡ walked g (atEntry g t) (walkFrom g (begun anew n t (g .cells')))
 starts true g n t z f = rw z
 starts false g n t z f = rw (f refl)
 
@@ -122,7 +121,7 @@ module _ (fresh : Bool) (g : Given) (ends : List ℕ) (n : ℕ) where
   pub record Held : Type 0 where
     pub fit : Fit g ends n
     pub behind : ℕ
-    pub fine : badCell false false 0 (held (fit .good .tree) (startOf fresh n (g .cells'))) ≡ none behind
+    pub fine : badCell false false 0 (begun fresh n (fit .good .tree) (g .cells')) ≡ none behind
     pub is : callOf fresh g ≡ onInputs g (endOf fresh g (fit .good .tree))
 
   -- u is the event to use
@@ -146,17 +145,9 @@ module _ (fresh : Bool) (g : Given) {ends : List ℕ} {n : ℕ} (t : Good (g .ki
   pub short-board : leb n (runLength (g .cells')) ≡ true → leb n (runLength (g .spare)) ≡ true → length (g .board) < n → callOf fresh g ≡ refused g TooShort
   short-board a b h = call-is fresh g ∙ rw (onTable, t .is, t .sized, a, b, lt-leb n (length (g .board)) h)
 
--- ---- zeros hold the table's tree
-zeros-fresh : (n k : ℕ) → AllFresh (take k (cells (replicate n zeroTime) (replicate n 0) (replicate n 0)))
-unfolding cells
-zeros-fresh zero zero = tt
-zeros-fresh zero (suc k) = tt
-zeros-fresh (suc n) zero = tt
-zeros-fresh (suc n) (suc k) = (refl, zeros-fresh n k)
-
 module _ {g : Given} {ends : List ℕ} {n : ℕ} (t : Fit g ends n) where
-  zeros-held : held (t .good .tree) (startOf true n (g .cells')) ≡ t .good .tree
-  zeros-held = fresh-held (g .kinds) (g .ns) (g .limits) (t .good .tree) (startOf true n (g .cells')) (t .good .is) (zeros-fresh n (size (t .good .tree)))
+  starts-fresh : begun true n (t .good .tree) (g .cells') ≡ fresh (t .good .tree)
+  starts-fresh = rw (t .good .sized) at (made-fresh (t .good .tree) (tabled (g .kinds) (g .ns) (g .limits) (t .good .tree) (t .good .is) .0))
 
   room-found : (fresh : Bool) → callOf fresh g ≡ dueOf fresh g (t .good .tree)
   room-found fresh = call-is fresh g ∙ rw (onTable, t .good .is, t .good .sized, t .cells, t .spare, le-leb n (length (g .board)) (t .board))
@@ -181,10 +172,8 @@ module _ {g : Given} {ends : List ℕ} {n : ℕ} (t : Fit g ends n) where
     fine-cells fresh e h = rw e (let f = said-fine found r says h in record { fit = t; behind = f .0; fine = f .1; is = room-found false ∙ rw (dueOf, f .1) })
 
   -- cells that are not looked at
-  pub fresh-cells : (fresh : Bool) → fresh ≡ true → Held fresh g ends n
-  fresh-cells fresh e =
-      let f = tabled-fine (t .good .tree) (tabled (g .kinds) (g .ns) (g .limits) (t .good .tree) (t .good .is) .0) false 0 in
-      rw e (record { fit = t; behind = f .0; fine = rw zeros-held (f .1); is = room-found true })
+  pub fresh-cells : (anew : Bool) → anew ≡ true → Held anew g ends n
+  fresh-cells anew e = let f = fresh-fine (t .good .tree) false 0 in rw e (record { fit = t; behind = f .0; fine = rw starts-fresh (f .1); is = room-found true })
 
 module _ {fresh : Bool} {g : Given} {ends : List ℕ} {n : ℕ} where
   -- ---- 5
@@ -220,10 +209,10 @@ module _ {fresh : Bool} {g : Given} {ends : List ℕ} {n : ℕ} where
     clean = withEvent (cleanedEvent (g .event)) g
 
     walks : (fresh ≡ false → g .record' .finished ≡ false)
-        → callOf fresh clean ≡ walked clean (atEntry g the-tree) (walkWith clean (held the-tree (startOf fresh n (g .cells'))))
+        → callOf fresh clean ≡ walked clean (atEntry g the-tree) (walkWith clean (begun fresh n the-tree (g .cells')))
     walks f =
-        used-alike fresh g ∙ passes ∙ starts fresh g n the-tree (zeros-held (t .timed .held .fit)) f
-        ∙ sym (same-walk g (cleanedEvent (g .event)) (atEntry g the-tree) (walkFrom g (held the-tree (startOf fresh n (g .cells')))))
+        used-alike fresh g ∙ passes ∙ starts fresh g n the-tree (starts-fresh (t .timed .held .fit)) f
+        ∙ sym (same-walk g (cleanedEvent (g .event)) (atEntry g the-tree) (walkFrom g (begun fresh n the-tree (g .cells'))))
 
     due-clean : (fresh ≡ false → g .record' .finished ≡ false) → Due fresh clean ends n
     due-clean f =

@@ -6,12 +6,12 @@ use Prim.Native.Nat.{ℕ, _≤_}
 use lib.Ieee.{binary64}
 use lib.ListN.{length, replicate}
 use Rattle.rules.specs.declared.event.Event.{Event}
-use Rattle.rules.specs.Tree.{zeroTime, Tree, size, depth}
+use Rattle.rules.specs.Tree.{Cell, freshCell, Tree, size, depth}
 use Rattle.rules.specs.Outcome.{world, Out}
 use Rattle.rules.specs.State.{tick}
 use Rattle.rules.specs.Table.{mostDeep, good, table}
-use Rattle.rules.specs.Cells.{none, badCell}
-use Rattle.rules.specs.Call.{Run, run, Given, Left, answers, cleanedEvent, timeAllowed, refused, walked, tickCall, restartCall}
+use Rattle.rules.specs.Cells.{cells, withCells, none, badCell}
+use Rattle.rules.specs.Call.{Run, Given, Left, answers, cleanedEvent, timeAllowed, refused, walked, tickCall, restartCall}
 use Rattle.calls.specs.Memory.{held}
 use Rattle.calls.specs.Zeros.{withEvent}
 use Rattle.tables.specs.At.{At}
@@ -26,10 +26,13 @@ unfolding tickCall restartCall
 callOf true g = restartCall g
 callOf false g = tickCall g
 
--- the n cells that a walk starts from: zeros, or those at entry
-abbrev pub startOf : Bool → ℕ → Run → Run
-startOf true n c = run (replicate n zeroTime) (replicate n 0) (replicate n 0)
-startOf false n c = c
+-- the cells that a walk starts from: n fresh ones, or those at entry; and the tree that it starts from
+abbrev pub startOf : Bool → ℕ → Run → List Cell
+startOf true n c = replicate n freshCell
+startOf false n c = cells (c .times) (c .places) (c .marks)
+
+abbrev pub begun : Bool → ℕ → Tree → Run → Tree
+begun fresh n t c = withCells t (startOf fresh n c) .0
 
 -- the walk that starts from the tree t, with the event as it is
 abbrev pub walkWith : Given → Tree → Out Tree
@@ -46,11 +49,11 @@ pub record Due (fresh : Bool) (g : Given) (ends : List ℕ) (n : ℕ) : Type 0 w
   pub ends-long : length ends ≡ 256
   pub in-kinds : n ≤ length (g .kinds)
   pub behind : ℕ
-  pub fine : badCell false false 0 (held tree (startOf fresh n (g .cells'))) ≡ none behind
+  pub fine : badCell false false 0 (begun fresh n tree (g .cells')) ≡ none behind
   pub cells-long : Long n (g .cells')
   pub spare-long : Long n (g .spare)
   pub board-long : n ≤ length (g .board)
-  pub walks : callOf fresh g ≡ walked g (held tree (g .cells')) (walkWith g (held tree (startOf fresh n (g .cells'))))
+  pub walks : callOf fresh g ≡ walked g (held tree (g .cells')) (walkWith g (begun fresh n tree (g .cells')))
 
 -- the event to use
 abbrev pub timedOf : Event → Timed

@@ -12,6 +12,7 @@ pub record Long (n : ℕ) (r : Run) : Type 0 where
   pub times : n ≤ length (r .times)
   pub places : n ≤ length (r .places)
   pub marks : n ≤ length (r .marks)
+  pub sinces : n ≤ length (r .sinces)
 
 abbrev pub ontoCells : ℕ → Run → Run → Run
-ontoCells n r s = run (onto n (r .times) (s .times)) (onto n (r .places) (s .places)) (onto n (r .marks) (s .marks))
+ontoCells n r s = run (onto n (r .times) (s .times)) (onto n (r .places) (s .places)) (onto n (r .marks) (s .marks)) (onto n (r .sinces) (s .sinces))

@@ -30,8 +30,8 @@ enum Timed {
 }
 
 // Whether a run has n cells or more.
-fn long_enough(times: &[f64], places: &[u16], marks: &[u8], n: usize) -> bool
-    ensures { λ r. ⌜ r ≡ leb n (runLength (run (now (times .entry)) (now (places .entry)) (now (marks .entry)))) ⌝ }
+fn long_enough(times: &[f64], places: &[u16], marks: &[u8], sinces: &[u64], n: usize) -> bool
+    ensures { λ r. ⌜ r ≡ leb n (runLength (run (now (times .entry)) (now (places .entry)) (now (marks .entry)) (now (sinces .entry)))) ⌝ }
 {
     if times.len() < n {
         return false;
@@ -39,7 +39,10 @@ fn long_enough(times: &[f64], places: &[u16], marks: &[u8], n: usize) -> bool
     if places.len() < n {
         return false;
     }
-    n <= marks.len()
+    if marks.len() < n {
+        return false;
+    }
+    n <= sinces.len()
 }
 
 fn event_of(event: Event) -> Timed
@@ -64,9 +67,11 @@ pub fn checks(
     times: &[f64],
     places: &[u16],
     marks: &[u8],
+    sinces: &[u64],
     spare_times: &[f64],
     spare_places: &[u16],
     spare_marks: &[u8],
+    spare_sinces: &[u64],
     board: &[u8],
     event: Event,
     statuses: &[u8],
@@ -76,18 +81,18 @@ pub fn checks(
     requires { ⌜ length (now ends) ≡ 256 ⌝ }
     ensures { λ r. ⌜
         ((fuel : ℕ) → Passed fresh (given «record» (now (kinds .entry)) (now (ns .entry)) (now (limits .entry))
-        (run (now (times .entry)) (now (places .entry)) (now (marks .entry)))
-        (run (now («spare_times» .entry)) (now («spare_places» .entry)) (now («spare_marks» .entry))) (now (board .entry)) event fuel (now (statuses .entry))
+        (run (now (times .entry)) (now (places .entry)) (now (marks .entry)) (now (sinces .entry)))
+        (run (now («spare_times» .entry)) (now («spare_places» .entry)) (now («spare_marks» .entry)) (now («spare_sinces» .entry))) (now (board .entry)) event fuel (now (statuses .entry))
         (now (leftovers .entry))) (now (ends .exit)) r)
         ⌝ }
 {
     match check_table(kinds, ns, limits, ends) {
         Checked::Bad(p) => Gate::Refused(Answer::BadTable(p)),
         Checked::Good(n) => {
-            if !long_enough(times, places, marks, n) {
+            if !long_enough(times, places, marks, sinces, n) {
                 return Gate::Refused(Answer::TooShort);
             }
-            if !long_enough(spare_times, spare_places, spare_marks, n) {
+            if !long_enough(spare_times, spare_places, spare_marks, spare_sinces, n) {
                 return Gate::Refused(Answer::TooShort);
             }
             if board.len() < n {

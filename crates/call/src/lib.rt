@@ -44,9 +44,11 @@ fn carry_out(
     times: &mut [f64],
     places: &mut [u16],
     marks: &mut [u8],
+    sinces: &mut [u64],
     spare_times: &mut [f64],
     spare_places: &mut [u16],
     spare_marks: &mut [u8],
+    spare_sinces: &mut [u64],
     board: &mut [u8],
     event: Event,
     fuel: u32,
@@ -56,23 +58,25 @@ fn carry_out(
     fresh: bool,
 ) -> Called
     requires { ⌜
-        Due fresh (given «record» (now kinds) (now ns) (now limits) (run (now times) (now places) (now marks))
-        (run (now «spare_times») (now «spare_places») (now «spare_marks»)) (now board) event fuel (now statuses) (now leftovers)) (now ends) n
+        Due fresh (given «record» (now kinds) (now ns) (now limits) (run (now times) (now places) (now marks) (now sinces))
+        (run (now «spare_times») (now «spare_places») (now «spare_marks») (now «spare_sinces»)) (now board) event fuel (now statuses) (now leftovers)) (now ends) n
         ⌝ }
     ensures { λ r. ⌜
-        callOf fresh (given «record» (now (kinds .entry)) (now (ns .entry)) (now (limits .entry)) (run (now (times .entry)) (now (places .entry)) (now (marks .entry)))
-        (run (now («spare_times» .entry)) (now («spare_places» .entry)) (now («spare_marks» .entry))) (now (board .entry)) event fuel (now (statuses .entry))
-        (now (leftovers .entry))) ≡ left (r .answer) (r .record) (run (now (times .exit)) (now (places .exit)) (now (marks .exit))) (run (now («spare_times» .exit))
-        (now («spare_places» .exit)) (now («spare_marks» .exit))) (now (board .exit))
+        callOf fresh (given «record» (now (kinds .entry)) (now (ns .entry)) (now (limits .entry)) (run (now (times .entry)) (now (places .entry)) (now (marks .entry)) (now (sinces .entry)))
+        (run (now («spare_times» .entry)) (now («spare_places» .entry)) (now («spare_marks» .entry)) (now («spare_sinces» .entry))) (now (board .entry)) event fuel (now (statuses .entry))
+        (now (leftovers .entry))) ≡ left (r .answer) (r .record) (run (now (times .exit)) (now (places .exit)) (now (marks .exit)) (now (sinces .exit))) (run (now («spare_times» .exit))
+        (now («spare_places» .exit)) (now («spare_marks» .exit)) (now («spare_sinces» .exit))) (now (board .exit))
         ⌝ }
 {
     copy_cells(
         times,
         places,
         marks,
+        sinces,
         spare_times,
         spare_places,
         spare_marks,
+        spare_sinces,
         n,
     );
     let mut work = [0u32; 260];
@@ -100,10 +104,11 @@ fn carry_out(
         };
     }
     show_ended(&mut work, n);
-    put_back(&work, places, marks, board, n);
+    let counted = counted(record, result);
+    put_back(&work, places, marks, sinces, board, n, counted.ticks);
     Called {
         answer: told_done(&work, result, fuel, lent(statuses, leftovers)),
-        record: counted(record, result),
+        record: counted,
     }
 }
 
@@ -116,9 +121,11 @@ fn value(
     times: &mut [f64],
     places: &mut [u16],
     marks: &mut [u8],
+    sinces: &mut [u64],
     spare_times: &mut [f64],
     spare_places: &mut [u16],
     spare_marks: &mut [u8],
+    spare_sinces: &mut [u64],
     board: &mut [u8],
     event: Event,
     fuel: u32,
@@ -127,10 +134,10 @@ fn value(
     fresh: bool,
 ) -> Called
     ensures { λ r. ⌜
-        callOf fresh (given «record» (now (kinds .entry)) (now (ns .entry)) (now (limits .entry)) (run (now (times .entry)) (now (places .entry)) (now (marks .entry)))
-        (run (now («spare_times» .entry)) (now («spare_places» .entry)) (now («spare_marks» .entry))) (now (board .entry)) event fuel (now (statuses .entry))
-        (now (leftovers .entry))) ≡ left (r .answer) (r .record) (run (now (times .exit)) (now (places .exit)) (now (marks .exit))) (run (now («spare_times» .exit))
-        (now («spare_places» .exit)) (now («spare_marks» .exit))) (now (board .exit))
+        callOf fresh (given «record» (now (kinds .entry)) (now (ns .entry)) (now (limits .entry)) (run (now (times .entry)) (now (places .entry)) (now (marks .entry)) (now (sinces .entry)))
+        (run (now («spare_times» .entry)) (now («spare_places» .entry)) (now («spare_marks» .entry)) (now («spare_sinces» .entry))) (now (board .entry)) event fuel (now (statuses .entry))
+        (now (leftovers .entry))) ≡ left (r .answer) (r .record) (run (now (times .exit)) (now (places .exit)) (now (marks .exit)) (now (sinces .exit))) (run (now («spare_times» .exit))
+        (now («spare_places» .exit)) (now («spare_marks» .exit)) (now («spare_sinces» .exit))) (now (board .exit))
         ⌝ }
 {
     let mut ends = [0u16; 256];
@@ -143,9 +150,11 @@ fn value(
         times,
         places,
         marks,
+        sinces,
         spare_times,
         spare_places,
         spare_marks,
+        spare_sinces,
         board,
         event,
         statuses,
@@ -162,9 +171,11 @@ fn value(
             times,
             places,
             marks,
+            sinces,
             spare_times,
             spare_places,
             spare_marks,
+            spare_sinces,
             board,
             used,
             fuel,
@@ -185,9 +196,11 @@ pub fn tick_value(
     times: &mut [f64],
     places: &mut [u16],
     marks: &mut [u8],
+    sinces: &mut [u64],
     spare_times: &mut [f64],
     spare_places: &mut [u16],
     spare_marks: &mut [u8],
+    spare_sinces: &mut [u64],
     board: &mut [u8],
     event: Event,
     fuel: u32,
@@ -195,10 +208,10 @@ pub fn tick_value(
     leftovers: &[f64],
 ) -> Called
     ensures { λ r. ⌜
-        tickCall (given «record» (now (kinds .entry)) (now (ns .entry)) (now (limits .entry)) (run (now (times .entry)) (now (places .entry)) (now (marks .entry)))
-        (run (now («spare_times» .entry)) (now («spare_places» .entry)) (now («spare_marks» .entry))) (now (board .entry)) event fuel (now (statuses .entry))
-        (now (leftovers .entry))) ≡ left (r .answer) (r .record) (run (now (times .exit)) (now (places .exit)) (now (marks .exit))) (run (now («spare_times» .exit))
-        (now («spare_places» .exit)) (now («spare_marks» .exit))) (now (board .exit))
+        tickCall (given «record» (now (kinds .entry)) (now (ns .entry)) (now (limits .entry)) (run (now (times .entry)) (now (places .entry)) (now (marks .entry)) (now (sinces .entry)))
+        (run (now («spare_times» .entry)) (now («spare_places» .entry)) (now («spare_marks» .entry)) (now («spare_sinces» .entry))) (now (board .entry)) event fuel (now (statuses .entry))
+        (now (leftovers .entry))) ≡ left (r .answer) (r .record) (run (now (times .exit)) (now (places .exit)) (now (marks .exit)) (now (sinces .exit))) (run (now («spare_times» .exit))
+        (now («spare_places» .exit)) (now («spare_marks» .exit)) (now («spare_sinces» .exit))) (now (board .exit))
         ⌝ }
 {
     value(
@@ -209,9 +222,11 @@ pub fn tick_value(
         times,
         places,
         marks,
+        sinces,
         spare_times,
         spare_places,
         spare_marks,
+        spare_sinces,
         board,
         event,
         fuel,
@@ -230,9 +245,11 @@ pub fn restart_value(
     times: &mut [f64],
     places: &mut [u16],
     marks: &mut [u8],
+    sinces: &mut [u64],
     spare_times: &mut [f64],
     spare_places: &mut [u16],
     spare_marks: &mut [u8],
+    spare_sinces: &mut [u64],
     board: &mut [u8],
     event: Event,
     fuel: u32,
@@ -240,10 +257,10 @@ pub fn restart_value(
     leftovers: &[f64],
 ) -> Called
     ensures { λ r. ⌜
-        restartCall (given «record» (now (kinds .entry)) (now (ns .entry)) (now (limits .entry)) (run (now (times .entry)) (now (places .entry)) (now (marks .entry)))
-        (run (now («spare_times» .entry)) (now («spare_places» .entry)) (now («spare_marks» .entry))) (now (board .entry)) event fuel (now (statuses .entry))
-        (now (leftovers .entry))) ≡ left (r .answer) (r .record) (run (now (times .exit)) (now (places .exit)) (now (marks .exit))) (run (now («spare_times» .exit))
-        (now («spare_places» .exit)) (now («spare_marks» .exit))) (now (board .exit))
+        restartCall (given «record» (now (kinds .entry)) (now (ns .entry)) (now (limits .entry)) (run (now (times .entry)) (now (places .entry)) (now (marks .entry)) (now (sinces .entry)))
+        (run (now («spare_times» .entry)) (now («spare_places» .entry)) (now («spare_marks» .entry)) (now («spare_sinces» .entry))) (now (board .entry)) event fuel (now (statuses .entry))
+        (now (leftovers .entry))) ≡ left (r .answer) (r .record) (run (now (times .exit)) (now (places .exit)) (now (marks .exit)) (now (sinces .exit))) (run (now («spare_times» .exit))
+        (now («spare_places» .exit)) (now («spare_marks» .exit)) (now («spare_sinces» .exit))) (now (board .exit))
         ⌝ }
 {
     value(
@@ -254,9 +271,11 @@ pub fn restart_value(
         times,
         places,
         marks,
+        sinces,
         spare_times,
         spare_places,
         spare_marks,
+        spare_sinces,
         board,
         event,
         fuel,

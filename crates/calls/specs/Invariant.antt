@@ -9,9 +9,9 @@ use lib.Dec.{T}
 use lib.Ieee.{Float}
 use Rattle.rules.specs.declared.status.Status.{Status}
 use Rattle.rules.specs.declared.status.Status.the-variants.{Running, Success, Failure}
-use Rattle.rules.specs.Tree.{Tree}
+use Rattle.rules.specs.Tree.{Tree, fresh}
 use Rattle.rules.specs.Outcome.{World, world, Out, done, asks, short}
-use Rattle.rules.specs.Call.{Run, Given, Left, counted, ontoRun, walked, walkFrom, restartCall}
+use Rattle.rules.specs.Call.{Run, Given, Left, counted, ontoRun, sinceIn, walked, walkFrom, restartCall}
 use Rattle.calls.specs.Shape.{shape}
 use Rattle.calls.specs.Memory.{clear, held, held-onto}
 use Rattle.calls.specs.View.{Call, restarts, leftBy, heldBy, startOf, walk, Walked, not-walked, View, walking, refusing, view}
@@ -47,11 +47,11 @@ module _ (Ok : Standing → Call → ℕ → Type 0) where
     abbrev pub Steps : Type 0
     Steps = (st : Standing) (a : Call) (t' : Tree) (k : ℕ) (o : Out Tree) → walkFrom (a .given') t' ≡ o → P t' k → OfTicked (walked (a .given') t' o .answer) (Ok st a) → After t P E k o
 
-    module _ (takes : (st : Standing) (a : Call) (u : ℕ) → Ok st a u → TakesUp t st a) (step : Steps) (start : P t 0) where
+    module _ (takes : (st : Standing) (a : Call) (u : ℕ) → Ok st a u → TakesUp t st a) (step : Steps) (start : P (fresh t) 0) where
       stood : (k : ℕ) (g : Given) (s : Status) (r : Float) (t' : Tree) (w : World) → After t P E k (done s r t' w)
-          → Keeps t P E (stands (counted s (g .record')) (ontoRun t' (g .cells')) (suc k))
+          → Keeps t P E (stands (counted s (g .record')) (ontoRun (sinceIn g s t') t' (g .cells')) (suc k))
       unfolding counted
-      stood k g Running r t' w h = rw (held-onto t t' (g .cells') (h .0)) (h .1)
+      stood k g Running r t' w h = rw (held-onto (sinceIn g Running t') t t' (g .cells') (h .0)) (h .1)
       stood k g Success r t' w h = h
       stood k g Failure r t' w h = h
 

@@ -8,3 +8,4 @@ pub mod History
 pub mod Fresh
 pub mod Invariant
 pub mod Zeros
+pub mod Sinces

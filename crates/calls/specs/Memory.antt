@@ -8,15 +8,18 @@ use lib.ListN.{take, drop}
 use lib.Seq.{take-nil}
 use lib.Ieee.{Float}
 use Rattle.rules.specs.Tree.{Cell, Tree, node, Forest, [], _∷_, size, sizes, marked}
-use Rattle.rules.specs.Cells.{cells, withCells, withCellsAll, column, columns, timeOf, placeOf, markOf}
+use Rattle.rules.specs.Cells.{cellOf, cells, withCells, withCellsAll, column, columns, timeOf, placeOf, markOf}
 use Rattle.rules.specs.Call.{Run, ontoRun}
 use Rattle.calls.specs.Shape.{Shape, shp, Shapes, shape, shapes}
 use Rattle.calls.specs.Shape
 
--- a tree with its board cleared
+-- a cell as it is lent, and a tree between two ticks: its board is cleared, and no tick has made it fresh
+abbrev lentCell : Cell → ℕ → Cell
+lentCell c b = cellOf (c .time) (c .place) (c .mark)
+
 unfoldable mutual
   pub clear : Tree → Tree
-  clear (node k n l c b ts) = node k n l c 0 (clearAll ts)
+  clear (node k n l c b ts) = node k n l (lentCell c b) 0 (clearAll ts)
 
   pub clearAll : Forest → Forest
   clearAll [] = []
@@ -41,18 +44,15 @@ abbrev pub held : Tree → Run → Tree
 held t r = withCells t (cells (r .times) (r .places) (r .marks)) .0
 
 -- ---- the cells as one column
-abbrev cellOf : Cell → ℕ → Cell
-cellOf c b = c
-
 mutual
   unfolding cells column
 
-  one-column : (t : Tree) (xs : List Float) (ps ms : List ℕ) → cells (column timeOf t xs) (column placeOf t ps) (column markOf t ms) ≡ column cellOf t (cells xs ps ms)
-  one-column (node k n l c b ts) xs ps ms = ap (λ (z : List Cell). List._∷_ c z) (one-columns ts xs ps ms)
+  one-column : (t : Tree) (xs : List Float) (ps ms : List ℕ) → cells (column timeOf t xs) (column placeOf t ps) (column markOf t ms) ≡ column lentCell t (cells xs ps ms)
+  one-column (node k n l c b ts) xs ps ms = ap (λ (z : List Cell). List._∷_ (lentCell c b) z) (one-columns ts xs ps ms)
 
-  one-columns : (ts : Forest) (xs : List Float) (ps ms : List ℕ) → cells (columns timeOf ts xs) (columns placeOf ts ps) (columns markOf ts ms) ≡ columns cellOf ts (cells xs ps ms)
+  one-columns : (ts : Forest) (xs : List Float) (ps ms : List ℕ) → cells (columns timeOf ts xs) (columns placeOf ts ps) (columns markOf ts ms) ≡ columns lentCell ts (cells xs ps ms)
   one-columns [] xs ps ms = refl
-  one-columns (t ∷ ts) xs ps ms = one-column t (columns timeOf ts xs) (columns placeOf ts ps) (columns markOf ts ms) ∙ ap (λ (z : List Cell). column cellOf t z) (one-columns ts xs ps ms)
+  one-columns (t ∷ ts) xs ps ms = one-column t (columns timeOf ts xs) (columns placeOf ts ps) (columns markOf ts ms) ∙ ap (λ (z : List Cell). column lentCell t z) (one-columns ts xs ps ms)
 
 -- ---- a tree of that shape
 abbrev mutual
@@ -76,19 +76,19 @@ mutual
 mutual
   unfolding withCells column clear
 
-  read-back : (t u : Tree) (behind : List Cell) → Of t (shape u) → withCells t (column cellOf u behind) ≡ (clear u, behind)
+  read-back : (t u : Tree) (behind : List Cell) → Of t (shape u) → withCells t (column lentCell u behind) ≡ (clear u, behind)
   read-back (node k n l c b ts) (node k' n' l' c' b' us) behind o = rw (o .0, o .1, o .2, reads-back ts us behind (o .3))
 
-  reads-back : (ts us : Forest) (behind : List Cell) → Ofs ts (shapes us) → withCellsAll ts (columns cellOf us behind) ≡ (clearAll us, behind)
+  reads-back : (ts us : Forest) (behind : List Cell) → Ofs ts (shapes us) → withCellsAll ts (columns lentCell us behind) ≡ (clearAll us, behind)
   reads-back [] [] behind o = refl
   reads-back [] (u ∷ us) behind o = absurd o
   reads-back (t ∷ ts) [] behind o = absurd o
-  reads-back (t ∷ ts) (u ∷ us) behind o = rw (read-back t u (columns cellOf us behind) (o .0), reads-back ts us behind (o .1))
+  reads-back (t ∷ ts) (u ∷ us) behind o = rw (read-back t u (columns lentCell us behind) (o .0), reads-back ts us behind (o .1))
 
--- what was written is found again, with the board cleared
-pub held-onto : (t u : Tree) (r : Run) → shape u ≡ shape t → held t (ontoRun u r) ≡ clear u
+-- what was written is found again, as it is between two ticks
+pub held-onto : (since : List ℕ) (t u : Tree) (r : Run) → shape u ≡ shape t → held t (ontoRun since u r) ≡ clear u
 unfolding ontoRun
-held-onto t u r e =
+held-onto since t u r e =
     let xs = drop (size u) (r .times) in
     let ps = drop (size u) (r .places) in
     let ms = drop (size u) (r .marks) in
@@ -98,7 +98,7 @@ held-onto t u r e =
 mutual
   unfolding withCells
 
-  with-shape : (t : Tree) (cs : List Cell) → shape (withCells t cs .0) ≡ shape t
+  pub with-shape : (t : Tree) (cs : List Cell) → shape (withCells t cs .0) ≡ shape t
   with-shape (node k n l c b ts) List.[] = refl
   with-shape (node k n l c b ts) (List._∷_ c' cs) = ap (λ (z : Shapes). shp k n l z) (with-shapes ts cs)
 

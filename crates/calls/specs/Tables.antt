@@ -1,4 +1,4 @@
--- The tree of a table that was read: the children that each kind allows, fresh cells, a clear board, at most 16 deep.
+-- The tree of a table that was read: the children that each kind allows, the cells of a new tree, a clear board, at most 16 deep.
 use mathlib.Core.Path.{_≡_, refl, sym, ap, _∙_}
 use mathlib.Core.Bool.{Bool, true, false, cond, _&&_}
 use mathlib.Core.List.{List}
@@ -10,7 +10,7 @@ use lib.Dec.{T, leb, ltb, leb→le}
 use lib.Ieee.{Float}
 use lib.Ieee.Fits.{and-l, and-r}
 use Rattle.rules.specs.Kinds.{kindOf, children, fewest, most, timed, marksChildren}
-use Rattle.rules.specs.Tree.{freshCell, Tree, node, Forest, [], _∷_, fresh, freshAll, depth, depths, count}
+use Rattle.rules.specs.Tree.{freshCell, newCell, Tree, node, Forest, [], _∷_, fresh, freshAll, depth, depths, count}
 use Rattle.rules.specs.Table.{mostNodes, mostDeep, Row, row, rows, countAllowed, limitAllowed, rowAllowed, Read, got, fault, _andThen_, readChildren, readTree, Table, good, bad, whole, table}
 use Rattle.rules.specs.Cells.{lastPlace, cellAllowed, Found, faulty, none, badCell, badCells}
 use Rattle.calls.specs.Memory.{clear, clearAll}
@@ -18,7 +18,7 @@ use Rattle.rules.specs.declared.behavior.Kind.{Kind}
 
 abbrev mutual
   pub Tabled : Tree → Type 0
-  Tabled (node k n l c b ts) = T (countAllowed k n) × (children k n ≡ count ts) × T (limitAllowed k l) × (c ≡ freshCell) × (b ≡ 0) × Tableds ts
+  Tabled (node k n l c b ts) = T (countAllowed k n) × (children k n ≡ count ts) × T (limitAllowed k l) × (c ≡ newCell) × (b ≡ 0) × Tableds ts
 
   pub Tableds : Forest → Type 0
   Tableds [] = Unit {0}
@@ -86,28 +86,18 @@ tabled kinds ns limits t e = rw e at (table-read kinds ns limits)
 pub at-least : (k : Kind) (n c : ℕ) → T (countAllowed k n) → children k n ≡ c → fewest k ≤ c
 at-least k n c a e = rw (← e) (leb→le (fewest k) (children k n) (and-l (leb (fewest k) (children k n)) (leb (children k n) (most k)) a))
 
--- ---- its cells are fresh and its board is clear
+-- ---- between two ticks, it is what it becomes when it is made fresh
 mutual
-  unfolding fresh
+  unfolding fresh clear
 
-  pub tabled-fresh : (t : Tree) → Tabled t → fresh t ≡ t
-  tabled-fresh (node k n l c b ts) h = λ i. node k n l (sym (h .3) i) b (tableds-fresh ts (h .5) i)
+  pub tabled-fresh : (t : Tree) → Tabled t → clear (fresh t) ≡ t
+  tabled-fresh (node k n l c b ts) h = λ i. node k n l (sym (h .3) i) (sym (h .4) i) (tableds-fresh ts (h .5) i)
 
-  tableds-fresh : (ts : Forest) → Tableds ts → freshAll ts ≡ ts
+  tableds-fresh : (ts : Forest) → Tableds ts → clearAll (freshAll ts) ≡ ts
   tableds-fresh [] h = refl
   tableds-fresh (t ∷ ts) h = λ i. tabled-fresh t (h .0) i ∷ tableds-fresh ts (h .1) i
 
-mutual
-  unfolding clear
-
-  pub tabled-clear : (t : Tree) → Tabled t → clear t ≡ t
-  tabled-clear (node k n l c b ts) h = λ i. node k n l c (sym (h .4) i) (tableds-clear ts (h .5) i)
-
-  tableds-clear : (ts : Forest) → Tableds ts → clearAll ts ≡ ts
-  tableds-clear [] h = refl
-  tableds-clear (t ∷ ts) h = λ i. tabled-clear t (h .0) i ∷ tableds-clear ts (h .1) i
-
--- and so none of its cells is bad
+-- ---- no cell of a tree made fresh is bad
 fresh-allowed : (mayEnd : Bool) (k : Kind) (n : ℕ) → cellAllowed false mayEnd k n freshCell ≡ true
 unfolding cellAllowed
 fresh-allowed mayEnd k n = on (timed k) (lastPlace k n)
@@ -120,16 +110,16 @@ fine-then : (o : Found) (at : ℕ) (rest : ℕ → Found) → o ≡ none at → 
 fine-then o at rest e h = rw e h
 
 mutual
-  unfolding badCell
+  unfolding badCell fresh
 
-  pub tabled-fine : (t : Tree) → Tabled t → (mayEnd : Bool) (at : ℕ) → (q : ℕ) × (badCell false mayEnd at t ≡ none q)
-  tabled-fine (node k n l c b ts) h mayEnd at = rw (h .3, fresh-allowed mayEnd k n) (tableds-fine ts (h .5) (marksChildren k) (suc at))
+  pub fresh-fine : (t : Tree) (mayEnd : Bool) (at : ℕ) → (q : ℕ) × (badCell false mayEnd at (fresh t) ≡ none q)
+  fresh-fine (node k n l c b ts) mayEnd at = rw (fresh-allowed mayEnd k n) (freshs-fine ts (marksChildren k) (suc at))
 
-  tableds-fine : (ts : Forest) → Tableds ts → (mayEnd : Bool) (at : ℕ) → (q : ℕ) × (badCells false mayEnd at ts ≡ none q)
-  tableds-fine [] h mayEnd at = (at, refl)
-  tableds-fine (t ∷ ts) h mayEnd at =
-      let f = tabled-fine t (h .0) mayEnd at in
-      fine-then (badCell false mayEnd at t) (f .0) (λ (z : ℕ). badCells false mayEnd z ts) (f .1) (tableds-fine ts (h .1) mayEnd (f .0))
+  freshs-fine : (ts : Forest) (mayEnd : Bool) (at : ℕ) → (q : ℕ) × (badCells false mayEnd at (freshAll ts) ≡ none q)
+  freshs-fine [] mayEnd at = (at, refl)
+  freshs-fine (t ∷ ts) mayEnd at =
+      let f = fresh-fine t mayEnd at in
+      fine-then (badCell false mayEnd at (fresh t)) (f .0) (λ (z : ℕ). badCells false mayEnd z (freshAll ts)) (f .1) (freshs-fine ts mayEnd (f .0))
 
 -- ---- a table has one tree
 abbrev treeOr : Tree → Table → Tree

@@ -1,19 +1,19 @@
 -- A call in two ways: it comes to its walk, and then it is one walk of the rules, of a tick over the tree that the cells hold, of a restart over the
--- table's fresh tree; or it is refused, and all stays.
+-- table's tree made fresh; or it is refused, and all stays.
 use mathlib.Core.Path.{_≡_, refl, subst}
 use mathlib.Core.Bool.{Bool, true, false, cond}
 use Prim.Native.Nat.{ℕ}
 use lib.Dec.{T}
 use Rattle.rules.specs.declared.answer.Answer.{Answer}
 use Rattle.rules.specs.declared.answer.Answer.the-variants.{Ticked, Asked, Finished, BadTable, TooShort, BadTime, BadAnswer, OutOfFuel, BadCell}
-use Rattle.rules.specs.Tree.{Tree, size}
+use Rattle.rules.specs.Tree.{Tree, fresh, size}
 use Rattle.rules.specs.Outcome.{Out}
 use Rattle.rules.specs.Table.{Table, good, bad, table}
 use Rattle.rules.specs.Cells.{Found, faulty, none, badCell}
 use Rattle.rules.specs.Call.{Given, Left, badAnswer, timeAllowed, refused, walked, tooShort, onTable, onInputs, walkFrom, tickCall, restartCall}
-use Rattle.calls.specs.Shape.{shape}
+use Rattle.calls.specs.Shape.{shape, fresh-shape}
 use Rattle.calls.specs.Memory.{held, held-shape}
-use Rattle.calls.specs.Tables.{tabled, tabled-fine}
+use Rattle.calls.specs.Tables.{fresh-fine}
 
 -- a tick or, with a tree that starts fresh, a restart; and all that it is given
 pub record Call : Type 0 where
@@ -35,7 +35,7 @@ heldBy t g = held t (g .cells')
 
 -- the tree that the walk starts from, and the walk
 abbrev pub startOf : Tree → Call → Tree
-startOf t a = cond (a .fresh) t (heldBy t (a .given'))
+startOf t a = cond (a .fresh) (fresh t) (heldBy t (a .given'))
 
 abbrev pub walk : Tree → Call → Out Tree
 walk t a = walkFrom (a .given') (startOf t a)
@@ -46,8 +46,8 @@ walkedBy t a = walked (a .given') (heldBy t (a .given')) (walk t a)
 pub start-shape : (t : Tree) (a : Call) → shape (startOf t a) ≡ shape t
 start-shape t a = on (a .fresh)
   where
-    on : (b : Bool) → shape (cond b t (heldBy t (a .given'))) ≡ shape t
-    on true = refl
+    on : (b : Bool) → shape (cond b (fresh t) (heldBy t (a .given'))) ≡ shape t
+    on true = fresh-shape t
     on false = held-shape t (a .given' .cells')
 
 -- a call that came to its walk: the table is good, the memory long enough, every cell that the walk starts from allowed, the time and the answers
@@ -153,7 +153,7 @@ view a = on (a .given') (a .fresh)
     on g true = on-table (restarts g) _ λ t e s. on-inputs (restarts g) _ λ time i ans. walking t (record {
       table-good = e;
       long-enough = s;
-      cells-good = tabled-fine t (tabled (g .kinds) (g .ns) (g .limits) t e .0) false 0;
+      cells-good = fresh-fine t false 0;
       time-good = time;
       answers-good = (i, ans);
       not-finished = λ q. absurd (subst T q tt);

@@ -9,13 +9,13 @@ use lib.ListN.{length}
 use Rattle.rules.specs.declared.event.Event.{Event}
 use Rattle.rules.specs.declared.event.Event.the-variants.{Update, Other}
 use Rattle.rules.specs.declared.answer.Answer.the-variants.{Ticked, Finished, BadTable, TooShort, BadTime, BadAnswer, BadCell}
-use Rattle.rules.specs.Tree.{Tree, size}
+use Rattle.rules.specs.Tree.{Tree, fresh, size}
 use Rattle.rules.specs.Outcome.{statusOf, world, Out, done, asks, short}
 use Rattle.rules.specs.State.{tick}
 use Rattle.rules.specs.Table.{mostDeep, cleaned, Row, row, rows, good, bad, whole, readTree, table}
 use Rattle.rules.specs.Cells.{Found, faulty, none, badCell}
 use Rattle.rules.specs.Board.{shown}
-use Rattle.rules.specs.Call.{Given, Left, left, answers, answerAllowed, badAnswer, cleanedEvent, timeAllowed, counted, ontoRun, ontoBoard, refused, walked, tooShort, onTable, onInputs, atEntry, walkFrom, tickCall, restartCall}
+use Rattle.rules.specs.Call.{Given, Left, left, answers, answerAllowed, badAnswer, cleanedEvent, timeAllowed, counted, ontoRun, ontoBoard, sinceIn, spared, refused, walked, tooShort, onTable, onInputs, atEntry, walkFrom, tickCall, restartCall}
 use Rattle.rules.specs.Bound.{boundCall}
 
 -- the call with another event, and with other numbers
@@ -95,7 +95,7 @@ module _ (g : Given) (e : Event) (ls xs : List Float)
     (fine : badAnswer 0 (g .statuses) xs ≡ badAnswer 0 (g .statuses) (g .leftovers)) where
   walked-alike : (t : Tree) (o : Out Tree) → walked (lending g e ls xs) t o ≡ walked g t o
   walked-alike t (done s r t' (world f ans)) =
-      λ i. left (Ticked s r (g .fuel - f) (length (lent i) - length ans)) (counted s (g .record')) (ontoRun t' (g .cells')) (ontoRun t (g .spare)) (ontoBoard (shown t') (g .board))
+      λ i. left (Ticked s r (g .fuel - f) (length (lent i) - length ans)) (counted s (g .record')) (ontoRun (sinceIn g s t') t' (g .cells')) (spared g t) (ontoBoard (shown t') (g .board))
   walked-alike t (asks n x) = refl
   walked-alike t short = refl
 
@@ -126,7 +126,7 @@ module _ (g : Given) (e : Event) (ls xs : List Float)
 
   pub restarts-alike : restartCall (lending g e ls xs) ≡ restartCall g
   unfolding restartCall
-  restarts-alike = table-alike _ _ (λ t. inputs-alike _ _ (walk-alike (atEntry g t) t))
+  restarts-alike = table-alike _ _ (λ t. inputs-alike _ _ (walk-alike (atEntry g t) (fresh t)))
 
 -- ---- a tick, a restart and a bound
 pub same-tick : (g : Given) → tickCall (cleanedCall g) ≡ tickCall g

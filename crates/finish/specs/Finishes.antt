@@ -37,6 +37,10 @@ module _ (F : Format) where
   pub fresh-state : (t : Tree) → Shaped F (shape t) → State t (fresh t)
   fresh-state t s = (fresh-shape t, fresh-valid F t s)
 
+  -- a state is one between two ticks too
+  pub clear-state : (t t' : Tree) → State t t' → State t (clear t')
+  clear-state t t' st = (clear-shape t' ∙ st .0, valid-clear F t' (st .1))
+
   module _ (t : Tree) (s : Shaped F (shape t)) (d : ℕ) where
     -- ---- a tick that is done
     pub whole-tick : (depth : ℕ) (t' : Tree) (x : Float) (fuel : ℕ) (ans left : List (Status × Float)) (s' : Status) (r : Float) (t'' : Tree) (f : ℕ) → State t t'
@@ -53,7 +57,7 @@ module _ (F : Format) where
     Ended k = Unit {0}
 
     pub after-state : (t' : Tree) (k : ℕ) (x : Float) (s' : Status) (r : Float) (t'' : Tree) (w : World) → Is t' k → TickQ F d (Update x) t' s' r t'' → After t Is Ended k (done s' r t'' w)
-    after-state t' k x Running r t'' w st h = (h .0 .0 ∙ st .0, (clear-shape t'' ∙ h .0 .0 ∙ st .0, valid-clear F t'' (h .1 .0)))
+    after-state t' k x Running r t'' w st h = let same = h .0 .0 ∙ st .0 in (same, clear-state t t'' (same, h .1 .0))
     after-state t' k x Success r t'' w st h = tt
     after-state t' k x Failure r t'' w st h = tt
 
@@ -81,7 +85,7 @@ module _ (F : Format) where
       pub after-tick : (t' : Tree) (k : ℕ) (x : Float) (s' : Status) (r : Float) (t'' : Tree) (w : World) → Going t' k → d ≤ num x → TickQ F d (Update x) t' s' r t''
           → After t Going Over k (done s' r t'' w)
       after-tick t' k x Running r t'' w v full h =
-          (h .0 .0 ∙ v .0 .0, ((clear-shape t'' ∙ h .0 .0 ∙ v .0 .0, valid-clear F t'' (h .1 .0)), down t' t'' k (v .1 .0) (v .1 .1) (v .1 .2) (h .1 .1 full)))
+          (h .0 .0 ∙ v .0 .0, (clear-state t t'' (h .0 .0 ∙ v .0 .0, h .1 .0), down t' t'' k (v .1 .0) (v .1 .1) (v .1 .2) (h .1 .1 full)))
       after-tick t' k x Success r t'' w v full h = over t' k (v .1 .0) (v .1 .1) (v .1 .2)
       after-tick t' k x Failure r t'' w v full h = over t' k (v .1 .0) (v .1 .1) (v .1 .2)
 

@@ -11,7 +11,7 @@ use Rattle.rules.specs.declared.event.Event.the-variants.{Update}
 use Rattle.rules.specs.declared.answer.Record.{Record}
 use Rattle.rules.specs.declared.behavior.Kind.the-variants.{Action, Timeout}
 use Rattle.rules.specs.Kinds.{kindOf}
-use Rattle.rules.specs.Tree.{zeroTime, freshCell, Tree, node, size}
+use Rattle.rules.specs.Tree.{zeroTime, newCell, Tree, node, size}
 use Rattle.rules.specs.Tree
 use Rattle.rules.specs.Table.{table}
 use Rattle.rules.specs.Cells.{cells, column}
@@ -43,10 +43,10 @@ abbrev limits : List Float
 limits = two ∷ zeroTime ∷ []
 
 abbrev tree : Tree
-tree = node Timeout 1 two freshCell 0 (Tree._∷_ (node Action 0 zeroTime freshCell 0 Tree.[]) Tree.[])
+tree = node Timeout 1 two newCell 0 (Tree._∷_ (node Action 0 zeroTime newCell 0 Tree.[]) Tree.[])
 
 abbrev zeros : Run
-zeros = run (zeroTime ∷ zeroTime ∷ []) (0 ∷ 0 ∷ []) (0 ∷ 0 ∷ [])
+zeros = run (zeroTime ∷ zeroTime ∷ []) (0 ∷ 0 ∷ []) (0 ∷ 0 ∷ []) (0 ∷ 0 ∷ [])
 
 abbrev fresh : Record
 fresh = record { finished = false; ticks = 0 }

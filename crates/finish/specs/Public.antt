@@ -7,7 +7,7 @@ use Prim.Native.Nat.{ℕ, _≤_, _<_}
 use lib.Dec.{T, leb, leb→le}
 use lib.Ieee.{Float, binary64}
 use lib.Ieee.Fits.{and-r}
-use Rattle.rules.specs.Tree.{Tree}
+use Rattle.rules.specs.Tree.{Tree, fresh}
 use Rattle.rules.specs.Outcome.{world}
 use Rattle.rules.specs.Table.{good, table}
 use Rattle.rules.specs.declared.answer.Record.{Record}
@@ -22,7 +22,7 @@ use Rattle.calls.specs.Invariant.{Keeps, Steps, calls-keep, restart-keeps}
 use Rattle.finish.specs.Shaped.{Shaped}
 use Rattle.finish.specs.WholeTicks.{WholeTick, WholeHistory}
 use Rattle.finish.specs.Answered.{FinishBound, bounded}
-use Rattle.finish.specs.States.{whole-step, StateIn, shaped, first-state}
+use Rattle.finish.specs.States.{whole-step, StateIn, shaped, first-state, new-state}
 use Rattle.finish.specs.Finishes.{State, Going, Over, start, after-tick, in-time}
 
 -- k ticks were carried out: at most N, and fewer than N if it has not finished
@@ -63,8 +63,8 @@ module _
     at-first : (t' : Tree) → State binary64 t t' → Goes t' 0
     at-first t' v = start binary64 t sh (num step) pos N t' v (fits .2)
 
-    fresh-state : State binary64 t t
-    fresh-state = first-state kinds ns limits t the-table (fits .1)
+    at-fresh : Goes (fresh t) 0
+    at-fresh = at-first (fresh t) (first-state kinds ns limits t the-table (fits .1))
 
     kept-by : (st : Standing) → Keeps t Goes Gone st → FinishesBy N st
     kept-by st v = on (st .record' .finished) v
@@ -74,7 +74,7 @@ module _
         on false h = in-time binary64 t sh (num step) pos N (held t (st .cells')) (st .carried) h
 
     by-history : (st : Standing) → Keeps t Goes Gone st → (cs : List Call) → WholeHistory t (num step) st cs → FinishesBy N (afterAll st cs)
-    by-history st v cs whole = kept-by (afterAll st cs) (calls-keep (WholeTick t (num step)) t Goes Gone (λ st' a u ok. ok .takes-up) steps (at-first t fresh-state) st cs whole v)
+    by-history st v cs whole = kept-by (afterAll st cs) (calls-keep (WholeTick t (num step)) t Goes Gone (λ st' a u ok. ok .takes-up) steps at-fresh st cs whole v)
 
     -- from every state that whole ticks reach
     pub finishes-from :
@@ -92,11 +92,11 @@ module _
         (r : Record)
         (unfinished : r .finished ≡ false)
         (c : Run)
-        (fresh : FreshCells t c)
+        (all-zero : FreshCells t c)
         (cs : List Call)
         (whole : WholeHistory t (num step) (stands r c 0) cs)
         → FinishesBy N (afterAll (stands r c 0) cs)
-    finishes r unfinished c fresh cs whole = finishes-from r unfinished c (rw (fresh-held kinds ns limits t c the-table fresh) fresh-state) cs whole
+    finishes r unfinished c all-zero cs whole = finishes-from r unfinished c (rw (fresh-held kinds ns limits t c the-table all-zero) (new-state kinds ns limits t the-table (fits .1))) cs whole
 
     -- from any record and cells, with a restart that is answered 0: it is the first tick
     pub finishes-after-restart :
@@ -108,4 +108,4 @@ module _
         → FinishesBy N (afterAll (after st (restarts g)) cs)
     finishes-after-restart st g answered-0 cs whole =
         by-history (after st (restarts g))
-        (restart-keeps (WholeTick t (num step)) t Goes Gone (λ st' a u ok. ok .takes-up) steps (at-first t fresh-state) st g answered-0 (whole .0)) cs (whole .1)
+        (restart-keeps (WholeTick t (num step)) t Goes Gone (λ st' a u ok. ok .takes-up) steps at-fresh st g answered-0 (whole .0)) cs (whole .1)

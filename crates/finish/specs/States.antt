@@ -9,7 +9,7 @@ use lib.Ieee.{Float, binary64}
 use Rattle.rules.specs.declared.status.Status.{Status}
 use Rattle.rules.specs.declared.event.Event.{Event}
 use Rattle.rules.specs.declared.event.Event.the-variants.{Update, Other}
-use Rattle.rules.specs.Tree.{Tree}
+use Rattle.rules.specs.Tree.{Tree, fresh}
 use Rattle.rules.specs.Outcome.{world, done, asks, short}
 use Rattle.rules.specs.State.{tick}
 use Rattle.rules.specs.Table.{mostDeep, good, table}
@@ -26,7 +26,7 @@ use Rattle.finish.specs.Shaped.{Shaped}
 use Rattle.finish.specs.Accepted.{accepted}
 use Rattle.finish.specs.Post.{TickQ}
 use Rattle.finish.specs.WholeTicks.{WholeEvent, WholeAnswers, WholeTick, WholeHistory, whole-all}
-use Rattle.finish.specs.Finishes.{State, fresh-state, whole-tick, Is, Ended, after-state}
+use Rattle.finish.specs.Finishes.{State, fresh-state, clear-state, whole-tick, Is, Ended, after-state}
 
 -- ---- the walk of a whole tick
 module _ (t : Tree) (s : Shaped binary64 (shape t)) (d : ℕ) (P : Tree → ℕ → Type 0) (E : ℕ → Type 0)
@@ -56,8 +56,12 @@ module _ (kinds ns : List ℕ) (limits : List Float) (t : Tree) (e : table kinds
   pub shaped : Shaped binary64 (shape t)
   shaped = accepted binary64 t (tabled kinds ns limits t e .0) b
 
-  pub first-state : State binary64 t t
-  first-state = rw (tabled-fresh t (tabled kinds ns limits t e .0)) at (fresh-state binary64 t shaped)
+  -- made fresh; and between two ticks, which is the table's tree
+  pub first-state : State binary64 t (fresh t)
+  first-state = fresh-state binary64 t shaped
+
+  pub new-state : State binary64 t t
+  new-state = rw (tabled-fresh t (tabled kinds ns limits t e .0)) at (clear-state binary64 t (fresh t) first-state)
 
   pub states : (st : Standing) → st .record' .finished ≡ false → StateIn t (st .cells') → (cs : List Call) → WholeHistory t 0 st cs
       → afterAll st cs .record' .finished ≡ false → StateIn t (afterAll st cs .cells')

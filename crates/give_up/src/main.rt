@@ -53,9 +53,11 @@ fn until_finished(
     times: &mut [f64],
     places: &mut [u16],
     marks: &mut [u8],
+    sinces: &mut [u64],
     spare_times: &mut [f64],
     spare_places: &mut [u16],
     spare_marks: &mut [u8],
+    spare_sinces: &mut [u64],
     board: &mut [u8],
     step: f64,
     fuel: u32,
@@ -76,9 +78,11 @@ fn until_finished(
             times,
             places,
             marks,
+            sinces,
             spare_times,
             spare_places,
             spare_marks,
+            spare_sinces,
             board,
             Event::Update(step),
             fuel,
@@ -107,9 +111,11 @@ fn ticks(
     let mut times = [0.0f64; NODES];
     let mut places = [0u16; NODES];
     let mut marks = [0u8; NODES];
+    let mut sinces = [0u64; NODES];
     let mut spare_times = [0.0f64; NODES];
     let mut spare_places = [0u16; NODES];
     let mut spare_marks = [0u8; NODES];
+    let mut spare_sinces = [0u64; NODES];
     let mut board = [0u8; NODES];
     until_finished(
         kinds,
@@ -118,9 +124,11 @@ fn ticks(
         &mut times,
         &mut places,
         &mut marks,
+        &mut sinces,
         &mut spare_times,
         &mut spare_places,
         &mut spare_marks,
+        &mut spare_sinces,
         &mut board,
         step,
         fuel,

@@ -17,7 +17,7 @@ use Rattle.rules.specs.State.{tick}
 use Rattle.rules.specs.Table.{mostDeep, cleaned}
 use Rattle.rules.specs.Cells.{none}
 use Rattle.rules.specs.Board.{shown}
-use Rattle.rules.specs.Call.{Given, Left, left, counted, ontoRun, ontoBoard, answers, cleanedEvent, answerAllowed, badAnswer, walked}
+use Rattle.rules.specs.Call.{Given, Left, left, counted, ontoRun, ontoBoard, sinceIn, spared, answers, cleanedEvent, answerAllowed, badAnswer, walked}
 use Rattle.calls.specs.View.{Call, leftBy, heldBy, startOf, walk, Walked, NotWalked, not-walked, View, walking, refusing, view}
 use Rattle.calls.specs.Walks.{walks}
 use Rattle.calls.specs.History.{isTicked, not-ticked}
@@ -79,7 +79,7 @@ module _ (a : Call) (k : ℕ) (ss : List ℕ) (ls : List Float) (even : Paired (
   left-again t (done s r t' (world f ans)) o' h a = ap (λ (u : Out Tree). walked (again k ss ls g) t u) h ∙ same
     where
       same : walked (again k ss ls g) t (done s r t' (world (f + k) (ans ++ answers ss ls))) ≡ walked g t (done s r t' (world f ans))
-      same = λ z. left (Ticked s r (visits (g .fuel) f z) (used-again ans z)) (counted s (g .record')) (ontoRun t' (g .cells')) (ontoRun t (g .spare)) (ontoBoard (shown t') (g .board))
+      same = λ z. left (Ticked s r (visits (g .fuel) f z) (used-again ans z)) (counted s (g .record')) (ontoRun (sinceIn g s t') t' (g .cells')) (spared g t) (ontoBoard (shown t') (g .board))
   left-again t (asks n x) o' h a = absurd a
   left-again t short o' h a = absurd a
 

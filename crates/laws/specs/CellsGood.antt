@@ -17,7 +17,7 @@ use Rattle.rules.specs.Outcome.{dt, World, world, Out, done, asks, short}
 use Rattle.rules.specs.State.{tick}
 use Rattle.rules.specs.Table.{mostDeep, cleaned, number, good, table}
 use Rattle.rules.specs.Cells.{elapsed, Found, faulty, none, badCell}
-use Rattle.rules.specs.Call.{Given, Left, answers, cleanedEvent, answerAllowed, badAnswer, timeAllowed, walked, tickCall, restartCall}
+use Rattle.rules.specs.Call.{Given, Left, answers, cleanedEvent, answerAllowed, badAnswer, timeAllowed, sinceIn, walked, tickCall, restartCall}
 use Rattle.calls.specs.Shape.{shape}
 use Rattle.calls.specs.Memory.{held, held-onto}
 use Rattle.calls.specs.Tables.{tabled, tabled-fresh}
@@ -98,7 +98,7 @@ module _ (kinds ns : List ℕ) (limits : List Float) (t : Tree) (e : table kinds
 
   walk-good : (a : Call) (before : Tree) (o : Out Tree) → Post (Unit {0}) Live o → AfterTick (world (a .given' .fuel) (answers (a .given' .statuses) (a .given' .leftovers))) (Same (startOf t a)) o
       → T (isTicked (walked (a .given') before o .answer)) → Live (held t (walked (a .given') before o .cells'))
-  walk-good a before (done s x t' (world f ans)) h k y = rw (held-onto t t' (a .given' .cells') (k .1 .0 ∙ start-shape t a)) (live-clear t' (h .1 .1))
+  walk-good a before (done s x t' (world f ans)) h k y = rw (held-onto (sinceIn (a .given') s t') t t' (a .given' .cells') (k .1 .0 ∙ start-shape t a)) (live-clear t' (h .1 .1))
   walk-good a before (asks n x) h k y = absurd y
   walk-good a before short h k y = absurd y
 
@@ -131,7 +131,7 @@ module _ (kinds ns : List ℕ) (limits : List Float) (t : Tree) (e : table kinds
   -- fresh cells, then any calls: the cells are accepted
   pub reached-accepted : (st : Standing) → FreshCells t (st .cells') → (cs : List Call) → TakeUps t st cs → Accepted (held t (afterAll st cs .cells'))
   reached-accepted st f cs up =
-      accepted-of (held t (afterAll st cs .cells')) (calls-good st cs up (rw (fresh-held kinds ns limits t (st .cells') e f) (rw (tabled-fresh t (tabled kinds ns limits t e .0)) at (fresh-live t))))
+      accepted-of (held t (afterAll st cs .cells')) (calls-good st cs up (rw (fresh-held kinds ns limits t (st .cells') e f) (rw (tabled-fresh t (tabled kinds ns limits t e .0)) at (live-clear (fresh t) (fresh-live t)))))
 
   -- any cells, a restart answered 0, then any calls: the same
   pub restarted-accepted : (st : Standing) (g : Given) → OfTable (restarts g) → T (isTicked (restartCall g .answer)) → (cs : List Call) → TakeUps t (after st (restarts g)) cs

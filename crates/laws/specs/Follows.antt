@@ -12,12 +12,12 @@ use Rattle.rules.specs.declared.answer.Answer.{Answer}
 use Rattle.rules.specs.declared.answer.Answer.the-variants.{Ticked, Asked, Finished, BadTable, TooShort, BadTime, BadAnswer, OutOfFuel, BadCell}
 use Rattle.rules.specs.declared.answer.Record.{Record}
 use Rattle.rules.specs.declared.answer.Said.{Said}
-use Rattle.rules.specs.Tree.{Tree, size}
+use Rattle.rules.specs.Tree.{Tree, fresh, size}
 use Rattle.rules.specs.Outcome.{world, Out, done, asks, short}
 use Rattle.rules.specs.Table.{mostDeep, Table, good, bad, table}
 use Rattle.rules.specs.Cells.{Found, faulty, none, badCell}
-use Rattle.rules.specs.Call.{Given, Left, answers, cleanedEvent, badAnswer, timeAllowed, counted, refused, walked, tooShort, onTable, onInputs, walkFrom, tickCall, restartCall, saidOf}
-use Rattle.calls.specs.Shape.{shape}
+use Rattle.rules.specs.Call.{Given, Left, answers, cleanedEvent, badAnswer, timeAllowed, counted, sinceIn, refused, walked, tooShort, onTable, onInputs, walkFrom, tickCall, restartCall, saidOf}
+use Rattle.calls.specs.Shape.{shape, fresh-shape}
 use Rattle.calls.specs.Memory.{clear, held, held-onto, held-shape}
 use Rattle.calls.specs.View.{Call, leftBy, heldBy}
 use Rattle.calls.specs.History.{Standing, behind, afterLeft, after, afterAll, TakesUp, same-tree}
@@ -29,7 +29,7 @@ use Rattle.laws.specs.PairDrivers.{Same}
 abbrev pub Held : Type 0
 Held = Record × Tree
 
--- what a walk says, and the record and the tree after it; a tree is handed on with its board cleared
+-- what a walk says, and the record and the tree after it; a tree is handed on as it is between two ticks, with its board cleared
 abbrev pub ran : Given → Held → Out Tree → Answer × Held
 ran g h (done s r u (world f ans)) = (Ticked s r (g .fuel - f) (length (answers (g .statuses) (g .leftovers)) - length ans), (counted s (h .0), clear u))
 ran g h (asks n x) = (Asked n x, h)
@@ -55,9 +55,9 @@ ruledTick t h g = ruledTable t h g (elim (badCell false false 0 (h .1)) [
   | none _ ↦ ruledInputs h g (cond (h .0 .finished) (Finished, h) (ran g h (walkFrom g (h .1))))
 ])
 
--- a restart: 3 and 4, 5 and 6, and then the walk of the fresh tree, whatever is held
+-- a restart: 3 and 4, 5 and 6, and then the walk of the tree made fresh, whatever is held
 abbrev pub ruledRestart : Tree → Held → Given → Answer × Held
-ruledRestart t h g = ruledTable t h g (ruledInputs h g (ran g h (walkFrom g t)))
+ruledRestart t h g = ruledTable t h g (ruledInputs h g (ran g h (walkFrom g (fresh t))))
 
 abbrev pub ruled : Tree → Held → Call → Answer × Held
 ruled t h a = cond (a .fresh) (ruledRestart t h (a .given')) (ruledTick t h (a .given'))
@@ -89,7 +89,9 @@ module _ (t : Tree) (st : Standing) (a : Call) (up : TakesUp t st a) (the-record
   -- the walk that starts from the tree v, after cells that held the tree u
   by-walk : (u v : Tree) → shape v ≡ shape t → (o : Out Tree) → AfterTick (world (g .fuel) (answers (g .statuses) (g .leftovers))) (Same v) o
       → Says (walked g u o) (ran g (heldIn t st) o)
-  by-walk u v q (done s r u' (world f ans)) k = rw (the-record, held-onto t u' (g .cells') (k .1 .0 ∙ q))
+  by-walk u v q (done s r u' (world f ans)) k =
+      let says : Answer = Ticked s r (g .fuel - f) (length (answers (g .statuses) (g .leftovers)) - length ans) in
+      λ i. (says, (counted s (the-record i), held-onto (sinceIn g s u') t u' (g .cells') (k .1 .0 ∙ q) i))
   by-walk u v q (asks n x) k = refl
   by-walk u v q short k = refl
 
@@ -154,7 +156,7 @@ module _ (t : Tree) (st : Standing) (a : Call) (up : TakesUp t st a) (the-record
   -- ---- a restart
   restart-follows : Says (restartCall g) (ruledRestart t (heldIn t st) g)
   unfolding restartCall
-  restart-follows = on-table _ _ λ s. on-inputs _ _ (walks-so (heldBy t g) t refl)
+  restart-follows = on-table _ _ λ s. on-inputs _ _ (walks-so (heldBy t g) (fresh t) (fresh-shape t))
 
   call-follows : Says (leftBy a) (ruled t (heldIn t st) a)
   call-follows = on (a .fresh) (λ e. e)

@@ -6,14 +6,14 @@ use Rattle.rules.specs.declared.answer.Answer.the-variants.{Ticked, Asked, Fini
 use Rattle.rules.specs.Tree.{Tree}
 use Rattle.rules.specs.Outcome.{world, Out, done, asks, short}
 use Rattle.rules.specs.Table.{good, table}
-use Rattle.rules.specs.Call.{Given, Left, left, ontoRun, walked, refused, restartCall}
+use Rattle.rules.specs.Call.{Given, Left, left, spared, walked, refused, restartCall}
 use Rattle.calls.specs.View.{Call, restarts, leftBy, heldBy, walk, NotWalked, Why, not-walked, View, walking, refusing, view}
 
 -- by the answer: 0 leaves what the rules say; 7 and 1 all but the spare; any other all
 abbrev pub Leaves : Given → Left → Answer → Type 0
 Leaves g l (Ticked s r v u) = Unit {0}
-Leaves g l (Asked n x) = (t : Tree) × (table (g .kinds) (g .ns) (g .limits) ≡ good t) × (l ≡ left (Asked n x) (g .record') (g .cells') (ontoRun (heldBy t g) (g .spare)) (g .board))
-Leaves g l OutOfFuel = (t : Tree) × (table (g .kinds) (g .ns) (g .limits) ≡ good t) × (l ≡ left OutOfFuel (g .record') (g .cells') (ontoRun (heldBy t g) (g .spare)) (g .board))
+Leaves g l (Asked n x) = (t : Tree) × (table (g .kinds) (g .ns) (g .limits) ≡ good t) × (l ≡ left (Asked n x) (g .record') (g .cells') (spared g (heldBy t g)) (g .board))
+Leaves g l OutOfFuel = (t : Tree) × (table (g .kinds) (g .ns) (g .limits) ≡ good t) × (l ≡ left OutOfFuel (g .record') (g .cells') (spared g (heldBy t g)) (g .board))
 Leaves g l Finished = l ≡ refused g Finished
 Leaves g l (BadTable p) = l ≡ refused g (BadTable p)
 Leaves g l TooShort = l ≡ refused g TooShort

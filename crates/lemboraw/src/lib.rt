@@ -8,11 +8,12 @@ use numbers::bound_of;
 use rules::Kind;
 use rules::Record;
 use rules::Said;
+use rules::age;
 use value::restart_said;
 use value::tick_said;
 ghost use mathlib.Core.Path.{_≡_};
 ghost use Rattle.rules.specs.Outcome.{eventOf};
-ghost use Rattle.rules.specs.Call.{run, given};
+ghost use Rattle.rules.specs.Call.{run, given, age};
 ghost use Rattle.rules.specs.Bound.{boundCall};
 ghost use Rattle.lemboraw.specs.Host.{hostTick, hostRestart, hostLeft, memoryOf, boundOf};
 
@@ -26,9 +27,11 @@ pub extern "C" fn lemboraw_tick(
     times: &mut [f64],
     places: &mut [u16],
     marks: &mut [u8],
+    sinces: &mut [u64],
     spare_times: &mut [f64],
     spare_places: &mut [u16],
     spare_marks: &mut [u8],
+    spare_sinces: &mut [u64],
     board: &mut [u8],
     update: bool,
     dt: f64,
@@ -38,12 +41,12 @@ pub extern "C" fn lemboraw_tick(
 ) -> Said
     ensures { λ r. ⌜
         hostTick (given (now («record» .entry)) (now (kinds .entry)) (now (ns .entry)) (now (limits .entry))
-        (run (now (times .entry)) (now (places .entry)) (now (marks .entry)))
-        (run (now («spare_times» .entry)) (now («spare_places» .entry)) (now («spare_marks» .entry)))
+        (run (now (times .entry)) (now (places .entry)) (now (marks .entry)) (now (sinces .entry)))
+        (run (now («spare_times» .entry)) (now («spare_places» .entry)) (now («spare_marks» .entry)) (now («spare_sinces» .entry)))
         (now (board .entry)) (eventOf update dt) fuel (now (statuses .entry)) (now (leftovers .entry)))
         ≡ hostLeft r (now («record» .exit))
-        (run (now (times .exit)) (now (places .exit)) (now (marks .exit)))
-        (run (now («spare_times» .exit)) (now («spare_places» .exit)) (now («spare_marks» .exit)))
+        (run (now (times .exit)) (now (places .exit)) (now (marks .exit)) (now (sinces .exit)))
+        (run (now («spare_times» .exit)) (now («spare_places» .exit)) (now («spare_marks» .exit)) (now («spare_sinces» .exit)))
         (now (board .exit))
         ⌝ }
 {
@@ -55,9 +58,11 @@ pub extern "C" fn lemboraw_tick(
         times,
         places,
         marks,
+        sinces,
         spare_times,
         spare_places,
         spare_marks,
+        spare_sinces,
         board,
         update,
         dt,
@@ -80,9 +85,11 @@ pub extern "C" fn lemboraw_restart(
     times: &mut [f64],
     places: &mut [u16],
     marks: &mut [u8],
+    sinces: &mut [u64],
     spare_times: &mut [f64],
     spare_places: &mut [u16],
     spare_marks: &mut [u8],
+    spare_sinces: &mut [u64],
     board: &mut [u8],
     update: bool,
     dt: f64,
@@ -92,12 +99,12 @@ pub extern "C" fn lemboraw_restart(
 ) -> Said
     ensures { λ r. ⌜
         hostRestart (given (now («record» .entry)) (now (kinds .entry)) (now (ns .entry)) (now (limits .entry))
-        (run (now (times .entry)) (now (places .entry)) (now (marks .entry)))
-        (run (now («spare_times» .entry)) (now («spare_places» .entry)) (now («spare_marks» .entry)))
+        (run (now (times .entry)) (now (places .entry)) (now (marks .entry)) (now (sinces .entry)))
+        (run (now («spare_times» .entry)) (now («spare_places» .entry)) (now («spare_marks» .entry)) (now («spare_sinces» .entry)))
         (now (board .entry)) (eventOf update dt) fuel (now (statuses .entry)) (now (leftovers .entry)))
         ≡ hostLeft r (now («record» .exit))
-        (run (now (times .exit)) (now (places .exit)) (now (marks .exit)))
-        (run (now («spare_times» .exit)) (now («spare_places» .exit)) (now («spare_marks» .exit)))
+        (run (now (times .exit)) (now (places .exit)) (now (marks .exit)) (now (sinces .exit)))
+        (run (now («spare_times» .exit)) (now («spare_places» .exit)) (now («spare_marks» .exit)) (now («spare_sinces» .exit)))
         (now (board .exit))
         ⌝ }
 {
@@ -109,9 +116,11 @@ pub extern "C" fn lemboraw_restart(
         times,
         places,
         marks,
+        sinces,
         spare_times,
         spare_places,
         spare_marks,
+        spare_sinces,
         board,
         update,
         dt,
@@ -121,6 +130,14 @@ pub extern "C" fn lemboraw_restart(
     );
     *record = told.record;
     told.said
+}
+
+// How many ticks ago a branch was made fresh: the tick count less the number in its cell, with wrap.
+#[no_mangle]
+pub extern "C" fn lemboraw_age(ticks: u64, since: u64) -> u64
+    ensures { λ r. ⌜ r ≡ age ticks since ⌝ }
+{
+    age(ticks, since)
 }
 
 // The number of a kind with its memory on or off; a number that is no kind stays.

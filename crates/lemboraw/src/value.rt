@@ -24,9 +24,11 @@ pub fn tick_said(
     times: &mut [f64],
     places: &mut [u16],
     marks: &mut [u8],
+    sinces: &mut [u64],
     spare_times: &mut [f64],
     spare_places: &mut [u16],
     spare_marks: &mut [u8],
+    spare_sinces: &mut [u64],
     board: &mut [u8],
     update: bool,
     dt: f64,
@@ -36,12 +38,12 @@ pub fn tick_said(
 ) -> Told
     ensures { λ r. ⌜
         hostTick (given «record» (now (kinds .entry)) (now (ns .entry)) (now (limits .entry))
-        (run (now (times .entry)) (now (places .entry)) (now (marks .entry)))
-        (run (now («spare_times» .entry)) (now («spare_places» .entry)) (now («spare_marks» .entry)))
+        (run (now (times .entry)) (now (places .entry)) (now (marks .entry)) (now (sinces .entry)))
+        (run (now («spare_times» .entry)) (now («spare_places» .entry)) (now («spare_marks» .entry)) (now («spare_sinces» .entry)))
         (now (board .entry)) (eventOf update dt) fuel (now (statuses .entry)) (now (leftovers .entry)))
         ≡ hostLeft (r .said) (r .«record»)
-        (run (now (times .exit)) (now (places .exit)) (now (marks .exit)))
-        (run (now («spare_times» .exit)) (now («spare_places» .exit)) (now («spare_marks» .exit)))
+        (run (now (times .exit)) (now (places .exit)) (now (marks .exit)) (now (sinces .exit)))
+        (run (now («spare_times» .exit)) (now («spare_places» .exit)) (now («spare_marks» .exit)) (now («spare_sinces» .exit)))
         (now (board .exit))
         ⌝ }
 {
@@ -54,9 +56,11 @@ pub fn tick_said(
         times,
         places,
         marks,
+        sinces,
         spare_times,
         spare_places,
         spare_marks,
+        spare_sinces,
         board,
         event,
         fuel,
@@ -81,9 +85,11 @@ pub fn restart_said(
     times: &mut [f64],
     places: &mut [u16],
     marks: &mut [u8],
+    sinces: &mut [u64],
     spare_times: &mut [f64],
     spare_places: &mut [u16],
     spare_marks: &mut [u8],
+    spare_sinces: &mut [u64],
     board: &mut [u8],
     update: bool,
     dt: f64,
@@ -93,12 +99,12 @@ pub fn restart_said(
 ) -> Told
     ensures { λ r. ⌜
         hostRestart (given «record» (now (kinds .entry)) (now (ns .entry)) (now (limits .entry))
-        (run (now (times .entry)) (now (places .entry)) (now (marks .entry)))
-        (run (now («spare_times» .entry)) (now («spare_places» .entry)) (now («spare_marks» .entry)))
+        (run (now (times .entry)) (now (places .entry)) (now (marks .entry)) (now (sinces .entry)))
+        (run (now («spare_times» .entry)) (now («spare_places» .entry)) (now («spare_marks» .entry)) (now («spare_sinces» .entry)))
         (now (board .entry)) (eventOf update dt) fuel (now (statuses .entry)) (now (leftovers .entry)))
         ≡ hostLeft (r .said) (r .«record»)
-        (run (now (times .exit)) (now (places .exit)) (now (marks .exit)))
-        (run (now («spare_times» .exit)) (now («spare_places» .exit)) (now («spare_marks» .exit)))
+        (run (now (times .exit)) (now (places .exit)) (now (marks .exit)) (now (sinces .exit)))
+        (run (now («spare_times» .exit)) (now («spare_places» .exit)) (now («spare_marks» .exit)) (now («spare_sinces» .exit)))
         (now (board .exit))
         ⌝ }
 {
@@ -111,9 +117,11 @@ pub fn restart_said(
         times,
         places,
         marks,
+        sinces,
         spare_times,
         spare_places,
         spare_marks,
+        spare_sinces,
         board,
         event,
         fuel,

@@ -1,7 +1,7 @@
 -- A tree that stands in a table, with the cells of a run: its words are those that are loaded, and what is put back is its columns.
 use mathlib.Core.Path.{_≡_, refl, sym, ap, subst, _∙_}
 use mathlib.Core.Bool.{Bool, true, false, cond, _&&_, and-eq-true-iff}
-use mathlib.Core.List.{List, map, _++_, append-assoc}
+use mathlib.Core.List.{List, map, _++_, append-assoc, append-nil}
 use mathlib.Core.List
 use Prim.Native.Nat.{ℕ, zero, suc, _+_, _-_, _≤_, _<_}
 use native.Mathlib.Nat.{add-zero, zero-add, suc-add, add-assoc}
@@ -10,25 +10,26 @@ use native.Mathlib.Omega.{arith}
 use borrow.Author.Tests.{ltb-true, ltb-false, leb-true, eqb-true}
 use lib.Dec.{leb, ltb, eqb}
 use lib.Ieee.{Float}
-use lib.ListN.{length, getD, set, take, drop, replicate, length-append, length-drop, length-replicate, replicate-append-replicate}
+use lib.ListN.{length, getD, set, take, drop, replicate, length-append, length-drop, length-replicate, getD-replicate, replicate-append-replicate}
 use lib.Seq.{append-snoc, drop-cons, drop-drop, set-at}
 use Rattle.rules.specs.declared.behavior.Kind.{Kind}
 use Rattle.rules.specs.declared.behavior.Kind.the-variants.{Wait, WaitForever, Action, Invert, AlwaysSucceed, Timeout}
 use Rattle.rules.specs.declared.behavior.Kind.the-variants.{Select, If, Sequence, MemorylessSequence, MemorylessSelector}
 use Rattle.rules.specs.declared.behavior.Kind.the-variants.{While, WhileAll, WhenAll, WhenAny, After, Race}
 use Rattle.rules.specs.Kinds.{code, kindOf, fewest, most, children, timed}
-use Rattle.rules.specs.Tree.{Cell, freshCell, Tree, node, Forest, [], _∷_, size, sizes, count}
+use Rattle.rules.specs.Tree.{Cell, freshCell, newCell, Tree, node, Forest, [], _∷_, size, sizes, count}
 use Rattle.rules.specs.Table.{zeroBits, countAllowed, limitAllowed, rowAllowed}
 use Rattle.rules.specs.Cells.{cells, withCells, withCellsAll, column, columns, elapsed, lastPlace, cellAllowed, Found, faulty, none, badCell, badCells, boardOf}
 use Rattle.rules.specs.Cells as inCell
+use Rattle.rules.specs.Call.{stamped}
 use Rattle.tables.specs.At.{Row, At, Ats}
 use Rattle.work.specs.Word.{seenOf}
 use Rattle.work.specs.Word as inWord
 use Rattle.refine.specs.Words.{pack, words, wordsAll, bit, behind, working, Fits, FitsAll, Holds, HoldsAll}
 use Rattle.refine.specs.Words as refined
-use Rattle.refine.specs.Packed.{place-pack, mark-pack, seen-pack}
+use Rattle.refine.specs.Packed.{place-pack, mark-pack, anew-pack, seen-pack}
 use Rattle.refine.specs.Stand.{count-sizes}
-use Rattle.load.specs.Load.{loadWords, over}
+use Rattle.load.specs.Load.{loadWords, over, stampedOver}
 
 -- ---- kinds and their numbers
 abbrev allBelow : ℕ → (ℕ → Bool) → Bool
@@ -152,18 +153,35 @@ long-cells (suc n) (List._∷_ x xs) List.[] ms a b c = absurd (omega arith)
 long-cells (suc n) (List._∷_ x xs) (List._∷_ p ps) List.[] a b c = absurd (omega arith)
 long-cells (suc n) (List._∷_ x xs) (List._∷_ p ps) (List._∷_ m ms) a b c = omega (arith, long-cells n xs ps ms (omega arith) (omega arith) (omega arith))
 
-record CellAt (c : Cell) (ps ms : List ℕ) (q : ℕ) : Type 0 where
+-- what the word of a cell is loaded from
+record CellAt (c : Cell) (anew : Bool) (ps ms : List ℕ) (q : ℕ) : Type 0 where
   place : inCell.placeOf c 0 ≡ getD ps q 0
   mark : inCell.markOf c 0 ≡ getD ms q 0
+  made : inCell.anewOf c 0 ≡ anew
 
-cell-at : (q : ℕ) (xs : List Float) (ps ms : List ℕ) → q < length (cells xs ps ms) → CellAt (getD (cells xs ps ms) q freshCell) ps ms q
+pub record Loads (anew : Bool) (ps ms : List ℕ) (run : List Cell) : Type 0 where
+  at : (q : ℕ) → q < length run → CellAt (getD run q newCell) anew ps ms q
+
+cell-at : (q : ℕ) (xs : List Float) (ps ms : List ℕ) → q < length (cells xs ps ms) → CellAt (getD (cells xs ps ms) q newCell) false ps ms q
 unfolding cells
 cell-at q List.[] ps ms h = absurd (omega arith)
 cell-at q (List._∷_ x xs) List.[] ms h = absurd (omega arith)
 cell-at q (List._∷_ x xs) (List._∷_ p ps) List.[] h = absurd (omega arith)
-cell-at zero (List._∷_ x xs) (List._∷_ p ps) (List._∷_ m ms) h = record { place = refl; mark = refl }
+cell-at zero (List._∷_ x xs) (List._∷_ p ps) (List._∷_ m ms) h = record { place = refl; mark = refl; made = refl }
 cell-at (suc q) (List._∷_ x xs) (List._∷_ p ps) (List._∷_ m ms) h =
-    let r = cell-at q xs ps ms (omega arith) in record { place = r .place; mark = r .mark }
+    let r = cell-at q xs ps ms (omega arith) in record { place = r .place; mark = r .mark; made = r .made }
+
+-- cells as they are lent, and those of a tree that is made fresh
+pub lent-loads : (xs : List Float) (ps ms : List ℕ) → Loads false ps ms (cells xs ps ms)
+lent-loads xs ps ms = record { at = λ q h. cell-at q xs ps ms h }
+
+pub fresh-loads : (n : ℕ) → Loads true (replicate n 0) (replicate n 0) (replicate n freshCell)
+fresh-loads n = record { at = λ q h. there q (omega (arith, h, length-replicate n freshCell)) }
+  where
+    there : (q : ℕ) → q < n → CellAt (getD (replicate n freshCell) q newCell) true (replicate n 0) (replicate n 0) q
+    there q h =
+        let zero = sym (getD-replicate {A = ℕ} n q 0 0 h) in
+        rw (getD-replicate n q freshCell newCell h) (record { place = zero; mark = zero; made = refl })
 
 -- ---- a tree that stands in the table
 module _ (kinds ns : List ℕ) (limits : List Float) (ends : List ℕ) where
@@ -241,9 +259,9 @@ module _ (kinds ns : List ℕ) (limits : List Float) (ends : List ℕ) where
   fits t cs m v h = at-fits 0 (withCells t cs .0) false false 0 m (at-with 0 t cs v) h
 
 -- ---- the words that are loaded
-module _ (kinds ends places marks : List ℕ) where
+module _ (anew : Bool) (kinds ends places marks : List ℕ) where
   abbrev wordFor : ℕ → ℕ
-  wordFor q = pack (getD ends q 0 - (q + 1)) (getD kinds q 0) (getD places q 0) (getD marks q 0) 0
+  wordFor q = pack (getD ends q 0 - (q + 1)) (getD kinds q 0) (getD places q 0) (getD marks q 0) anew 0
 
   abbrev wordsFrom : ℕ → ℕ → List ℕ
   wordsFrom q zero = List.[]
@@ -260,7 +278,7 @@ module _ (kinds ends places marks : List ℕ) where
       rw (suc-add n m) (ap (λ (l : List ℕ). List._∷_ (wordFor q) l) (words-add n (q + 1) m ∙ ap (λ (z : ℕ). wordsFrom (q + 1) n ++ wordsFrom z m) e))
 
   load-run : (n q : ℕ) (pre mid post : List ℕ) → length pre ≡ q → length mid ≡ n
-      → loadWords kinds ends places marks q n (pre ++ (mid ++ post)) ≡ pre ++ (wordsFrom q n ++ post)
+      → loadWords anew kinds ends places marks q n (pre ++ (mid ++ post)) ≡ pre ++ (wordsFrom q n ++ post)
   unfolding loadWords
   load-run zero q pre List.[] post a b = refl
   load-run zero q pre (List._∷_ x mid) post a b = absurd (omega arith)
@@ -268,14 +286,11 @@ module _ (kinds ends places marks : List ℕ) where
   load-run (suc n) q pre (List._∷_ x mid) post a b =
       let w = wordFor q in
       let one : List ℕ = List._∷_ w List.[] in
-      ap (λ (l : List ℕ). loadWords kinds ends places marks (q + 1) n l) (set-at pre x (mid ++ post) w q a ∙ sym (append-snoc pre w (mid ++ post)))
+      ap (λ (l : List ℕ). loadWords anew kinds ends places marks (q + 1) n l) (set-at pre x (mid ++ post) w q a ∙ sym (append-snoc pre w (mid ++ post)))
       ∙ load-run n (q + 1) (pre ++ one) mid post (omega (arith, length-append pre one)) (omega arith)
       ∙ append-snoc pre w (wordsFrom (q + 1) n ++ post)
 
-  module _ (ns : List ℕ) (limits : List Float) (times : List Float) where
-    abbrev run : List Cell
-    run = cells times places marks
-
+  module _ (ns : List ℕ) (limits : List Float) (run : List Cell) (loads : Loads anew places marks run) where
     mutual
       unfolding words withCells size
 
@@ -286,16 +301,17 @@ module _ (kinds ends places marks : List ℕ) where
           → words (withCells t cs .0) post ≡ wordsFrom q (size t) ++ post
       words-with q (node k n l c b ts) List.[] post v e h = absurd (omega (arith, ap length e, length-drop q run))
       words-with q (node k n l c b ts) (List._∷_ c' cs) post v e h =
-          let cut : List._∷_ c' cs ≡ List._∷_ (getD run q freshCell) (drop (suc q) run) = e ∙ drop-cons run q freshCell (omega arith) in
-          let first : c' ≡ getD run q freshCell = cc in
+          let cut : List._∷_ c' cs ≡ List._∷_ (getD run q newCell) (drop (suc q) run) = e ∙ drop-cons run q newCell (omega arith) in
+          let first : c' ≡ getD run q newCell = cc in
           let rest : cs ≡ drop (suc q) run = cc in
-          let there = cell-at q times places marks (omega arith) in
+          let there = loads .at q (omega arith) in
           let below : sizes (withCellsAll ts cs .0) ≡ getD ends q 0 - (q + 1) = omega (arith, sizes-with ts cs, ats-end kinds ns limits ends (suc q) ts (getD ends q 0) (v .1)) in
           let kind : code k ≡ getD kinds q 0 = sym (row-code kinds ns limits ends q k n l (count ts) (v .0)) in
           let place : inCell.placeOf c' 0 ≡ getD places q 0 = ap (λ (c : Cell). inCell.placeOf c 0) first ∙ there .place in
           let mark : inCell.markOf c' 0 ≡ getD marks q 0 = ap (λ (c : Cell). inCell.markOf c 0) first ∙ there .mark in
+          let made : inCell.anewOf c' 0 ≡ anew = ap (λ (c : Cell). inCell.anewOf c 0) first ∙ there .made in
           let behind : wordsAll (withCellsAll ts cs .0) post ≡ wordsFrom (q + 1) (sizes ts) ++ post = rw add-one (words-all-with (suc q) ts cs (getD ends q 0) post (v .1) rest (omega arith)) in
-          λ i. List._∷_ (pack (below i) (kind i) (place i) (mark i) 0) (behind i)
+          λ i. List._∷_ (pack (below i) (kind i) (place i) (mark i) (made i) 0) (behind i)
 
       words-all-with : (q : ℕ) (ts : Forest) (cs : List Cell) (stop : ℕ) (post : List ℕ)
           → Ats kinds ns limits ends q ts stop
@@ -327,49 +343,47 @@ settled front gap f x h =
     ∙ append-assoc nodes three (List._∷_ x List.[])
     ∙ append-assoc front (replicate gap 0) (three ++ List._∷_ x List.[])
 
-pub loaded : (kinds ns : List ℕ) (limits : List Float) (ends : List ℕ) (times : List Float) (places marks : List ℕ) (t : Tree) (fuel : ℕ) (b : Bool)
+pub loaded : (anew : Bool) (kinds ns : List ℕ) (limits : List Float) (ends places marks : List ℕ) (run : List Cell) (t : Tree) (fuel : ℕ) (b : Bool)
+    → Loads anew places marks run
     → At kinds ns limits ends 0 t
     → size t ≤ 256
-    → size t ≤ length times
-    → size t ≤ length places
-    → size t ≤ length marks
-    → set (set (loadWords kinds ends places marks 0 (size t) (replicate 260 0)) 256 fuel) 259 (bit b) ≡ working (withCells t (cells times places marks) .0) fuel 0 b
+    → size t ≤ length run
+    → set (set (loadWords anew kinds ends places marks 0 (size t) (replicate 260 0)) 256 fuel) 259 (bit b) ≡ working (withCells t run .0) fuel 0 b
 unfolding working behind
-loaded kinds ns limits ends times places marks t fuel b v few a c d =
+loaded anew kinds ns limits ends places marks run t fuel b loads v few long =
     let n = size t in
     let gap = 256 - n in
-    let cs = cells times places marks in
     let four : List ℕ = replicate 4 0 in
     let full : 260 ≡ n + (gap + 4) = omega arith in
-    let long : n ≤ length cs = long-cells n times places marks a c d in
-    ap (λ (z : ℕ). set (set (loadWords kinds ends places marks 0 n (replicate z 0)) 256 fuel) 259 (bit b)) full
-    ∙ ap (λ (l : List ℕ). set (set (loadWords kinds ends places marks 0 n l) 256 fuel) 259 (bit b))
+    ap (λ (z : ℕ). set (set (loadWords anew kinds ends places marks 0 n (replicate z 0)) 256 fuel) 259 (bit b)) full
+    ∙ ap (λ (l : List ℕ). set (set (loadWords anew kinds ends places marks 0 n l) 256 fuel) 259 (bit b))
     (sym (replicate-append-replicate n (gap + 4) 0) ∙ ap (λ (l : List ℕ). replicate n 0 ++ l) (sym (replicate-append-replicate gap 4 0)))
-    ∙ ap (λ (l : List ℕ). set (set l 256 fuel) 259 (bit b)) (load-run kinds ends places marks n 0 List.[] (replicate n 0) (replicate gap 0 ++ four) refl (length-replicate n 0))
-    ∙ settled (wordsFrom kinds ends places marks 0 n) gap fuel (bit b) (omega (arith, words-length kinds ends places marks n 0))
-    ∙ ap (λ (z : ℕ). wordsFrom kinds ends places marks 0 n ++ behind z fuel 0 0 b) (sym (size-with t cs))
-    ∙ sym (words-with kinds ends places marks ns limits times 0 t cs (behind (size (withCells t cs .0)) fuel 0 0 b) v refl (omega arith))
+    ∙ ap (λ (l : List ℕ). set (set l 256 fuel) 259 (bit b)) (load-run anew kinds ends places marks n 0 List.[] (replicate n 0) (replicate gap 0 ++ four) refl (length-replicate n 0))
+    ∙ settled (wordsFrom anew kinds ends places marks 0 n) gap fuel (bit b) (omega (arith, words-length anew kinds ends places marks n 0))
+    ∙ ap (λ (z : ℕ). wordsFrom anew kinds ends places marks 0 n ++ behind z fuel 0 0 b) (sym (size-with t run))
+    ∙ sym (words-with anew kinds ends places marks ns limits run loads 0 t run (behind (size (withCells t run .0)) fuel 0 0 b) v refl (omega arith))
 
 -- ---- what is put back
-module _ (f : ℕ → ℕ) (g : Cell → ℕ → ℕ) (same : (s : ℕ) (k : Kind) (c : Cell) (b : ℕ) → c .place < 256 → c .mark < 2 → f (pack s (code k) (c .place) (c .mark) b) ≡ g c b) where
+module _ {A : Type 0} (f : ℕ → A) (g : Cell → ℕ → A)
+    (same : (s : ℕ) (k : Kind) (c : Cell) (b : ℕ) → c .place < 256 → c .mark < 2 → f (pack s (code k) (c .place) (c .mark) (c .anew) b) ≡ g c b) where
   mutual
     unfolding words Fits size column
 
-    put-tree : (t : Tree) (n : ℕ) (post rest : List ℕ) → Fits t → size t ≤ 256
+    put-tree : (t : Tree) (n : ℕ) (post : List ℕ) (rest : List A) → Fits t → size t ≤ 256
         → map f (take (size t + n) (words t post)) ++ rest ≡ column g t (map f (take n post) ++ rest)
     put-tree (node k n' l c b ts) n post rest v h =
         let first = same (sizes ts) k c b (omega (arith, count-sizes ts, v .0 .0)) (v .0 .1) in
         let behind = put-trees ts n post rest (v .1) (omega arith) in
         rw (suc-add (sizes ts) n) (λ i. List._∷_ (first i) (behind i))
 
-    put-trees : (ts : Forest) (n : ℕ) (post rest : List ℕ) → FitsAll ts → sizes ts ≤ 256
+    put-trees : (ts : Forest) (n : ℕ) (post : List ℕ) (rest : List A) → FitsAll ts → sizes ts ≤ 256
         → map f (take (sizes ts + n) (wordsAll ts post)) ++ rest ≡ columns g ts (map f (take n post) ++ rest)
     put-trees [] n post rest v h = rw (zero-add n)
     put-trees (t ∷ ts) n post rest v h =
         rw (add-assoc (size t) (sizes ts) n)
-        (put-tree t (sizes ts + n) (wordsAll ts post) rest (v .0) (omega arith) ∙ ap (λ (l : List ℕ). column g t l) (put-trees ts n post rest (v .1) (omega arith)))
+        (put-tree t (sizes ts + n) (wordsAll ts post) rest (v .0) (omega arith) ∙ ap (λ (l : List A). column g t l) (put-trees ts n post rest (v .1) (omega arith)))
 
-  put-over : (t : Tree) (fuel used : ℕ) (b : Bool) (l : List ℕ) → Fits t → size t ≤ 256 → over f (size t) (working t fuel used b) l ≡ column g t (drop (size t) l)
+  put-over : (t : Tree) (fuel used : ℕ) (b : Bool) (l : List A) → Fits t → size t ≤ 256 → over f (size t) (working t fuel used b) l ≡ column g t (drop (size t) l)
   unfolding working
   put-over t fuel used b l v h = rw (add-zero (size t)) at (put-tree t 0 (behind (size t) fuel used 0 b) (drop (size t) l) v h)
 
@@ -377,16 +391,27 @@ pub put-places : (t : Tree) (f u : ℕ) (b : Bool) (l : List ℕ)
     → Fits t
     → size t ≤ 256
     → over inWord.placeOf (size t) (working t f u b) l ≡ column inCell.placeOf t (drop (size t) l)
-put-places t f u b l v h = put-over inWord.placeOf inCell.placeOf (λ s k c b small one. place-pack s k (c .place) (c .mark) b small) t f u b l v h
+put-places t f u b l v h = put-over inWord.placeOf inCell.placeOf (λ s k c b small one. place-pack s k (c .place) (c .mark) (c .anew) b small) t f u b l v h
 
 pub put-marks : (t : Tree) (f u : ℕ) (b : Bool) (l : List ℕ)
     → Fits t
     → size t ≤ 256
     → over inWord.markOf (size t) (working t f u b) l ≡ column inCell.markOf t (drop (size t) l)
-put-marks t f u b l v h = put-over inWord.markOf inCell.markOf (λ s k c b small one. mark-pack s k (c .place) (c .mark) b one) t f u b l v h
+put-marks t f u b l v h = put-over inWord.markOf inCell.markOf (λ s k c b small one. mark-pack s k (c .place) (c .mark) (c .anew) b one) t f u b l v h
 
 pub put-board : (t : Tree) (f u : ℕ) (b : Bool) (l : List ℕ)
     → Fits t
     → size t ≤ 256
     → over seenOf (size t) (working t f u b) l ≡ column boardOf t (drop (size t) l)
-put-board t f u b l v h = put-over seenOf boardOf (λ s k c b small one. seen-pack s k (c .place) (c .mark) b) t f u b l v h
+put-board t f u b l v h = put-over seenOf boardOf (λ s k c b small one. seen-pack s k (c .place) (c .mark) (c .anew) b) t f u b l v h
+
+-- the numbers of the cells
+pub put-sinces : (this : ℕ) (t : Tree) (f u : ℕ) (b : Bool) (l : List ℕ)
+    → Fits t
+    → size t ≤ 256
+    → stampedOver this (size t) (working t f u b) l ≡ stamped this (column inCell.anewOf t List.[]) l ++ drop (size t) l
+unfolding working
+put-sinces this t f u b l v h =
+    let all = put-tree inWord.anewOf inCell.anewOf (λ s k c b small one. anew-pack s k (c .place) (c .mark) (c .anew) b) t 0 (behind (size t) f u 0 b) List.[] v h in
+    let made : map inWord.anewOf (take (size t) (words t (behind (size t) f u 0 b))) ≡ column inCell.anewOf t List.[] = rw (add-zero (size t), append-nil) at all in
+    ap (λ (z : List Bool). stamped this z l ++ drop (size t) l) made

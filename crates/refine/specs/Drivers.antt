@@ -216,7 +216,7 @@ module _ (G : Given) (d : ℕ) (child : Ticker) (v : Visitor) (g : Ticks G d chi
   when-link (node kd m l c bd us ∷ ts) fr x all least (suc k) f u vs e n =
       let t : Tree = node kd m l c bd us in
       let small : c .mark < 2 = at-mark-small G (fr .q) kd m l c bd us d (vs .0) in
-      rw (lt-ltb (fr .q) (fr .stop) (ats-less G (fr .q) t ts (fr .stop) d vs), word-in fr ts f u t, mark-pack (sizes us) kd (c .place) (c .mark) bd small, unmarked (c .mark) small)
+      rw (lt-ltb (fr .q) (fr .stop) (ats-less G (fr .q) t ts (fr .stop) d vs), word-in fr ts f u t, mark-pack (sizes us) kd (c .place) (c .mark) (c .anew) bd small, unmarked (c .mark) small)
       (sim-unless (trees fr) (suc f) (eqb (c .mark) 1) _ _ _ _
       (rw (end-at fr ts f u t (vs .0), ← over-words fr t (vs .0) ts f u, ← over-times fr t (vs .0) ts)
       (keep-link fr t (vs .0) f f (omega arith) (whenAllFrom child (event G x) all least ts (worldAt G f u)) _

@@ -10,7 +10,7 @@ use lib.Ieee.{Float}
 use lib.ListN.{getD, set, length, length-reverseAux}
 use Rattle.rules.specs.declared.behavior.Kind.{Kind}
 use Rattle.rules.specs.Tree.{zeroTime, Cell, withTime, withPlace, withMark, Tree, node, Forest, [], _∷_, fresh, freshAll, mark, sizes, count}
-use Rattle.rules.specs.Cells.{placeOf, markOf}
+use Rattle.rules.specs.Cells.{placeOf, markOf, anewOf}
 use Rattle.work.specs.Word.{kindIn}
 use Rattle.work.specs.Array.{wordAt, endOf, setPlace, setSeen, setMark, freshWords, freshTimes, childFrom}
 use Rattle.refine.specs.Packed.{kind-pack, put-place, put-mark, put-seen}
@@ -92,7 +92,7 @@ module _ {G : Given} {d : ℕ} where
       word-in t = word-here (fr .before) (runs wordOf us (fr .behind)) (fr .q) (fr .words-before) (G .update) f u t
 
       pub kind-in : (k : Kind) (n : ℕ) (l : Float) (c : Cell) (bd : ℕ) (ts : Forest) → kindIn (wordAt (wordsIn fr (node k n l c bd ts ∷ us) f u) (fr .q)) ≡ k
-      kind-in k n l c bd ts = rw (word-in (node k n l c bd ts)) (kind-pack (sizes ts) k (placeOf c bd) (markOf c bd) bd)
+      kind-in k n l c bd ts = rw (word-in (node k n l c bd ts)) (kind-pack (sizes ts) k (placeOf c bd) (markOf c bd) (anewOf c bd) bd)
 
       word-put : (k : Kind) (n : ℕ) (l : Float) (c c' : Cell) (bd bd' : ℕ) (ts : Forest) (w : ℕ)
           → w ≡ wordOf (node k n l c' bd' ts)
@@ -107,13 +107,13 @@ module _ {G : Given} {d : ℕ} where
 
       module _ (k : Kind) (n : ℕ) (l : Float) (c : Cell) (bd : ℕ) (ts : Forest) where
         pub place-put : (i : ℕ) → setPlace (wordsIn fr (node k n l c bd ts ∷ us) f u) (fr .q) i ≡ wordsIn fr (node k n l (withPlace i c) bd ts ∷ us) f u
-        place-put i = rw (word-in (node k n l c bd ts)) (word-put k n l c (withPlace i c) bd bd ts _ (put-place (sizes ts) k (c .place) (c .mark) bd i))
+        place-put i = rw (word-in (node k n l c bd ts)) (word-put k n l c (withPlace i c) bd bd ts _ (put-place (sizes ts) k (c .place) (c .mark) (c .anew) bd i))
 
         pub mark-put : setMark (wordsIn fr (node k n l c bd ts ∷ us) f u) (fr .q) ≡ wordsIn fr (node k n l (withMark 1 c) bd ts ∷ us) f u
-        mark-put = rw (word-in (node k n l c bd ts)) (word-put k n l c (withMark 1 c) bd bd ts _ (put-mark (sizes ts) k (c .place) (c .mark) bd))
+        mark-put = rw (word-in (node k n l c bd ts)) (word-put k n l c (withMark 1 c) bd bd ts _ (put-mark (sizes ts) k (c .place) (c .mark) (c .anew) bd))
 
         pub seen-put : (i : ℕ) → i < 4 → setSeen (wordsIn fr (node k n l c bd ts ∷ us) f u) (fr .q) i ≡ wordsIn fr (node k n l c i ts ∷ us) f u
-        seen-put i j = rw (word-in (node k n l c bd ts)) (word-put k n l c c bd i ts _ (put-seen (sizes ts) k (c .place) (c .mark) bd i j))
+        seen-put i j = rw (word-in (node k n l c bd ts)) (word-put k n l c c bd i ts _ (put-seen (sizes ts) k (c .place) (c .mark) (c .anew) bd i j))
 
       pub marked-words : (t : Tree) → setMark (wordsIn fr (t ∷ us) f u) (fr .q) ≡ wordsIn fr (mark t ∷ us) f u
       marked-words (node k n l c bd ts) = mark-put k n l c bd ts

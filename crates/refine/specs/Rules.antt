@@ -101,7 +101,7 @@ module _ {G : Given} {d : ℕ} {k : Kind} {ts : Forest} (N : Node G d k ts) wher
     heads j f u o = record {
       ends = rw (node-words j f u) (end-at (N .fr) (N .us) f u (nodeOf (cellAt j) ts') (node-good (N .cell .time) j o));
       place = rw (node-words j f u, word-in (N .fr) (N .us) f u (nodeOf (cellAt j) ts'))
-          (place-pack (sizes ts') k j (N .cell .mark) (N .board) (omega (arith, count-sizes ts', ats-size G (suc q) ts' stop d vs, N .stands .room, G .room)));
+          (place-pack (sizes ts') k j (N .cell .mark) (N .cell .anew) (N .board) (omega (arith, count-sizes ts', ats-size G (suc q) ts' stop d vs, N .stands .room, G .room)));
       kept = node-put j j f u;
       first = add-one q;
     }
@@ -261,7 +261,7 @@ module _ {G : Given} {d : ℕ} {k : Kind} {c : Tree} {cs : Forest} (N : Node G d
 
     kind-at : (f' u' : ℕ) → kindIn (wordAt (wordsIn fr (t ∷ cs) f' u') p) ≡ k
     kind-at f' u' = rw (node-words N (t ∷ cs) vs (N .cell .place) f' u', word-in (N .fr) (N .us) f' u' (nodeOf N (cellAt N (N .cell .place)) (t ∷ cs)))
-        (kind-pack (sizes (t ∷ cs)) k (N .cell .place) (N .cell .mark) (N .board))
+        (kind-pack (sizes (t ∷ cs)) k (N .cell .place) (N .cell .mark) (N .cell .anew) (N .board))
 
     first-good : (x' : Float) → At G p (nodeOf N (withTime x' (N .cell)) (t ∷ cs)) (suc d)
     first-good x' = node-good N (t ∷ cs) vs x' (N .cell .place) (same-place N (t ∷ cs) vs)

@@ -14,7 +14,7 @@ use lib.Seq.{getD-at, set-at, getD-append-add}
 use Rattle.rules.specs.Kinds.{code}
 use Rattle.rules.specs.Tree.{zeroTime, Tree, node, Forest, [], _∷_, fresh, freshAll, size, sizes}
 use Rattle.rules.specs.Outcome.{eventOf, dt}
-use Rattle.rules.specs.Cells.{timeOf, placeOf, markOf}
+use Rattle.rules.specs.Cells.{timeOf, placeOf, markOf, anewOf}
 use Rattle.work.specs.Word.{freshWord}
 use Rattle.work.specs.Array.{wordAt, endOf, fuelOf, usedOf, askedOf, updates, passed, freshWords, freshTimes}
 use Rattle.refine.specs.Words.{pack, bit}
@@ -119,14 +119,14 @@ module _ {A : Type 0} (f : Tree → A) (d : A) (g : A → A) (clear : ℕ → �
 
 -- ---- words and times
 abbrev pub wordOf : Tree → ℕ
-wordOf (node k n l c b ts) = pack (sizes ts) (code k) (placeOf c b) (markOf c b) b
+wordOf (node k n l c b ts) = pack (sizes ts) (code k) (placeOf c b) (markOf c b) (anewOf c b) b
 
 abbrev pub timeIn : Tree → Float
 timeIn (node k n l c b ts) = timeOf c b
 
 word-clean : (t : Tree) → freshWord (wordOf t) ≡ wordOf (fresh t)
 unfolding fresh
-word-clean (node k n l c b ts) = rw (put-fresh (sizes ts) k (placeOf c b) (markOf c b) b, sizes-fresh ts)
+word-clean (node k n l c b ts) = rw (put-fresh (sizes ts) k (placeOf c b) (markOf c b) (anewOf c b) b, sizes-fresh ts)
 
 time-clean : (t : Tree) → zeroTime ≡ timeIn (fresh t)
 unfolding fresh
@@ -151,7 +151,7 @@ unrolled pre ts post b f u = aux-append pre (runs wordOf ts post) (tail b f u) �
 module _ (pre : List ℕ) (post : List ℕ) (q : ℕ) (h : length pre ≡ q) where
   pub end-in : (t : Tree) → q + size t ≤ 256 → endOf (reverseAux pre (run wordOf t post)) q ≡ q + size t
   unfolding endOf size run
-  end-in (node k n l c bd ts) j = rw (get-here pre (wordOf (node k n l c bd ts)) (runs wordOf ts post) q h 0, below-pack (sizes ts) k (placeOf c bd) (markOf c bd) bd (omega arith))
+  end-in (node k n l c bd ts) j = rw (get-here pre (wordOf (node k n l c bd ts)) (runs wordOf ts post) q h 0, below-pack (sizes ts) k (placeOf c bd) (markOf c bd) (anewOf c bd) bd (omega arith))
       (elim (decLt (q + 1 + sizes ts) 256) [
         | yes i ↦ rw (lt-ltb (q + 1 + sizes ts) 256 i) (omega arith)
         | no i ↦ rw (le-ltb (q + 1 + sizes ts) 256 (omega arith)) (omega arith)

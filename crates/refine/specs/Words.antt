@@ -10,24 +10,24 @@ use Rattle.rules.specs.declared.behavior.Kind.{Kind}
 use Rattle.rules.specs.Kinds.{code, fewest, most}
 use Rattle.rules.specs.Tree.{zeroTime, Cell, Tree, node, Forest, [], _∷_, size, sizes, count}
 use Rattle.rules.specs.Table.{cleaned}
-use Rattle.rules.specs.Cells.{placeOf, markOf}
-
--- the word of a node: nodes below it, kind, place, mark, board
-unfoldable pub pack : ℕ → ℕ → ℕ → ℕ → ℕ → ℕ
-pack below kind place mark seen = below % 256 + kind * 256 + place % 256 * 65536 + mark % 2 * 16777216 + seen * 33554432
-
--- the words of a tree in preorder, before `post`
-unfoldable mutual
-  pub words : Tree → List ℕ → List ℕ
-  words (node k n l c b ts) post = List._∷_ (pack (sizes ts) (code k) (placeOf c b) (markOf c b) b) (wordsAll ts post)
-
-  pub wordsAll : Forest → List ℕ → List ℕ
-  wordsAll [] post = post
-  wordsAll (t ∷ ts) post = words t (wordsAll ts post)
+use Rattle.rules.specs.Cells.{placeOf, markOf, anewOf}
 
 abbrev pub bit : Bool → ℕ
 bit true = 1
 bit false = 0
+
+-- the word of a node: nodes below it, kind, place, mark, whether it was made fresh, board
+unfoldable pub pack : ℕ → ℕ → ℕ → ℕ → Bool → ℕ → ℕ
+pack below kind place mark anew seen = below % 256 + kind * 256 + place % 256 * 65536 + mark % 2 * 16777216 + bit anew * 33554432 + seen * 67108864
+
+-- the words of a tree in preorder, before `post`
+unfoldable mutual
+  pub words : Tree → List ℕ → List ℕ
+  words (node k n l c b ts) post = List._∷_ (pack (sizes ts) (code k) (placeOf c b) (markOf c b) (anewOf c b) b) (wordsAll ts post)
+
+  pub wordsAll : Forest → List ℕ → List ℕ
+  wordsAll [] post = post
+  wordsAll (t ∷ ts) post = words t (wordsAll ts post)
 
 -- what stands behind the words of n nodes
 unfoldable pub behind : ℕ → ℕ → ℕ → ℕ → Bool → List ℕ

@@ -1,4 +1,4 @@
--- Document 01, "Trees to try": what calls of fresh trees say. The marked cases, the errors to shut out, some finish bounds and some boards, as one list.
+-- Document 01, "Trees to try": what calls of fresh trees say. The marked cases, the errors to shut out, some finish bounds, some boards and some numbers of cells, as one list.
 use mathlib.Core.Path.{_≡_, refl}
 use mathlib.Core.Bool.{true, false}
 use mathlib.Core.List.{List, map}
@@ -17,7 +17,7 @@ use Rattle.rules.specs.declared.answer.Answer.the-variants.{Ticked, Aske
 use Rattle.rules.specs.declared.answer.BoundAnswer.{BoundAnswer}
 use Rattle.rules.specs.declared.answer.BoundAnswer.the-variants.{Within, Never, NoBound}
 use Rattle.rules.specs.Kinds.{code, kindOf}
-use Rattle.rules.specs.Tree.{zeroTime, freshCell, Tree, node, Forest, [], _∷_, size, count}
+use Rattle.rules.specs.Tree.{zeroTime, newCell, Tree, node, Forest, [], _∷_, size, count}
 use Rattle.rules.specs.Outcome.{byte, largest}
 use Rattle.rules.specs.Cells.{column}
 use Rattle.rules.specs.Call.{run, Given, Left, tickCall}
@@ -32,7 +32,7 @@ minusZero = fin true 0 (pos 0)
 
 -- a fresh node with a limit
 abbrev timed : Kind → ℕ → Forest → Tree
-timed k l ts = node k (count ts) (sec l) freshCell 0 ts
+timed k l ts = node k (count ts) (sec l) newCell 0 ts
 
 abbrev of : Kind → Forest → Tree
 of k ts = timed k 0 ts
@@ -44,7 +44,7 @@ abbrev forever : Tree
 forever = of WaitForever []
 
 abbrev act : ℕ → Tree
-act n = node Action n zeroTime freshCell 0 []
+act n = node Action n zeroTime newCell 0 []
 
 -- a field of each node in preorder, before `behind`
 module _ {A : Type 0} (field : Kind → ℕ → Float → A) where
@@ -70,7 +70,7 @@ pub data Call : Type 0 where
 unfoldable pub atFirst : Tree → Left
 unfolding zeros
 atFirst t =
-    let cells = run (zeros zeroTime t) (zeros 0 t) (zeros 0 t) in
+    let cells = run (zeros zeroTime t) (zeros 0 t) (zeros 0 t) (zeros 0 t) in
     record { answer = OutOfFuel; record' = record { finished = false; ticks = 0 }; cells' = cells; spare = cells; board = zeros 0 t }
 
 -- each call takes up what the last one left
@@ -101,16 +101,23 @@ unfolding given tickCall
 seen t now List.[] = List.[]
 seen t now (List._∷_ c cs) = let next = tickCall (given t now c) in List._∷_ (next .board) (seen t next cs)
 
+-- the numbers of the cells after each call
+unfoldable pub numbered : Tree → Left → List Call → List (List ℕ)
+unfolding given tickCall
+numbered t now List.[] = List.[]
+numbered t now (List._∷_ c cs) = let next = tickCall (given t now c) in List._∷_ (next .cells' .sinces) (numbered t next cs)
+
 -- the finish bound of a step
 unfoldable pub bounds : Tree → ℕ → BoundAnswer
 unfolding fields boundCall
 bounds t d = boundCall (fields (λ k n l. code k) t List.[]) (fields (λ k n l. n) t List.[]) (fields (λ k n l. l) t List.[]) (sec d)
 
 -- ---- the list
--- ticks TREE CALLS ANSWERS; boards TREE CALLS BOARDS; bound TREE STEP ANSWER
+-- ticks TREE CALLS ANSWERS; boards TREE CALLS BOARDS; sinces TREE CALLS NUMBERS; bound TREE STEP ANSWER
 pub data Case : Type 0 where
   ticks : Tree → List Call → List Answer → Case
   boards : Tree → List Call → List (List ℕ) → Case
+  sinces : Tree → List Call → List (List ℕ) → Case
   bound : Tree → ℕ → BoundAnswer → Case
 
 pub data Shown : Type 0 where
@@ -119,14 +126,16 @@ pub data Shown : Type 0 where
   within : BoundAnswer → Shown
 
 unfoldable pub shown : Case → Shown
-unfolding said seen atFirst bounds
+unfolding said seen numbered atFirst bounds
 shown (ticks t cs a) = answers (said t (atFirst t) cs)
 shown (boards t cs b) = bytes (seen t (atFirst t) cs)
+shown (sinces t cs b) = bytes (numbered t (atFirst t) cs)
 shown (bound t d a) = within (bounds t d)
 
 abbrev pub expected : Case → Shown
 expected (ticks t cs a) = answers a
 expected (boards t cs b) = bytes b
+expected (sinces t cs b) = bytes b
 expected (bound t d a) = within a
 
 infixr 40 _and_
@@ -190,8 +199,8 @@ cases =
     -- minus zero is taken as plus zero: dt, limits and leftovers
     and one (act 1) (call (Update minusZero) 256 nil) (Asked 1 (sec 0))
     and one (act 1) (call (Update (sec 1)) 256 ((Success, minusZero) and nil)) (Ticked Success (sec 0) 1 1)
-    and ticks (node After 2 minusZero freshCell 0 (node Wait 0 minusZero freshCell 0 [] ∷ wait 5 ∷ [])) (update 1 and update 1 and nil) (says Running 0 3 and says Running 0 2 and nil)
-    and bound (node Wait 0 minusZero freshCell 0 []) 1 (Within 1)
+    and ticks (node After 2 minusZero newCell 0 (node Wait 0 minusZero newCell 0 [] ∷ wait 5 ∷ [])) (update 1 and update 1 and nil) (says Running 0 3 and says Running 0 2 and nil)
+    and bound (node Wait 0 minusZero newCell 0 []) 1 (Within 1)
     -- finish bounds; the ticks that follow some of them need all of the bound
     and bound loop 1 (Within 6)
     and bound (of Sequence (wait 1 ∷ loop ∷ [])) 1 (Within 7)
@@ -227,6 +236,14 @@ cases =
     and boards (of While (wait 2 ∷ of Sequence (wait 1 ∷ wait 9 ∷ []) ∷ []))
     (update 1 and update 1 and nil)
     ((1 and 1 and 1 and 2 and 1 and nil) and (2 and 2 and 0 and 2 and 0 and nil) and nil)
+    -- since when: the child left behind and the next one are made fresh, and the last keeps its number
+    and sinces (of Sequence (wait 1 ∷ wait 1 ∷ wait 1 ∷ []))
+    (update 1 and other and update 1 and update 1 and nil)
+    ((0 and 1 and 1 and 0 and nil) and (0 and 1 and 1 and 0 and nil) and (0 and 1 and 3 and 3 and nil) and (0 and 1 and 3 and 3 and nil) and nil)
+    -- a child that is marked has the number of the tick that marked it, with all below it
+    and sinces (of WhenAny (failing ∷ forever ∷ [])) (other and update 1 and update 1 and nil) ((0 and 0 and 0 and 0 and nil) and (0 and 2 and 2 and 0 and nil) and (0 and 2 and 2 and 0 and nil) and nil)
+    -- memoryless children have it anew at each tick; a question leaves it
+    and sinces (of MemorylessSequence (wait 1 ∷ act 1 ∷ [])) (other and update 1 and other and nil) ((0 and 1 and 1 and nil) and (0 and 1 and 1 and nil) and (0 and 2 and 2 and nil) and nil)
     and nil
 
 pub trees-to-try : map shown cases ≡ map expected cases

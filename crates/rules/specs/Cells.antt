@@ -11,9 +11,9 @@ use Rattle.rules.specs.Kinds.{timed, marksChildren}
 use Rattle.rules.specs.Tree.{Cell, Tree, node, Forest, [], _∷_}
 use Rattle.rules.specs.Table.{zeroBits}
 
--- a cell as it is lent
+-- a cell as it is lent; no tick goes on
 abbrev pub cellOf : Float → ℕ → ℕ → Cell
-cellOf x p m = record { time = x; place = p; mark = m }
+cellOf x p m = record { time = x; place = p; mark = m; anew = false }
 
 -- a run of cells, lent as three slices, is as long as the shortest
 unfoldable pub cells : List Float → List ℕ → List ℕ → List Cell
@@ -50,6 +50,9 @@ placeOf c b = c .place
 
 abbrev pub markOf : Cell → ℕ → ℕ
 markOf c b = c .mark
+
+abbrev pub anewOf : Cell → ℕ → Bool
+anewOf c b = c .anew
 
 abbrev pub boardOf : Cell → ℕ → ℕ
 boardOf c b = b

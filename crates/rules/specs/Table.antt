@@ -8,7 +8,7 @@ use lib.Dec.{leb, ltb, eqb}
 use lib.Ieee.{Float, nan, inf, fin}
 use Rattle.rules.specs.declared.behavior.Kind.{Kind}
 use Rattle.rules.specs.Kinds.{kindOf, fewest, most, children, timed}
-use Rattle.rules.specs.Tree.{zeroTime, freshCell, Tree, node, Forest, [], _∷_}
+use Rattle.rules.specs.Tree.{zeroTime, newCell, Tree, node, Forest, [], _∷_}
 
 abbrev pub mostNodes : ℕ
 mostNodes = 256
@@ -73,16 +73,16 @@ module _ (readChild : ℕ → List Row → Read Tree) where
   readChildren zero at rs = got [] at rs
   readChildren (suc n) at rs = readChild at rs andThen λ t at' rs'. readChildren n at' rs' andThen λ ts at'' rs''. got (t ∷ ts) at'' rs''
 
--- the tree that begins at a place, with `deep` levels left; its cells are fresh
+-- the tree that begins at a place, with `deep` levels left; its cells are those of a new tree
 unfoldable pub readTree : ℕ → ℕ → List Row → Read Tree
 unfolding readChildren rowAllowed
 readTree zero at rs = fault at
 readTree (suc deep) at List.[] = fault at
 readTree (suc deep) at (List._∷_ (row k n l) rs) = cond (ltb at mostNodes && rowAllowed k n l)
-    (readChildren (readTree deep) (children (kindOf k) n) (suc at) rs andThen λ ts at' rs'. got (node (kindOf k) n l freshCell 0 ts) at' rs')
+    (readChildren (readTree deep) (children (kindOf k) n) (suc at) rs andThen λ ts at' rs'. got (node (kindOf k) n l newCell 0 ts) at' rs')
     (fault at)
 
--- "The table holds exactly the root's subtree": the fresh tree, or the smallest faulty place
+-- "The table holds exactly the root's subtree": the new tree, or the smallest faulty place
 pub data Table : Type 0 where
   good : Tree → Table
   bad : ℕ → Table

@@ -1,5 +1,5 @@
 -- The tree with its cells and its board: document 01, "The tree and its cells".
-use mathlib.Core.Bool.{Bool, false}
+use mathlib.Core.Bool.{Bool, true, false}
 use Prim.Native.Nat.{ℕ, suc, _+_, max}
 use lib.Dec.{eqb}
 use lib.IntN.{pos}
@@ -9,24 +9,33 @@ use Rattle.rules.specs.declared.behavior.Kind.{Kind}
 abbrev pub zeroTime : Float
 zeroTime = fin false 0 (pos 0)
 
--- a time, a place and a mark
+-- a time, a place and a mark; and whether it was made fresh in the tick that goes on
 pub record Cell : Type 0 where
   pub time : Float
   pub place : ℕ
   pub mark : ℕ
+  pub anew : Bool
 
 abbrev pub withTime : Float → Cell → Cell
-withTime x c = record { time = x; place = c .place; mark = c .mark }
+withTime x c = record { time = x; place = c .place; mark = c .mark; anew = c .anew }
 
 abbrev pub withPlace : ℕ → Cell → Cell
-withPlace p c = record { time = c .time; place = p; mark = c .mark }
+withPlace p c = record { time = c .time; place = p; mark = c .mark; anew = c .anew }
 
 abbrev pub withMark : ℕ → Cell → Cell
-withMark m c = record { time = c .time; place = c .place; mark = m }
+withMark m c = record { time = c .time; place = c .place; mark = m; anew = c .anew }
 
 -- "fresh is all zero"
+abbrev zeroCell : Bool → Cell
+zeroCell a = record { time = zeroTime; place = 0; mark = 0; anew = a }
+
+-- a cell that a tick makes fresh
 abbrev pub freshCell : Cell
-freshCell = record { time = zeroTime; place = 0; mark = 0 }
+freshCell = zeroCell true
+
+-- the cell of a new tree
+abbrev pub newCell : Cell
+newCell = zeroCell false
 
 infixr 50 _∷_
 -- node KIND N LIMIT CELL BOARD CHILDREN

@@ -2,13 +2,20 @@
 use crate::status::Status;
 ghost use mathlib.Core.Path.{_≡_};
 ghost use Rattle.rules.specs.Tree.{zeroTime};
-ghost use Rattle.rules.specs.Call.{numbers, saidOf};
+ghost use Rattle.rules.specs.Call.{age, numbers, saidOf};
 
 // Finished, and how many ticks were carried out.
 #[repr(C)]
 pub struct Record {
     pub finished: bool,
     pub ticks: u64,
+}
+
+// How many ticks ago a cell was made fresh: the tick count less its number, with wrap.
+pub fn age(ticks: u64, since: u64) -> u64
+    ensures { λ r. ⌜ r ≡ age ticks since ⌝ }
+{
+    std::num::wrapping_sub_u64(ticks, since)
 }
 
 // What a tick and a restart can say, as a case for each number.

@@ -10,6 +10,7 @@ pub use answer::Answer;
 pub use answer::BoundAnswer;
 pub use answer::Record;
 pub use answer::Said;
+pub use answer::age;
 pub use behavior::Kind;
 pub use event::Event;
 pub use number::cleaned;

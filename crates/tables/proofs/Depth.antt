@@ -8,7 +8,7 @@ use native.Mathlib.Omega.{arith}
 use lib.Dec.{ltb}
 use lib.Ieee.{Float}
 use Rattle.rules.specs.Kinds.{kindOf, children}
-use Rattle.rules.specs.Tree.{freshCell, Tree, node, Forest, [], _∷_, depth, depths}
+use Rattle.rules.specs.Tree.{newCell, Tree, node, Forest, [], _∷_, depth, depths}
 use Rattle.rules.specs.Table.{row, rowAllowed, Row, Read, got, fault, _andThen_, readChildren, readTree}
 
 abbrev Bounded : ℕ → Read Tree → Type 0
@@ -49,7 +49,7 @@ module _ (d : ℕ) where
   picked true r p h = h
   picked false r p h = tt
 
-  node-depth : (k n : ℕ) (l : Float) (ts : Forest) → depth (node (kindOf k) n l freshCell 0 ts) ≡ suc (depths ts)
+  node-depth : (k n : ℕ) (l : Float) (ts : Forest) → depth (node (kindOf k) n l newCell 0 ts) ≡ suc (depths ts)
   unfolding depth
   node-depth k n l ts = refl
 
@@ -60,7 +60,7 @@ bounded (suc d) at List.[] = tt
 bounded (suc d) at (List._∷_ (row k n l) rs) =
     let m = children (kindOf k) n in
     let r = readChildren (readTree d) m (suc at) rs in
-    let mk : Forest → Tree = λ ts. node (kindOf k) n l freshCell 0 ts in
+    let mk : Forest → Tree = λ ts. node (kindOf k) n l newCell 0 ts in
     let below = made d mk (node-depth d k n l) r (all-bounded d (readTree d) (bounded d) m (suc at) rs) in
     picked d (ltb at 256 && rowAllowed k n l) (r andThen λ ts at' rs'. got (mk ts) at' rs') at below
 

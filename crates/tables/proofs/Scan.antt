@@ -13,7 +13,7 @@ use lib.ListN.{length, getD, set, drop, drop-of-length-le}
 use lib.Seq.{getD-set-same, getD-set-other}
 use Rattle.rules.specs.declared.behavior.Kind.{Kind}
 use Rattle.rules.specs.Kinds.{kindOf, children}
-use Rattle.rules.specs.Tree.{zeroTime, freshCell, Tree, node, Forest, [], _∷_, size, count}
+use Rattle.rules.specs.Tree.{zeroTime, newCell, Tree, node, Forest, [], _∷_, size, count}
 use Rattle.rules.specs.Table.{cleaned, row, rows, rowAllowed, Read, got, fault, _andThen_, readChildren, readTree}
 use Rattle.rules.specs.Table as T
 use Rattle.tables.specs.At.{Row, At, Ats}
@@ -47,7 +47,7 @@ count-onto (t ∷ kids) ts = omega (arith, count-onto kids (t ∷ ts))
 
 -- a node as a table makes it
 abbrev made : Kind → ℕ → Float → Forest → Tree
-made k n l ts = node k n l freshCell 0 ts
+made k n l ts = node k n l newCell 0 ts
 
 -- what is read once the next tree is, d levels below
 unfoldable resume : ℕ → List Frame → Read Tree → Read Tree

@@ -1,5 +1,7 @@
--- The word of a node, from its low end: nodes below it 8 bits, kind 8, place 8, mark 1, status of the last visit 2.
+-- The word of a node, from its low end: nodes below it 8 bits, kind 8, place 8, mark 1, whether it was made fresh in this tick 1, status of the last visit 2.
+use mathlib.Core.Bool.{Bool}
 use Prim.Native.Nat.{ℕ, _+_, _*_, _/_, _%_}
+use lib.Dec.{eqb}
 use Rattle.rules.specs.declared.behavior.Kind.{Kind}
 use Rattle.rules.specs.Kinds.{kindOf}
 
@@ -18,8 +20,11 @@ placeOf w = w / 65536 % 256
 unfoldable pub markOf : ℕ → ℕ
 markOf w = w / 16777216 % 2
 
+unfoldable pub anewOf : ℕ → Bool
+anewOf w = eqb (w / 33554432 % 2) 1
+
 unfoldable pub seenOf : ℕ → ℕ
-seenOf w = w / 33554432
+seenOf w = w / 67108864
 
 unfoldable pub withPlace : ℕ → ℕ → ℕ
 withPlace w i = w % 65536 + i % 256 * 65536 + w / 16777216 * 16777216
@@ -28,8 +33,8 @@ unfoldable pub withMark : ℕ → ℕ
 withMark w = w % 16777216 + 16777216 + w / 33554432 * 33554432
 
 unfoldable pub withSeen : ℕ → ℕ → ℕ
-withSeen w s = w % 33554432 + s % 4 * 33554432
+withSeen w s = w % 67108864 + s % 4 * 67108864
 
--- place and mark are 0
+-- place and mark are 0, and it was made fresh
 unfoldable pub freshWord : ℕ → ℕ
-freshWord w = w % 65536 + w / 33554432 * 33554432
+freshWord w = w % 65536 + 33554432 + w / 67108864 * 67108864

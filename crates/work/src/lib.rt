@@ -37,6 +37,7 @@ pub use result::Seen;
 pub use result::smaller;
 pub use result::stopped;
 pub use result::waiting;
+pub use word::anew_of;
 pub use word::below_of;
 pub use word::kind_of;
 pub use word::mark_of;

@@ -9,6 +9,7 @@ mod figures;
 mod ours;
 mod random;
 mod sample;
+mod since;
 mod small;
 mod theirs;
 mod tree;

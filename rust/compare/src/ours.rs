@@ -1,6 +1,7 @@
 //! This library, with all the memory that it is lent, and what each call must leave there.
 
 use crate::theirs::{Ev, Left, Theirs};
+use crate::tree::Tree;
 use lemboraw::raw::{self, Record, Said, Table};
 
 /// Cells of a tree, and perhaps of more room behind them.
@@ -9,23 +10,22 @@ pub struct Cells {
     pub times: Vec<f64>,
     pub places: Vec<u16>,
     pub marks: Vec<u8>,
+    pub sinces: Vec<u64>,
 }
 
 impl Cells {
     pub fn fresh(len: usize) -> Self {
-        Cells { times: vec![0.0; len], places: vec![0; len], marks: vec![0; len] }
+        Cells { times: vec![0.0; len], places: vec![0; len], marks: vec![0; len], sinces: vec![0; len] }
     }
 
     /// What may lie in memory before the library writes there.
     pub fn rubbish(len: usize) -> Self {
-        Cells { times: vec![-123.456; len], places: vec![0xbeef; len], marks: vec![0xcd; len] }
-    }
-
-    /// Makes the first `len` cells fresh.
-    pub fn clear(&mut self, len: usize) {
-        self.times[..len].fill(0.0);
-        self.places[..len].fill(0);
-        self.marks[..len].fill(0);
+        Cells {
+            times: vec![-123.456; len],
+            places: vec![0xbeef; len],
+            marks: vec![0xcd; len],
+            sinces: vec![0xfeed_f00d; len],
+        }
     }
 
     /// Takes over the first `len` cells of another.
@@ -33,6 +33,7 @@ impl Cells {
         self.times[..len].copy_from_slice(&from.times[..len]);
         self.places[..len].copy_from_slice(&from.places[..len]);
         self.marks[..len].copy_from_slice(&from.marks[..len]);
+        self.sinces[..len].copy_from_slice(&from.sinces[..len]);
     }
 
     fn copy_all(&mut self, from: &Cells) {
@@ -40,13 +41,19 @@ impl Cells {
     }
 
     pub fn lend(&mut self) -> raw::Cells<'_> {
-        raw::Cells { times: &mut self.times, places: &mut self.places, marks: &mut self.marks }
+        raw::Cells {
+            times: &mut self.times,
+            places: &mut self.places,
+            marks: &mut self.marks,
+            sinces: &mut self.sinces,
+        }
     }
 
     /// Equal bit by bit.
     fn same(&self, other: &Cells) -> bool {
         self.places == other.places
             && self.marks == other.marks
+            && self.sinces == other.sinces
             && self.times.iter().zip(&other.times).all(|(a, b)| a.to_bits() == b.to_bits())
     }
 }
@@ -60,12 +67,12 @@ pub struct Call<'a> {
     pub fuel: u32,
     pub statuses: &'a [u8],
     pub leftovers: &'a [f64],
-    /// How much is lent of times, places, marks, the same of the spare, and the board; more than
-    /// there is means all.
-    pub lent: [usize; 7],
+    /// How much is lent of times, places, marks, sinces, the same of the spare, and the board; more
+    /// than there is means all.
+    pub lent: [usize; 9],
 }
 
-pub const ALL: [usize; 7] = [usize::MAX; 7];
+pub const ALL: [usize; 9] = [usize::MAX; 9];
 
 /// All that a call can change.
 #[derive(Clone)]
@@ -105,12 +112,13 @@ pub struct Ours {
 }
 
 impl Ours {
-    /// A fresh tree of `len` nodes, in memory for `more` beyond them.
-    pub fn new(len: usize, more: usize, ticks: u64) -> Self {
+    /// A tree as new as bonsai's, in memory for `more` nodes beyond its own.
+    pub fn new(tree: &Tree, more: usize, theirs: &Theirs) -> Self {
+        let len = tree.len();
         let mut cells = Cells::rubbish(len + more);
-        cells.clear(len);
+        cells.copy(&theirs.left(tree).cells, len);
         let now = Memory {
-            record: Record { finished: false, ticks },
+            record: Record { finished: false, ticks: theirs.bt.tick_count },
             cells,
             spare: Cells::rubbish(len + more),
             board: vec![0xab; len + more],
@@ -152,13 +160,15 @@ impl Ours {
                 times: &mut now.cells.times[..cut(0, all)],
                 places: &mut now.cells.places[..cut(1, all)],
                 marks: &mut now.cells.marks[..cut(2, all)],
+                sinces: &mut now.cells.sinces[..cut(3, all)],
             },
             raw::Cells {
-                times: &mut now.spare.times[..cut(3, all)],
-                places: &mut now.spare.places[..cut(4, all)],
-                marks: &mut now.spare.marks[..cut(5, all)],
+                times: &mut now.spare.times[..cut(4, all)],
+                places: &mut now.spare.places[..cut(5, all)],
+                marks: &mut now.spare.marks[..cut(6, all)],
+                sinces: &mut now.spare.sinces[..cut(7, all)],
             },
-            &mut now.board[..cut(6, all)],
+            &mut now.board[..cut(8, all)],
             call.ev.dt(),
             call.fuel,
             call.statuses,

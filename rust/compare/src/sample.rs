@@ -77,7 +77,7 @@ fn run(random: &mut Random) -> Option<Run> {
             // The Rust says None; then it is reset and ticked.
             call(&mut run.stdin, "02", ev, &[]);
             line(&mut run.stdout, format_args!("82 02 00 {:016x} {:08x} 0000 0000", 0, 0));
-            theirs.bt.reset_bt();
+            theirs.reset();
         }
         let before = theirs.left(&tree).cells;
         let (asks, says) = if restart { ("03", "83") } else { ("02", "82") };
@@ -97,7 +97,7 @@ fn run(random: &mut Random) -> Option<Run> {
             &mut run.stdout,
             format_args!("{says} 00 {:02x} {bits:016x} {visits:08x} {used:04x} 0000", number(status)),
         );
-        theirs.tick(ev, &watched).ok()?;
+        theirs.tick(&tree, ev, &watched).ok()?;
         let after = theirs.left(&tree).cells;
         show(&mut run.shown, &tree, ev, &theirs.seen.board, &before, &after);
     }

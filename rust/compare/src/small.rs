@@ -73,7 +73,11 @@ struct Point {
 /// Follows a tree through every answer and event. States that meet again are followed once.
 pub fn explore(nodes: &[Node], count: &mut Count) -> Result<(), String> {
     let tree = Tree::new(nodes);
-    let mut level = vec![Point { theirs: Theirs::new(&tree), ours: Ours::new(tree.len(), 1, 0) }];
+    let mut theirs = Theirs::new(&tree);
+    // The ticks are numbered 2^64 - 1, 0 and 1; before them each node has a number of its own.
+    theirs.bt.tick_count = u64::MAX - 1;
+    theirs.since.numbers = (0..tree.len() as u64).map(|place| 100 + place).collect();
+    let mut level = vec![Point { ours: Ours::new(&tree, 1, &theirs), theirs }];
     for _ in 0..TICKS {
         let mut next = vec![];
         for point in &mut level {
@@ -107,7 +111,7 @@ fn follow(tree: &Tree, point: &mut Point, ev: Ev, next: &mut Vec<Point>, count: 
             let visits = visits as u32;
             call(tree, &mut point.ours, false, ev, trace, visits - 1, all, None, count)?;
             let mut after = point.clone();
-            after.theirs.tick(ev, &watched)?;
+            after.theirs.tick(tree, ev, &watched)?;
             let left = after.theirs.left(tree);
             let fuel = visits + all as u32 % 2;
             call(tree, &mut after.ours, false, ev, trace, fuel, all, Some((&after.theirs, &left)), count)?;
@@ -154,7 +158,7 @@ fn again(tree: &Tree, point: Point, ev: Ev, count: &mut Count) -> Result<(), Str
     if ev != Ev::Other {
         ours.cells_mut().copy(&Cells::rubbish(tree.len()), tree.len());
     }
-    theirs.bt.reset_bt();
+    theirs.reset();
     let watched = theirs.watch(tree, ev, FUEL, &mut |k| ANSWERS[k % ANSWERS.len()]);
     let trace = &watched.trace;
     let all = trace.asks.len();
@@ -164,7 +168,7 @@ fn again(tree: &Tree, point: Point, ev: Ev, count: &mut Count) -> Result<(), Str
     match trace.end.filter(|end| end.1 <= u64::from(FUEL)) {
         Some((_, visits)) => {
             call(tree, &mut ours, true, ev, trace, visits as u32 - 1, all, None, count)?;
-            theirs.tick(ev, &watched)?;
+            theirs.tick(tree, ev, &watched)?;
             let left = theirs.left(tree);
             call(tree, &mut ours, true, ev, trace, visits as u32, all, Some((&theirs, &left)), count)
         }

@@ -1,6 +1,7 @@
 //! bonsai, watched.
 
 use crate::ours::Cells;
+use crate::since::Since;
 use crate::state::State;
 use crate::tracer::{NodeMeta, Tracer};
 use crate::tree::{Act, Tree, MEMORYLESS_SELECTOR, MEMORYLESS_SEQUENCE};
@@ -106,6 +107,7 @@ impl Trace {
 pub struct Theirs {
     pub bt: BT<Act, ()>,
     pub seen: Seen,
+    pub since: Since,
     metas: Rc<[NodeMeta]>,
 }
 
@@ -115,7 +117,7 @@ pub struct Seen {
     /// The status of each node's last visit, 0 for those not visited.
     pub board: Vec<u8>,
     /// For each memoryless node the child that its cursor stands on: bonsai's state does not say.
-    cursors: Vec<usize>,
+    pub cursors: Vec<usize>,
 }
 
 /// What a tick leaves, as this library lays it out: bonsai's state as cells, and the board.
@@ -166,11 +168,18 @@ impl Tracer for Watch<'_> {
 
 impl Theirs {
     pub fn new(tree: &Tree) -> Self {
+        let seen = Seen { board: vec![0; tree.len()], cursors: vec![0; tree.len()] };
         Theirs {
             bt: BT::new(tree.behavior(0), ()),
-            seen: Seen { board: vec![0; tree.len()], cursors: vec![0; tree.len()] },
+            since: Since::new(tree, &seen),
+            seen,
             metas: (0..tree.len()).map(|p| NodeMeta { subtree_size: tree.ends[p] - p }).collect(),
         }
+    }
+
+    pub fn reset(&mut self) {
+        self.bt.reset_bt();
+        self.since.reset();
     }
 
     /// Ticks a copy of the state, with answers made as they are asked for, and stops past `most`
@@ -198,27 +207,29 @@ impl Theirs {
     }
 
     /// Ticks by `BT::tick` itself, and takes over what the watched copy showed besides.
-    pub fn tick(&mut self, ev: Ev, watched: &Watched) -> Result<(), String> {
+    pub fn tick(&mut self, tree: &Tree, ev: Ev, watched: &Watched) -> Result<(), String> {
         let mut given = watched.trace.answers.iter();
         let result = self.bt.tick(&ev.cleaned(), &mut |_: ActionArgs<Ev, Act>, _: &mut ()| {
             given.next().map_or((Status::Running, 0.0), |&(status, left)| (status, cleaned(left)))
         });
         self.seen.clone_from(&watched.seen);
-        if result == watched.trace.end.map(|end| end.0) && self.bt.state == watched.state {
-            Ok(())
-        } else {
-            Err("bonsai ticked and bonsai watched differ".to_string())
+        if result != watched.trace.end.map(|end| end.0) || self.bt.state != watched.state {
+            return Err("bonsai ticked and bonsai watched differ".to_string());
         }
+        self.since.tick(tree, &self.seen, ev.cleaned(), &watched.trace, self.bt.tick_count)
     }
 
     /// Whether another state was reached.
     pub fn state_differs(&self, other: &Theirs) -> bool {
-        self.bt.state != other.bt.state || self.seen.cursors != other.seen.cursors
+        self.bt.state != other.bt.state
+            || self.seen.cursors != other.seen.cursors
+            || self.since.numbers != other.since.numbers
     }
 
     /// What the last tick left.
     pub fn left(&self, tree: &Tree) -> Left {
         let mut left = Left { cells: Cells::fresh(tree.len()), board: self.seen.board.clone() };
+        left.cells.sinces.clone_from(&self.since.numbers);
         self.decode(tree, &self.bt.state, 0, &mut left);
         left
     }

@@ -90,6 +90,12 @@ impl Tree {
         }
     }
 
+    /// The places of a node's children.
+    pub fn places(&self, place: usize) -> impl Iterator<Item = usize> + '_ {
+        let inside = move |q: &usize| *q < self.ends[place];
+        std::iter::successors(Some(place + 1).filter(inside), move |&q| Some(self.ends[q]).filter(inside))
+    }
+
     /// The place of a node's child.
     pub fn child(&self, place: usize, index: usize) -> usize {
         (0..index).fold(place + 1, |q, _| self.ends[q])
@@ -101,10 +107,16 @@ impl Tree {
 
     /// The subtree at a place in bonsai's words.
     pub fn behavior(&self, place: usize) -> Behavior<Act> {
-        let child = |i| Box::new(self.behavior(self.child(place, i)));
-        let all = || self.body(place, 0);
+        self.behavior_under(place, &|node| node)
+    }
+
+    /// The same with something above each node.
+    pub fn behavior_under(&self, place: usize, above: &dyn Fn(Behavior<Act>) -> Behavior<Act>) -> Behavior<Act> {
+        let child = |i| Box::new(self.behavior_under(self.child(place, i), above));
+        let from = |i| self.places(place).skip(i).map(|q| self.behavior_under(q, above)).collect();
+        let all = || from(0);
         let limit = cleaned(self.limits[place]);
-        match self.kinds[place] {
+        above(match self.kinds[place] {
             0 => Behavior::Wait(limit),
             1 => Behavior::WaitForever,
             2 => Behavior::Action(Act { number: self.ns[place], depth: self.depths[place] }),
@@ -116,25 +128,13 @@ impl Tree {
             8 => Behavior::Sequence(all()),
             9 => Behavior::Sequence(all()).memory(false),
             10 => Behavior::Select(all()).memory(false),
-            11 => Behavior::While(child(0), self.body(place, 1)),
-            12 => Behavior::WhileAll(child(0), self.body(place, 1)),
+            11 => Behavior::While(child(0), from(1)),
+            12 => Behavior::WhileAll(child(0), from(1)),
             13 => Behavior::WhenAll(all()),
             14 => Behavior::WhenAny(all()),
             15 => Behavior::After(all()),
             _ => Behavior::Race(all()),
-        }
-    }
-
-    fn body(&self, place: usize, from: usize) -> Vec<Behavior<Act>> {
-        let mut children = vec![];
-        let mut q = place + 1;
-        for i in 0..self.children(place) {
-            if i >= from {
-                children.push(self.behavior(q));
-            }
-            q = self.ends[q];
-        }
-        children
+        })
     }
 
     /// A tree of up to `most` nodes and 16 levels, with limits from `limit`.

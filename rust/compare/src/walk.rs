@@ -69,10 +69,15 @@ pub fn batch(seed: u64, number: u64, count: &mut Count) -> Result<(), String> {
 fn walk(tree: &Tree, source: Source, random: &mut Random, count: &mut Count) -> Result<(), String> {
     let mut theirs = Theirs::new(tree);
     // Some trees have ticked nearly forever, so that the count goes round.
-    theirs.bt.tick_count = random.pick(&[0, 0, 5, u64::MAX - 1, u64::MAX]);
-    let mut ours = Ours::new(tree.len(), random.below(3), theirs.bt.tick_count);
+    theirs.bt.tick_count = random.pick(&[0, 0, 5, u64::MAX - 6, u64::MAX - 1, u64::MAX]);
+    // In a new tree every since is 0; any number is taken.
+    if random.one_in(2) {
+        let any = random.next();
+        theirs.since.numbers.fill_with(|| random.pick(&[0, 1, 6, u64::MAX - 2, u64::MAX, any]));
+    }
+    let mut ours = Ours::new(tree, random.below(3), &theirs);
     // The crate walks once for each action that is asked: small trees show the same in less time.
-    let mut wrapped = if tree.len() <= 40 { Some(Wrapped::new(tree)?) } else { None };
+    let mut wrapped = if tree.len() <= 40 { Some(Wrapped::new(tree, &theirs)?) } else { None };
     // Some hosts say Running most of the time, so that trees grow old.
     let patient = random.one_in(2);
     // Room for some rounds of a loop.
@@ -92,7 +97,7 @@ fn walk(tree: &Tree, source: Source, random: &mut Random, count: &mut Count) -> 
         let before = restart.then(|| (theirs.clone(), ours.clone()));
         if restart {
             // In the Rust the pair of both.
-            theirs.bt.reset_bt();
+            theirs.reset();
             if random.one_in(2) {
                 spoil(ours.cells_mut(), tree.len(), random);
             }
@@ -112,11 +117,11 @@ fn walk(tree: &Tree, source: Source, random: &mut Random, count: &mut Count) -> 
             Some((_, visits)) if visits <= u64::from(most) => {
                 let visits = visits as u32;
                 call(tree, &mut ours, restart, ev, trace, visits - 1, all, 0, None, count)?;
-                theirs.tick(ev, &watched)?;
+                theirs.tick(tree, ev, &watched)?;
                 let left = theirs.left(tree);
                 if let Some(wrapped) = &mut wrapped {
                     let again = [How::Restart, How::ResetAndTick];
-                    wrapped.call(if restart { random.pick(&again) } else { How::Tick }, ev, trace)?;
+                    wrapped.call(if restart { random.pick(&again) } else { How::Tick }, ev, trace, &theirs)?;
                 }
                 let fuel = random.pick(&[visits, visits, visits + 1, u32::MAX]);
                 let unused = random.pick(&[0, 0, 0, 3]);
@@ -150,6 +155,7 @@ fn spoil(cells: &mut Cells, len: usize, random: &mut Random) {
             cells.times[place] = f64::from_bits(random.next());
             cells.places[place] = random.next() as u16;
             cells.marks[place] = random.next() as u8;
+            cells.sinces[place] = random.next();
         }
     }
 }
@@ -202,7 +208,7 @@ fn spoiled(
                 statuses[index] = random.pick(&[0, 4, 255, 2]);
                 leftovers[index] = random.pick(&[0.0, no_time[index], no_time[index + 3]]);
             }
-            2 => lent[random.below(7)] = random.pick(&[0, len - 1, len]),
+            2 => lent[random.below(9)] = random.pick(&[0, len - 1, len]),
             3 => {
                 let cells = ours.cells_mut();
                 match random.below(3) {

@@ -1,9 +1,9 @@
 //! The Rust crate over the library, as a host uses it.
 
-use crate::theirs::{Ev, Trace};
+use crate::theirs::{Ev, Theirs, Trace};
 use crate::tree::Tree;
 use crate::Status;
-use lemboraw::{ActionArgs, Behavior, Event, UpdateArgs, BT};
+use lemboraw::{ActionArgs, Behavior, Cell, Event, State, UpdateArgs, BT};
 
 /// A tree in the crate; an action is told by its number.
 pub struct Wrapped(BT<u16, ()>);
@@ -17,13 +17,17 @@ pub enum How {
 }
 
 impl Wrapped {
-    pub fn new(tree: &Tree) -> Result<Self, String> {
-        BT::new(behavior(tree, 0), ()).map(Wrapped).map_err(|refusal| refusal.to_string())
+    /// A tree as new as bonsai's.
+    pub fn new(tree: &Tree, theirs: &Theirs) -> Result<Self, String> {
+        let cells = theirs.since.numbers.iter().map(|&since| Cell { since, ..Cell::default() }).collect();
+        let state = State { ticks: theirs.bt.tick_count, cells, ..State::default() };
+        let bt = BT::new(behavior(tree, 0), ()).and_then(|mut bt| bt.restore(&state).map(|()| bt));
+        bt.map(Wrapped).map_err(|refusal| refusal.to_string())
     }
 
     /// Ticks, or restarts by one of two ways, with a callback that answers as in the trace: each action must be asked once, in the
-    /// same order and with the same dt, and the tick must end in the same way.
-    pub fn call(&mut self, how: How, ev: Ev, trace: &Trace) -> Result<(), String> {
+    /// same order and with the same dt, the tick must end in the same way, and each node be as old as in bonsai after it.
+    pub fn call(&mut self, how: How, ev: Ev, trace: &Trace, theirs: &Theirs) -> Result<(), String> {
         let event = ev.dt().map_or(Event::Other, |dt| UpdateArgs { dt }.into());
         let mut asked = vec![];
         let mut act = |args: ActionArgs<Event, u16>, _: &mut ()| {
@@ -40,11 +44,13 @@ impl Wrapped {
         };
         let must = trace.end.map(|((status, left), _)| (convert(status), left.to_bits()));
         let asks: Vec<_> = trace.asks.iter().map(|ask| (ask.number, ask.dt.to_bits())).collect();
-        if got.ok().map(|(status, left)| (status, left.to_bits())) == must && asked == asks {
+        let ages: Vec<_> = self.0.nodes().map(|node| node.age).collect();
+        let old: Vec<_> = theirs.since.numbers.iter().map(|&since| theirs.bt.tick_count.wrapping_sub(since)).collect();
+        if got.ok().map(|(status, left)| (status, left.to_bits())) == must && asked == asks && ages == old {
             Ok(())
         } else {
             Err(format!(
-                "the Rust crate: {how:?} {ev:?}\nanswered {got:?}, asked {asked:x?}\nmust be {must:x?}, {asks:x?}\n"
+                "the Rust crate: {how:?} {ev:?}\nanswered {got:?}, asked {asked:x?}, ages {ages:?}\nmust be {must:x?}, {asks:x?}, {old:?}\n"
             ))
         }
     }

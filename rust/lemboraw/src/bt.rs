@@ -56,11 +56,12 @@ pub(crate) struct Room {
     pub times: Vec<f64>,
     pub places: Vec<u16>,
     pub marks: Vec<u8>,
+    pub sinces: Vec<u64>,
 }
 
 impl Room {
     fn new(len: usize) -> Self {
-        Room { times: vec![0.0; len], places: vec![0; len], marks: vec![0; len] }
+        Room { times: vec![0.0; len], places: vec![0; len], marks: vec![0; len], sinces: vec![0; len] }
     }
 
     fn of(cells: &[Cell]) -> Self {
@@ -68,11 +69,12 @@ impl Room {
             times: cells.iter().map(|cell| cell.time).collect(),
             places: cells.iter().map(|cell| cell.place).collect(),
             marks: cells.iter().map(|cell| cell.mark.into()).collect(),
+            sinces: cells.iter().map(|cell| cell.since).collect(),
         }
     }
 
     fn lend(&mut self) -> Cells<'_> {
-        Cells { times: &mut self.times, places: &mut self.places, marks: &mut self.marks }
+        Cells { times: &mut self.times, places: &mut self.places, marks: &mut self.marks, sinces: &mut self.sinces }
     }
 }
 
@@ -177,8 +179,8 @@ impl<A, B> BT<A, B> {
     /// Makes the next tick a [`restart`](BT::restart), as in bonsai: that tick starts from a fresh tree. The
     /// tick count and the blackboard stay.
     ///
-    /// What is shown of the tree (`println!("{bt}")`, [`nodes`](BT::nodes), [`last_status`](BT::last_status))
-    /// stays until that tick is carried out; a refused one leaves it asked for.
+    /// What is shown of the tree (`println!("{bt}")`, [`nodes`](BT::nodes), [`last_status`](BT::last_status),
+    /// [`age`](BT::age)) stays until that tick is carried out; a refused one leaves it asked for.
     pub fn reset_bt(&mut self) {
         self.again = true;
     }
@@ -235,6 +237,33 @@ impl<A, B> BT<A, B> {
         }
     }
 
+    /// For how many ticks a behavior has stood: the tick count less the number of the tick that last made
+    /// it fresh, where a tick's number is the count after it. So 0 says that the last tick made it fresh; a
+    /// new tree is as old as its tick count. A place past the last is refused.
+    ///
+    /// A behavior is made fresh, with all that is below it: by a restart; by a `Sequence`, `Select`, `While`
+    /// or `WhileAll` that moves on, which does so to the child it leaves and to the one it goes to; by an
+    /// `If` that is decided, to its condition and to the branch chosen; by a memoryless behavior that is
+    /// visited, to all its children; by a `WhenAll` or `WhenAny`, to a child that has ended for it.
+    ///
+    /// ```
+    /// use lemboraw::{Action, ActionArgs, Event, Refusal, Running, Sequence, UpdateArgs, Wait, BT};
+    ///
+    /// let mut bt = BT::new(Sequence(vec![Wait(2.0), Action("scan")]), ())?;
+    /// for _ in 0..5 {
+    ///     bt.tick(&UpdateArgs { dt: 1.0 }.into(), &mut |_: ActionArgs<Event, &str>, _: &mut ()| (Running, 0.0))?;
+    /// }
+    /// // The scan began in the second tick of five.
+    /// assert_eq!((bt.age(0), bt.age(2)), (Ok(5), Ok(3)));
+    /// # Ok::<(), Refusal>(())
+    /// ```
+    pub fn age(&self, place: usize) -> Result<u64, Refusal> {
+        match self.cells.sinces.get(place) {
+            Some(&since) => Ok(raw::age(self.record.ticks, since)),
+            None => Err(Refusal::NoSuchPlace { place, len: self.len() }),
+        }
+    }
+
     /// The visits that the last tick made; 0 if it was refused.
     pub fn last_visits(&self) -> u32 {
         self.visits
@@ -257,16 +286,16 @@ impl<A, B> BT<A, B> {
         self.fuel = fuel;
     }
 
-    /// The tree's state, to keep: what the next tick starts from, which is fresh after a
-    /// [`reset_bt`](BT::reset_bt).
+    /// The tree's state, to keep; also whether a [`reset_bt`](BT::reset_bt) waits for its tick.
     pub fn state(&self) -> State {
-        let Room { times, places, marks } = &self.cells;
-        let cells = times.iter().zip(places).zip(marks);
-        let kept = |((&time, &place), &mark)| Cell { time, place, mark: mark == 1 };
+        let Room { times, places, marks, sinces } = &self.cells;
+        let cells = times.iter().zip(places).zip(marks).zip(sinces);
+        let kept = |(((&time, &place), &mark), &since)| Cell { time, place, mark: mark == 1, since };
         State {
-            finished: self.is_finished(),
+            finished: self.record.finished,
             ticks: self.record.ticks,
-            cells: cells.map(|cell| if self.again { Cell::default() } else { kept(cell) }).collect(),
+            restart: self.again,
+            cells: cells.map(kept).collect(),
         }
     }
 
@@ -285,7 +314,7 @@ impl<A, B> BT<A, B> {
             return Err(refusal);
         }
         self.record = Record { finished: state.finished, ticks: state.ticks };
-        self.again = false;
+        self.again = state.restart;
         self.board.fill(0);
         Ok(())
     }

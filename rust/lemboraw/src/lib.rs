@@ -11,7 +11,8 @@
 //! - [`BT::finish_bound`] says after how many ticks a tree has ended at the latest.
 //! - [`BT::restart`] starts a tree again and ticks it in one call; [`BT::reset_bt`] makes the next tick one.
 //! - [`BT::state`] and [`BT::restore`] carry a tree over a halt of the host; `println!("{bt}")`, [`BT::nodes`]
-//!   and [`BT::dot`] show a tick; [`Behavior::from_words`] reads a tree from a file.
+//!   and [`BT::dot`] show a tick, and for how many ticks each branch has stood ([`BT::age`]);
+//!   [`Behavior::from_words`] reads a tree from a file.
 //!
 //! The crate's README has a table for moving from bonsai, line by line.
 //!

@@ -1,4 +1,4 @@
-//! The four functions of the archive on slices, without allocation.
+//! The five functions of the archive on slices, without allocation.
 //!
 //! Each is proved to return for every argument and to touch only what is lent to it, so these are
 //! safe to call with anything. What the numbers mean, and what each answer leaves behind, is in
@@ -71,6 +71,8 @@ pub struct Cells<'a> {
     pub places: &'a mut [u16],
     /// 1 for an ended child of WhenAll or WhenAny.
     pub marks: &'a mut [u8],
+    /// The number of the tick that last made each fresh; any number is taken. See [`age`].
+    pub sinces: &'a mut [u64],
 }
 
 /// One tick; `dt` is `None` for an event that is no update.
@@ -141,12 +143,16 @@ pub(crate) fn carry_out(
             cells.places.len(),
             cells.marks.as_mut_ptr(),
             cells.marks.len(),
+            cells.sinces.as_mut_ptr(),
+            cells.sinces.len(),
             spare.times.as_mut_ptr(),
             spare.times.len(),
             spare.places.as_mut_ptr(),
             spare.places.len(),
             spare.marks.as_mut_ptr(),
             spare.marks.len(),
+            spare.sinces.as_mut_ptr(),
+            spare.sinces.len(),
             board.as_mut_ptr(),
             board.len(),
             dt.is_some(),
@@ -176,6 +182,14 @@ pub fn bound(table: Table, step: f64) -> Bound {
     })
 }
 
+/// For how many ticks a branch has stood: the record's tick count less the since of its cell. It wraps
+/// as the count does.
+#[inline]
+pub fn age(ticks: u64, since: u64) -> u64 {
+    // SAFETY: it takes and gives plain numbers.
+    unsafe { lemboraw_age(ticks, since) }
+}
+
 /// The kind with its memory on or off.
 pub fn memory(kind: u8, on: bool) -> u8 {
     // SAFETY: it takes and gives plain numbers.
@@ -197,12 +211,16 @@ extern "C" {
         places_len: usize,
         marks: *mut u8,
         marks_len: usize,
+        sinces: *mut u64,
+        sinces_len: usize,
         spare_times: *mut f64,
         spare_times_len: usize,
         spare_places: *mut u16,
         spare_places_len: usize,
         spare_marks: *mut u8,
         spare_marks_len: usize,
+        spare_sinces: *mut u64,
+        spare_sinces_len: usize,
         board: *mut u8,
         board_len: usize,
         update: bool,
@@ -228,12 +246,16 @@ extern "C" {
         places_len: usize,
         marks: *mut u8,
         marks_len: usize,
+        sinces: *mut u64,
+        sinces_len: usize,
         spare_times: *mut f64,
         spare_times_len: usize,
         spare_places: *mut u16,
         spare_places_len: usize,
         spare_marks: *mut u8,
         spare_marks_len: usize,
+        spare_sinces: *mut u64,
+        spare_sinces_len: usize,
         board: *mut u8,
         board_len: usize,
         update: bool,
@@ -254,6 +276,8 @@ extern "C" {
         limits_len: usize,
         step: f64,
     ) -> Bound;
+
+    fn lemboraw_age(ticks: u64, since: u64) -> u64;
 
     fn lemboraw_memory(kind: u8, on: bool) -> u8;
 }

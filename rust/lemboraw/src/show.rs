@@ -1,7 +1,7 @@
 //! A tree and its last tick, for people to look at.
 
 use crate::kind::Kind;
-use crate::{Status, BT};
+use crate::{raw, Status, BT};
 use std::fmt::{self, Debug, Display};
 
 /// A behavior of a tree, as the last tick left it.
@@ -21,6 +21,8 @@ pub struct Node<'a, A> {
     pub elapsed: Option<f64>,
     /// Its status after the last tick carried out: see [`BT::last_status`].
     pub status: Option<Status>,
+    /// For how many ticks it has stood: see [`BT::age`].
+    pub age: u64,
 }
 
 impl<A, B> BT<A, B> {
@@ -38,13 +40,14 @@ impl<A, B> BT<A, B> {
                 limit: timed(&tree.limits),
                 elapsed: timed(&self.cells.times),
                 status: Status::from_number(self.board[place]),
+                age: raw::age(self.tick_count(), self.cells.sinces[place]),
             }
         })
     }
 
-    /// The tree in the language of [Graphviz](https://graphviz.org), each behavior coloured by its
-    /// status after the last tick ([`BT::last_status`]): gold for running, green for success, red for
-    /// failure, white for none.
+    /// The tree in the language of [Graphviz](https://graphviz.org), each behavior with its
+    /// [age](BT::age) and coloured by its status after the last tick ([`BT::last_status`]): gold for
+    /// running, green for success, red for failure, white for none.
     pub fn dot(&self) -> String
     where
         A: Debug,
@@ -61,7 +64,7 @@ impl<A, B> BT<A, B> {
                 Some(Status::Success) => "palegreen",
                 Some(Status::Failure) => "lightcoral",
             };
-            text += &format!("  {} [label=\"{label}\" fillcolor={color}];\n", node.place);
+            text += &format!("  {} [label=\"{label}\\nage {}\" fillcolor={color}];\n", node.place, node.age);
             above.truncate(node.depth - 1);
             if let Some(parent) = above.last() {
                 text += &format!("  {parent} -> {};\n", node.place);
@@ -86,13 +89,13 @@ impl<A: Debug> Display for Node<'_, A> {
     }
 }
 
-/// A line for each behavior: its status after the last tick, `-` for none, and what it is, indented by
-/// its depth.
+/// A line for each behavior: its status after the last tick, `-` for none, its [age](BT::age), and what it
+/// is, indented by its depth.
 impl<A: Debug, B> Display for BT<A, B> {
     fn fmt(&self, f: &mut fmt::Formatter<'_>) -> fmt::Result {
         for node in self.nodes() {
             let status = node.status.map_or("-".into(), |status| format!("{status:?}"));
-            writeln!(f, "{status:7}{:width$}{node}", "", width = 2 * node.depth)?;
+            writeln!(f, "{status:7}{:6}{:width$}{node}", node.age, "", width = 2 * node.depth)?;
         }
         Ok(())
     }

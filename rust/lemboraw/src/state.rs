@@ -14,17 +14,18 @@
 ///
 /// // A line for each cell, written by its bits, and one in front of them.
 /// let state = bt.state();
-/// let mut text = format!("{} {}\n", state.finished, state.ticks);
+/// let mut text = format!("{} {} {}\n", state.finished, state.ticks, state.restart);
 /// for cell in &state.cells {
-///     text += &format!("{} {} {}\n", cell.time.to_bits(), cell.place, cell.mark);
+///     text += &format!("{} {} {} {}\n", cell.time.to_bits(), cell.place, cell.mark, cell.since);
 /// }
 ///
 /// let mut words = text.split_whitespace();
 /// let mut next = || words.next().unwrap_or("");
-/// let mut read = State { finished: next().parse()?, ticks: next().parse()?, cells: vec![] };
+/// let mut read =
+///     State { finished: next().parse()?, ticks: next().parse()?, restart: next().parse()?, cells: vec![] };
 /// for _ in text.lines().skip(1) {
 ///     let time = f64::from_bits(next().parse()?);
-///     read.cells.push(Cell { time, place: next().parse()?, mark: next().parse()? });
+///     read.cells.push(Cell { time, place: next().parse()?, mark: next().parse()?, since: next().parse()? });
 /// }
 ///
 /// let mut later = tree()?;
@@ -39,11 +40,13 @@ pub struct State {
     pub finished: bool,
     /// The ticks carried out.
     pub ticks: u64,
+    /// Whether the next tick is to be a restart, as [`BT::reset_bt`](crate::BT::reset_bt) asks for.
+    pub restart: bool,
     /// The cells of the behaviors in preorder.
     pub cells: Vec<Cell>,
 }
 
-/// The state of one behavior; the default is that of a fresh one.
+/// The state of one behavior; the default is that of one in a new tree.
 #[derive(Clone, Copy, Debug, Default, PartialEq)]
 pub struct Cell {
     /// The time that has passed in a `Wait` or `Timeout`.
@@ -52,4 +55,7 @@ pub struct Cell {
     pub place: u16,
     /// Whether it is an ended child of a `WhenAll` or `WhenAny`.
     pub mark: bool,
+    /// The number of the tick that last made it fresh, of which [`BT::age`](crate::BT::age) tells; no tick
+    /// depends on it.
+    pub since: u64,
 }

@@ -100,13 +100,14 @@ fn a_restart_resets_and_ticks_in_one_call() {
     assert_eq!((bt.state(), bt.to_string()), (ended.clone(), shown.clone()));
     assert_eq!(bt.tick(&update(3.0), &mut good), Err(Refusal::Finished));
 
-    // Asked for by reset_bt, it is shown when it is ticked; kept and taken back, the tree is fresh.
+    // Asked for by reset_bt, it is shown when it is ticked, and also where the tree is kept and taken back.
     bt.reset_bt();
     assert_eq!((bt.is_finished(), bt.to_string()), (false, shown.clone()));
     assert_eq!(bt.tick(&update(3.0), &mut bad), Err(Refusal::BadAnswer { index: 0, leftover: -1.0 }));
     assert_eq!((bt.is_finished(), bt.to_string()), (false, shown));
     let mut later = tree(Sequence(vec![Wait(2.0), Action("a")]));
     later.restore(&bt.state()).unwrap();
+    assert_eq!((later.is_finished(), later.state()), (false, bt.state()));
     assert_eq!(bt.tick(&update(3.0), &mut unended), Ok((Running, 0.0)));
     assert_eq!(later.tick(&update(3.0), &mut unended), Ok((Running, 0.0)));
     assert_eq!(later.state(), bt.state());

@@ -14,7 +14,7 @@ fn tick(bt: &mut BT<u8, ()>, dt: f64, status: Status) -> Result<(Status, f64), R
 }
 
 fn cell(time: f64, place: u16, mark: bool) -> Cell {
-    Cell { time, place, mark }
+    Cell { time, place, mark, since: 0 }
 }
 
 #[test]
@@ -23,9 +23,11 @@ fn a_restored_tree_goes_on_as_the_first_would() {
     tick(&mut first, 1.0, Running).unwrap();
     tick(&mut first, 2.0, Running).unwrap();
     let kept = first.state();
-    let fresh = Cell::default();
-    let cells = vec![cell(0.0, 1, false), fresh, fresh, cell(0.0, 0, true), cell(1.0, 0, false), fresh];
-    assert_eq!(kept, State { finished: false, ticks: 2, cells });
+    // The second tick moved on: it made the first Wait and the WhenAll fresh, with all that is below.
+    let anew = Cell { since: 2, ..Cell::default() };
+    let (marked, waiting) = (Cell { mark: true, ..anew }, Cell { time: 1.0, ..anew });
+    let cells = vec![cell(0.0, 1, false), anew, anew, marked, waiting, anew];
+    assert_eq!(kept, State { finished: false, ticks: 2, restart: false, cells });
 
     let mut second = BT::new(behavior(), ()).unwrap();
     second.restore(&kept).unwrap();
@@ -44,6 +46,31 @@ fn a_restored_tree_goes_on_as_the_first_would() {
     assert_eq!(tick(&mut third, 1.0, Success), Err(Refusal::Finished));
     third.restore(&new).unwrap();
     assert_eq!(tick(&mut third, 1.0, Success), Ok((Running, 0.0)));
+}
+
+#[test]
+fn a_restored_tree_has_its_ages_also_where_the_count_goes_round() {
+    let mut bt = BT::new(behavior(), ()).unwrap();
+    // Any number is taken: the root has stood for 3 ticks, the last Wait for 2^63.
+    let mut state = State { ticks: u64::MAX - 1, cells: vec![cell(0.0, 0, false); 6], ..bt.state() };
+    state.cells[0].since = u64::MAX - 4;
+    state.cells[4].since = u64::MAX / 2 - 1;
+    bt.restore(&state).unwrap();
+    assert_eq!((bt.age(0), bt.age(1), bt.age(4)), (Ok(3), Ok(u64::MAX - 1), Ok(1 << 63)));
+    assert_eq!(bt.age(6), Err(Refusal::NoSuchPlace { place: 6, len: 6 }));
+
+    // Refused, it stays; carried out, the count goes round and what was made fresh is 0 old.
+    assert!(tick(&mut bt, -1.0, Running).is_err());
+    assert_eq!(bt.state(), state);
+    tick(&mut bt, 1.0, Running).unwrap();
+    tick(&mut bt, 1.0, Running).unwrap();
+    assert_eq!((bt.tick_count(), bt.age(0), bt.age(1), bt.age(4)), (0, Ok(5), Ok(0), Ok(0)));
+    tick(&mut bt, 1.0, Running).unwrap();
+    assert_eq!(bt.nodes().map(|node| node.age).collect::<Vec<_>>(), [6, 1, 1, 0, 1, 1]);
+    bt.reset_bt();
+    assert_eq!(bt.age(0), Ok(6));
+    tick(&mut bt, 1.0, Running).unwrap();
+    assert!(bt.nodes().all(|node| node.age == 0));
 }
 
 #[test]

@@ -15,21 +15,21 @@ use Rattle.bench_lib.proofs.lines.Statement.{statement}
 use Rattle.bench_lib.proofs.lines.Tie as tie
 
 abbrev Inv-loop : tie.InvT-loop
-Inv-loop input kinds₀ ns₀ limits₀ times₀ places₀ marks₀ output₀ statuses₀ patterns₀ leftovers₀ held₀ start₀ end last written₀
-    kinds ns limits times places marks output statuses patterns leftovers held start written =
-    let s₀ = stateOf held₀ (rows kinds₀ ns₀ limits₀) (run times₀ places₀ marks₀) in
-    Stands last s₀ (slice start₀ end input) input end held (rows kinds ns limits) (run times places marks) start written output
-    × Alike kinds₀ ns₀ limits₀ times₀ places₀ marks₀ output₀ kinds ns limits times places marks output
+Inv-loop input kinds₀ ns₀ limits₀ times₀ places₀ marks₀ sinces₀ output₀ statuses₀ patterns₀ leftovers₀ held₀ start₀ end last written₀
+    kinds ns limits times places marks sinces output statuses patterns leftovers held start written =
+    let s₀ = stateOf held₀ (rows kinds₀ ns₀ limits₀) (run times₀ places₀ marks₀ sinces₀) in
+    Stands last s₀ (slice start₀ end input) input end held (rows kinds ns limits) (run times places marks sinces) start written output
+    × Alike kinds₀ ns₀ limits₀ times₀ places₀ marks₀ sinces₀ output₀ kinds ns limits times places marks sinces output
     × Scratch statuses patterns leftovers
 
 abbrev μ-loop : tie.MeasureT-loop
-μ-loop input kinds₀ ns₀ limits₀ times₀ places₀ marks₀ output₀ statuses₀ patterns₀ leftovers₀ held₀ start₀ end last written₀
-    kinds ns limits times places marks output statuses patterns leftovers held start written =
+μ-loop input kinds₀ ns₀ limits₀ times₀ places₀ marks₀ sinces₀ output₀ statuses₀ patterns₀ leftovers₀ held₀ start₀ end last written₀
+    kinds ns limits times places marks sinces output statuses patterns leftovers held start written =
     end - start
 
 -- ---- what is known on the way
 abbrev start : tie.At-loop Inv-loop μ-loop → tie.Start Inv-loop μ-loop
-start c = c .before .before .before .before .before .before .before .before .before .before
+start c = c .before .before .before .before .before .before .before .before .before .before .before
 
 abbrev turn : tie.After-line-end Inv-loop μ-loop → tie.At-loop Inv-loop μ-loop
 turn c = c .before .before .before
@@ -38,14 +38,14 @@ abbrev found : tie.Else2 Inv-loop μ-loop → tie.After-line-end Inv-loop μ-loo
 found c = c .before
 
 abbrev called : tie.After-one Inv-loop μ-loop → tie.Else2 Inv-loop μ-loop
-called c = c .before .before .before .before .before .before .before .before .before .before .before .before
+called c = c .before .before .before .before .before .before .before .before .before .before .before .before .before
 
 abbrev done : tie.After-struct-known Inv-loop μ-loop → tie.After-one Inv-loop μ-loop
-done c = c .before .before .before .before .before .before .before .before .before .before .before .before .before .before .before .before .before .before .before
+done c = c .before .before .before .before .before .before .before .before .before .before .before .before .before .before .before .before .before .before .before .before .before
 
 loop-holds : tie.Need-loop-holds Inv-loop μ-loop
 loop-holds c =
-    let p = c .before .before .before .before .before .before .before .before .before .pre .0 in (
+    let p = c .before .before .before .before .before .before .before .before .before .before .pre .0 in (
       stands-first _ _ _ _ _ _ _ _ (p .few) (p .ordered),
       record {
         kinds-alike = refl;
@@ -54,6 +54,7 @@ loop-holds c =
         times-alike = refl;
         places-alike = refl;
         marks-alike = refl;
+        sinces-alike = refl;
         output-alike = refl;
       },
       record { statuses-long = refl; patterns-long = refl; leftovers-long = refl },
@@ -69,7 +70,7 @@ part-one-end c =
 
 one-requires : tie.Need-one-requires Inv-loop μ-loop
 one-requires c κs =
-    let t = turn (c .before .before .before .before .before .before .before .before .before .before .before .before) in
+    let t = turn (c .before .before .before .before .before .before .before .before .before .before .before .before .before) in
     let p = start t .pre in
     let v = t .loop .inv in
     let a = v .1 in (
@@ -93,15 +94,15 @@ one-requires c κs =
 fits : (c : tie.After-one Inv-loop μ-loop) → let t = turn (found (called c)) in t .loop .written + c .one .result .printed ≤ length (t .loop .output)
 fits c =
     let l = turn (found (called c)) .loop in
-    let last = c .one .last .1 .1 .1 .1 .1 .1 .1 .1 .1 .1 .1 in
-    let kept = c .one .kept .1 .1 .1 .1 .1 .1 .1 .1 .1 .1 .1 in
+    let last = c .one .last .1 .1 .1 .1 .1 .1 .1 .1 .1 .1 .1 .1 in
+    let kept = c .one .kept .1 .1 .1 .1 .1 .1 .1 .1 .1 .1 .1 .1 in
     printed-fits (l .output) (last .0) (l .written) (l .inv .0 .room) (kept .0) (c .one .ensures .prints)
 
 add-written : tie.Need-add-written Inv-loop μ-loop
 add-written c =
     let d = done c in
     let t = turn (found (called d)) in
-    record { fits = omega (arith, fits d, t .loop .inv .1 .output-alike, start t .good .1 .1 .1 .1 .1 .1 .1 .1 .0 .0) }
+    record { fits = omega (arith, fits d, t .loop .inv .1 .output-alike, start t .good .1 .1 .1 .1 .1 .1 .1 .1 .1 .0 .0) }
 
 loop-less : tie.Need-loop-less Inv-loop μ-loop
 loop-less c =
@@ -113,9 +114,9 @@ loop-again c =
     let d = done c in
     let e = called d in
     let t = turn (found e) in
-    let last = d .one .last .1 .1 .1 .1 .1 .1 .1 .1 .1 .1 .1 in
+    let last = d .one .last .1 .1 .1 .1 .1 .1 .1 .1 .1 .1 .1 .1 in
     let kept = d .one .kept .1 .1 in
-    let room = kept .1 .1 .1 .1 .1 .1 .1 .1 .1 .0 in
+    let room = kept .1 .1 .1 .1 .1 .1 .1 .1 .1 .1 .0 in
     let a = t .loop .inv .1 in
     let o = t .loop .output in
     let same = same-len-mid (t .loop .written) (length o - t .loop .written) o (last .0) room in (
@@ -128,12 +129,13 @@ loop-again c =
         times-alike = kept .1 .1 .1 .0 ∙ a .times-alike;
         places-alike = kept .1 .1 .1 .1 .0 ∙ a .places-alike;
         marks-alike = kept .1 .1 .1 .1 .1 .0 ∙ a .marks-alike;
+        sinces-alike = kept .1 .1 .1 .1 .1 .1 .0 ∙ a .sinces-alike;
         output-alike = same ∙ a .output-alike;
       },
       record {
-        statuses-long = omega (arith, kept .1 .1 .1 .1 .1 .1 .0, t .loop .inv .2 .statuses-long);
-        patterns-long = omega (arith, kept .1 .1 .1 .1 .1 .1 .1 .0, t .loop .inv .2 .patterns-long);
-        leftovers-long = omega (arith, kept .1 .1 .1 .1 .1 .1 .1 .1 .0, t .loop .inv .2 .leftovers-long);
+        statuses-long = omega (arith, kept .1 .1 .1 .1 .1 .1 .1 .0, t .loop .inv .2 .statuses-long);
+        patterns-long = omega (arith, kept .1 .1 .1 .1 .1 .1 .1 .1 .0, t .loop .inv .2 .patterns-long);
+        leftovers-long = omega (arith, kept .1 .1 .1 .1 .1 .1 .1 .1 .1 .0, t .loop .inv .2 .leftovers-long);
       },
     )
 
@@ -177,6 +179,7 @@ lines-spec =
     (λ c. search needs)
     (λ c. search needs)
     (λ c. search needs)
+    (λ c. search needs)
     returns
     (λ c. search needs)
     (λ c. search needs)
@@ -185,7 +188,9 @@ lines-spec =
     (λ c. search needs)
     (λ c. search needs)
     (λ c. search needs)
+    (λ c. search needs)
     returns-2
+    (λ c. search needs)
     (λ c. search needs)
     (λ c. search needs)
     (λ c. search needs)

@@ -11,17 +11,17 @@ use Rattle.call.proofs.carry_out.Tie as tie
 
 -- ---- the way up to the walk
 abbrev start : tie.After-copy-cells → tie.Start
-start c = c .before .before .before .before .before .before .before .before .before .before .before .before .before .before .before .before .before .before .before .before
+start c = c .before .before .before .before .before .before .before .before .before .before .before .before .before .before .before .before .before .before .before .before .before .before .before .before
 
-abbrev copied : tie.After-slice-known10 → tie.After-copy-cells
-copied c = c .before .before .before .before .before .before
+abbrev copied : tie.After-slice-known13 → tie.After-copy-cells
+copied c = c .before .before .before .before .before .before .before .before
 
 -- what the walk begins with, by either arm
 begun : (c : tie.Joined1) → let a = start (copied (c .before)) .args in
-    Begun (a .fresh) (a .kinds .now) (a .ends .now) (run (a .times .now) (a .places .now) (a .marks .now)) (a .n) (c .if1 .work) (c .if1 .times)
+    Begun (a .fresh) (a .kinds .now) (a .ends .now) (run (a .times .now) (a .places .now) (a .marks .now) (a .sinces .now)) (a .n) (c .if1 .work) (c .if1 .times)
 begun c = ⊎-elim
     (λ w. begun-fresh _ _ _ _ _ _ _ (w .0 .taken) (w .7 ∙ w .3 .ensures .0) (w .6 ∙ w .3 .ensures .1))
-    (λ w. begun-held _ _ _ _ _ _ _ (w .0 .left) (w .6 ∙ w .4 .ensures) (w .5))
+    (λ w. begun-held _ _ _ _ _ _ _ (w .0 .left) (start (copied (c .before)) .pre .cells-long) (w .6 ∙ w .4 .ensures) (w .5))
     (c .if1 .came)
 
 -- the walk
@@ -35,10 +35,10 @@ abbrev stopped : tie.After-copy-times-arg2 → tie.After-enter
 stopped c = c .before .before .before .before .before .before
 
 -- what is shown behind it, and the walk to its end
-abbrev shown : tie.After-put-back-arg3 → tie.After-show-ended
-shown c = c .before .before .before .before
+abbrev shown : tie.After-put-back-arg4 → tie.After-show-ended
+shown c = c .before .before .before .before .before .before
 
-abbrev ended : tie.After-put-back-arg3 → tie.After-enter
+abbrev ended : tie.After-put-back-arg4 → tie.After-enter
 ended c = shown c .before .before .before .before .before
 
 -- ---- the needs
@@ -46,6 +46,17 @@ load-fresh-requires : tie.Need-load-fresh-requires
 load-fresh-requires c κs =
     let pre = start (copied (c .before .before .before)) .pre in
     (pre .few, pre .in-kinds, omega (arith, pre .few, pre .ends-long), pre .cells-long .times)
+
+load-requires : tie.Need-load-requires
+load-requires c κs =
+    let pre = start (copied (c .before .before .before .before)) .pre in
+    record {
+      nodes = pre .few;
+      kinds-long = pre .in-kinds;
+      ends-long = omega (arith, pre .few, pre .ends-long);
+      places-long = pre .cells-long .places;
+      marks-long = pre .cells-long .marks;
+    }
 
 -- either arm leaves the times as long as they were
 times-long : (c : tie.Joined1) → let a = start (copied (c .before)) .args in length (c .if1 .times) ≡ length (a .times .now)
@@ -59,7 +70,7 @@ copy-times-requires c κs =
     let enter = stopped c in
     let pre = at-start enter .pre in
     let copy-cells = copied (joined enter .before) .copy-cells in (
-      omega (arith, copy-cells .kept .1 .1 .1 .0, pre .spare-long .times),
+      omega (arith, copy-cells .kept .1 .1 .1 .1 .0, pre .spare-long .times),
       omega (arith, enter .enter .kept .1 .1 .1 .1 .0, times-long (joined enter), pre .cells-long .times),
     )
 
@@ -83,37 +94,41 @@ show-ended-requires c κs = at-start (c .before .before .before .before) .pre .f
 put-back-requires : tie.Need-put-back-requires
 put-back-requires c κs =
     let pre = at-start (ended c) .pre in
-    (omega (arith, pre .few), omega (arith, pre .cells-long .places), omega (arith, pre .cells-long .marks), omega (arith, pre .board-long))
+    (omega (arith, pre .few), omega (arith, pre .cells-long .places), omega (arith, pre .cells-long .marks), omega (arith, pre .cells-long .sinces), omega (arith, pre .board-long))
 
 -- the place at which what is put back has come back
-abbrev put : tie.After-counted → tie.After-put-back
-put c = c .before .before .before .before .before .before .before .before .before .before
+abbrev put : tie.After-told-done → tie.After-put-back
+put c = c .before .before .before .before .before .before .before .before .before .before .before
 
-same-length-7 : tie.Need-same-length-7
-same-length-7 c = let walk = ended (put c .before) in walk .enter .kept .1 .1 .1 .1 .0 ∙ times-long (joined walk)
+same-length-9 : tie.Need-same-length-9
+same-length-9 c = let walk = ended (put c .before) in walk .enter .kept .1 .1 .1 .1 .0 ∙ times-long (joined walk)
 
-module _ (c : tie.After-counted) where
+module _ (c : tie.After-told-done) where
   abbrev spared : tie.After-copy-cells
   spared = copied (joined (ended (put c .before)) .before)
 
-same-length-10 : tie.Need-same-length-10
-same-length-10 c = spared c .copy-cells .kept .1 .1 .1 .0
+same-length-13 : tie.Need-same-length-13
+same-length-13 c = spared c .copy-cells .kept .1 .1 .1 .1 .0
 
-same-length-11 : tie.Need-same-length-11
-same-length-11 c = spared c .copy-cells .kept .1 .1 .1 .1 .0
+same-length-14 : tie.Need-same-length-14
+same-length-14 c = spared c .copy-cells .kept .1 .1 .1 .1 .1 .0
 
-same-length-12 : tie.Need-same-length-12
-same-length-12 c = spared c .copy-cells .kept .1 .1 .1 .1 .1 .0
+same-length-15 : tie.Need-same-length-15
+same-length-15 c = spared c .copy-cells .kept .1 .1 .1 .1 .1 .1 .0
+
+same-length-16 : tie.Need-same-length-16
+same-length-16 c = spared c .copy-cells .kept .1 .1 .1 .1 .1 .1 .1 .0
 
 returns-2 : tie.Need-returns-2
 returns-2 c =
     let walk = ended (put c .before) in
     let enter = walk .enter in
     let back = put c .put-back in
+    let counts = put c .before .before .before .before .before .before in
     carried (at-start walk .pre) (enter .result) _ (enter .last .0) _ (enter .last .1 .1 .1 .1 .0) (begun (joined walk)) (enter .ensures .0) (enter .ensures .1)
     (omega (arith, at-start walk .fits .fuel)) _ (spared c .copy-cells .ensures) (goes-told _ (shown (put c .before) .before .before .match .keys2)) _
-    (shown (put c .before) .show-ended .ensures) _ _ (c .before .before .lent .ensures)
-    (c .before .told-done .ensures) _ (c .counted .ensures) _ _ _ (back .ensures .0) (back .ensures .1 .0) (back .ensures .1 .1)
+    (shown (put c .before) .show-ended .ensures) _ _ (c .before .lent .ensures)
+    (c .told-done .ensures) _ (counts .counted .ensures) _ _ _ _ (back .ensures .0) (back .ensures .1 .0) (back .ensures .1 .1 .0) (back .ensures .1 .1 .1)
 
 pub carry-out-spec : {M : Type 1} → statement M
 carry-out-spec =
@@ -121,7 +136,7 @@ carry-out-spec =
     (tie.spec
     (λ c κs. search needs)
     load-fresh-requires
-    (λ c κs. search needs)
+    load-requires
     enter-requires
     (λ c. search needs)
     copy-times-requires
@@ -132,17 +147,21 @@ carry-out-spec =
     (λ c. search needs)
     (λ c. search needs)
     (λ c. search needs)
+    (λ c. search needs)
+    (λ c. search needs)
     returns
     show-ended-requires
+    (λ c κs. search needs)
     put-back-requires
     (λ c κs. search needs)
     (λ c κs. search needs)
-    (λ c κs. search needs)
-    same-length-7
+    same-length-9
     (λ c. search needs)
     (λ c. search needs)
-    same-length-10
-    same-length-11
-    same-length-12
+    (λ c. search needs)
+    same-length-13
+    same-length-14
+    same-length-15
+    same-length-16
     (λ c. search needs)
     returns-2)

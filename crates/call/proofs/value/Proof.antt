@@ -6,23 +6,23 @@ use Rattle.call.proofs.value.Statement.{statement}
 use Rattle.call.proofs.value.Tie as tie
 
 abbrev start : tie.After-checks → tie.Start
-start c = c .before .before .before .before .before .before .before .before .before .before .before .before .before .before .before .before .before .before .before .before .before
+start c = c .before .before .before .before .before .before .before .before .before .before .before .before .before .before .before .before .before .before .before .before .before .before .before .before .before
 
 slice-aggregate-carry-out : tie.Need-slice-aggregate-carry-out
 slice-aggregate-carry-out c = sym (passed-open _ _ _ _ (c .before .before .before .before .checks .ensures 0) _ _ (c .before .before .n .given .1) .1 .ends-long)
 
 carry-out-requires : tie.Need-carry-out-requires
 carry-out-requires c κs =
-    let checks = c .before .before .before .before .before .before .before .before .before .before .before in
-    passed-open _ _ _ _ (checks .checks .ensures (start checks .args .fuel)) _ _ (c .before .before .before .before .before .before .before .before .before .n .given .1) .1
+    let checks = c .before .before .before .before .before .before .before .before .before .before .before .before .before in
+    passed-open _ _ _ _ (checks .checks .ensures (start checks .args .fuel)) _ _ (c .before .before .before .before .before .before .before .before .before .before .before .n .given .1) .1
 
 returns : tie.Need-returns
 returns c = let checks = c .before .before .before in passed-refused _ _ _ _ (checks .checks .ensures (start checks .args .fuel)) _ (c .before .answer .given .1)
 
 returns-2 : tie.Need-returns-2
 returns-2 c =
-    let carried = c .before .before .before .before .before .before .before .before .before .before .before .before .before .before in
-    let opened = carried .before .before .before .before .before .before .before .before .before .before in
+    let carried = c .before .before .before .before .before .before .before .before .before .before .before .before .before .before .before .before .before .before in
+    let opened = carried .before .before .before .before .before .before .before .before .before .before .before .before in
     let checks = opened .before .before in
     passed-on _ _ _ _ (checks .checks .ensures (start checks .args .fuel)) _ _ _ (opened .n .given .1) (carried .carry-out .ensures)
 
@@ -42,7 +42,11 @@ value-spec =
     (λ c. search needs)
     (λ c. search needs)
     (λ c. search needs)
+    (λ c. search needs)
+    (λ c. search needs)
     returns
+    (λ c. search needs)
+    (λ c. search needs)
     (λ c. search needs)
     (λ c. search needs)
     (λ c. search needs)

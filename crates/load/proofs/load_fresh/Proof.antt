@@ -1,5 +1,6 @@
 -- What is still to be loaded gives the same words; the times before p are zero.
 use mathlib.Core.Path.{_≡_, sym, _∙_}
+use mathlib.Core.Bool.{true}
 use Prim.Native.Nat.{ℕ, _-_}
 use native.Mathlib.Nat.{sub-zero}
 use native.Mathlib.Omega.{arith}
@@ -15,7 +16,7 @@ use Rattle.load.proofs.load_fresh.Tie as tie
 abbrev Inv-loop : tie.InvT-loop
 Inv-loop work₀ kinds ends times₀ n p₀ work times p =
     Filling zeroTime times₀ n p times
-    × (loadWords kinds ends (replicate n 0) (replicate n 0) p (n - p) work ≡ loadWords kinds ends (replicate n 0) (replicate n 0) 0 n work₀)
+    × (loadWords true kinds ends (replicate n 0) (replicate n 0) p (n - p) work ≡ loadWords true kinds ends (replicate n 0) (replicate n 0) 0 n work₀)
 
 abbrev μ-loop : tie.MeasureT-loop
 μ-loop work₀ kinds ends times₀ n p₀ work times p = n - p
@@ -31,13 +32,13 @@ loop-again c =
     let at = test .before in
     let zero = getD-replicate {A = ℕ} _ _ 0 0 (test .loop-test .taken) in (
       filling-more (omega arith) (at .loop .inv .0) (omega arith),
-      load-one _ _ _ _ _ _ _ _ _ _ (omega arith) (below .below .ensures ∙ rw (below .before .wide .ensures)) (rw zero (c .word .ensures)) ∙ at .loop .inv .1,
+      load-one _ _ _ _ _ _ _ _ _ _ _ (omega arith) (below .below .ensures ∙ rw (below .before .wide .ensures)) (rw zero (c .word .ensures)) ∙ at .loop .inv .1,
     )
 
 returns : tie.Need-returns Inv-loop μ-loop
 returns c =
     let inv = c .before .loop .inv in
-    (sym (load-none _ _ _ _ _ _ _ (omega arith)) ∙ inv .1, filling-end (inv .0) (c .loop-test .left))
+    (sym (load-none _ _ _ _ _ _ _ _ (omega arith)) ∙ inv .1, filling-end (inv .0) (c .loop-test .left))
 
 pub load-fresh-spec : {M : Type 1} → statement M
 load-fresh-spec =

@@ -3,40 +3,42 @@ use native.Mathlib.Omega.{arith}
 use Prim.Native.Nat.{_-_, _≤_}
 use lib.ListN.{length}
 use Rattle.work.specs.Word.{placeOf, markOf, seenOf}
-use Rattle.load.proofs.Laws.{Putting, putting-start, putting-more, putting-end}
+use Rattle.load.proofs.Laws.{Putting, putting-start, putting-more, putting-end, Stamping, stamping-start, stamping-more, stamping-end}
 use borrow.Author.Needs.{needs}
 use Rattle.load.proofs.put_back.Statement.{statement}
 use Rattle.load.proofs.put_back.Tie as tie
 
 abbrev Inv-loop : tie.InvT-loop
-Inv-loop work places₀ marks₀ board₀ n words i₀ places marks board i =
+Inv-loop work places₀ marks₀ sinces₀ board₀ n this words i₀ places marks sinces board i =
     Putting placeOf work places₀ n i places
     × Putting markOf work marks₀ n i marks
+    × Stamping this work sinces₀ n i sinces
     × Putting seenOf work board₀ n i board
     × (n ≤ length work)
 
 abbrev μ-loop : tie.MeasureT-loop
-μ-loop work places₀ marks₀ board₀ n words i₀ places marks board i = n - i
+μ-loop work places₀ marks₀ sinces₀ board₀ n this words i₀ places marks sinces board i = n - i
 
 loop-holds : tie.Need-loop-holds Inv-loop μ-loop
-loop-holds c = (putting-start, putting-start, putting-start, omega (arith, c .words .given .0, c .before .before .before .before .pre .0))
+loop-holds c = (putting-start, putting-start, stamping-start, putting-start, omega (arith, c .words .given .0, c .before .before .before .before .before .pre .0))
 
 loop-again : tie.Need-loop-again Inv-loop μ-loop
 loop-again c =
-    let at = c .before .before .before .before .before in
-    let pre = at .before .before .before .before .before .pre in
+    let at = c .before .before .before .before .before .before .before in
+    let pre = at .before .before .before .before .before .before .pre in
     let inv = at .loop .inv in (
-      putting-more (inv .3) (pre .1) (inv .0) (omega arith) (c .before .before .place .ensures),
-      putting-more (inv .3) (pre .2) (inv .1) (omega arith) (c .before .mark .ensures),
-      putting-more (inv .3) (pre .3) (inv .2) (omega arith) (c .seen .ensures),
-      inv .3,
+      putting-more (inv .4) (pre .1) (inv .0) (omega arith) (c .before .before .before .before .place .ensures),
+      putting-more (inv .4) (pre .2) (inv .1) (omega arith) (c .before .before .before .mark .ensures),
+      stamping-more (inv .4) (pre .3) (inv .2) (omega arith) (c .before .since .ensures),
+      putting-more (inv .4) (pre .4) (inv .3) (omega arith) (c .seen .ensures),
+      inv .4,
     )
 
 returns : tie.Need-returns Inv-loop μ-loop
 returns c =
     let inv = c .before .loop .inv in
     let left = c .loop-test .left in
-    (putting-end (inv .0) left, (putting-end (inv .1) left, putting-end (inv .2) left))
+    (putting-end (inv .0) left, (putting-end (inv .1) left, (stamping-end (inv .2) left, putting-end (inv .3) left)))
 
 pub put-back-spec : {M : Type 1} → statement M
 put-back-spec =
@@ -52,6 +54,11 @@ put-back-spec =
     (λ c. search needs)
     (λ c κs. search needs)
     (λ c. search needs)
+    (λ c. search needs)
+    (λ c. search needs)
+    (λ c κs. search needs)
+    (λ c. search needs)
+    (λ c. search needs)
     (λ c κs. search needs)
     (λ c. search needs)
     (λ c. search needs)
@@ -60,4 +67,5 @@ put-back-spec =
     (λ c. c .before .loop .inv .0 .long)
     (λ c. c .before .loop .inv .1 .long)
     (λ c. c .before .loop .inv .2 .long)
+    (λ c. c .before .loop .inv .3 .long)
     returns)

@@ -9,7 +9,7 @@ use Rattle.bench_lib.proofs.step.one.Tie as tie
 
 -- ---- what is known on the way
 abbrev start : tie.After-admit → tie.Start
-start c = c .before .before .before .before .before .before .before .before .before .before .before .before .before .before .before .before .before .before .before
+start c = c .before .before .before .before .before .before .before .before .before .before .before .before .before .before .before .before .before .before .before .before
 
 abbrev read : tie.After-admit → tie.After-read
 read c = c .before .before .before .before .before
@@ -25,7 +25,7 @@ line c =
     (p .1 .1 .statuses-long) (p .1 .1 .patterns-long) (read c .read .ensures) (c .admit .ensures)
 
 abbrev cells : tie.After-admit → Run
-cells c = let a = start c .args in run (a .times .now) (a .places .now) (a .marks .now)
+cells c = let a = start c .args in run (a .times .now) (a .places .now) (a .marks .now) (a .sinces .now)
 
 -- a node
 abbrev node : tie.After-kind → tie.After-admit
@@ -50,17 +50,17 @@ abbrev asked : tie.After-call → tie.After-admit
 asked c = c .before .before
 
 abbrev timed : tie.After-serve → tie.After-times
-timed c = c .before .before .before .before .before .before .before .before .before .before .before
+timed c = c .before .before .before .before .before .before .before .before .before .before .before .before
 
 abbrev served : tie.After-said → tie.After-serve
-served c = c .before .before .before .before .before .before .before .before
+served c = c .before .before .before .before .before .before .before .before .before .before
 
 abbrev call : tie.After-said → tie.After-admit
 call c = asked (happened (timed (served c)))
 
 serve-requires : tie.Need-serve-requires
 serve-requires c κs =
-    let t = c .before .before .before .before .before .before .before .before .before .before in
+    let t = c .before .before .before .before .before .before .before .before .before .before .before in
     let e = happened t in
     let few = call-few (line (asked e)) _ _ _ _ (e .call .given .1) in
     let p = start (asked e) .pre in
@@ -72,14 +72,14 @@ serve-requires c κs =
 tell-requires : tie.Need-tell-requires
 tell-requires c κs = let said = c .before in (rw (said .said .ensures), start (call said) .pre .1 .1 .room-long)
 
-same-length-12 : tie.Need-same-length-12
-same-length-12 c = read (call (c .before .before .before .before)) .read .kept .1 .0
-
 same-length-13 : tie.Need-same-length-13
-same-length-13 c = read (call (c .before .before .before .before)) .read .kept .1 .1 .0
+same-length-13 c = read (call (c .before .before .before .before)) .read .kept .1 .0
 
 same-length-14 : tie.Need-same-length-14
-same-length-14 c = timed (served (c .before .before .before .before)) .times .kept .1 .1 .0
+same-length-14 c = read (call (c .before .before .before .before)) .read .kept .1 .1 .0
+
+same-length-15 : tie.Need-same-length-15
+same-length-15 c = timed (served (c .before .before .before .before)) .times .kept .1 .1 .0
 
 returns-2 : tie.Need-returns-2
 returns-2 c =
@@ -88,7 +88,7 @@ returns-2 c =
     let t = timed (served said) in
     let m = call said in
     let last = left .last .1 .1 .1 .1 .1 .1 .1 .1 in
-    call-step (line m) _ _ _ _ (happened t .call .given .1) (cells m) (run (last .0) (last .1 .0) (last .1 .1 .0))
+    call-step (line m) _ _ _ _ (happened t .call .given .1) (cells m) (run (last .0) (last .1 .0) (last .1 .1 .0) (last .1 .1 .1 .0))
     (start m .args .leftovers .now) (t .times .last .1 .1 .0) _ _ _ _ _ _ (start m .pre .1 .1 .leftovers-long) (t .times .ensures)
     (left .ensures) (said .said .ensures) (c .before .before .tell .ensures)
 
@@ -127,9 +127,10 @@ one-spec =
     (λ c. search needs)
     (λ c. search needs)
     (λ c. search needs)
-    same-length-12
+    (λ c. search needs)
     same-length-13
     same-length-14
+    same-length-15
     (λ c. search needs)
     returns-2
     (λ c. search needs)

@@ -24,11 +24,11 @@ slice-aggregate-either-2 c = simp length-take (omega arith)
 slice-aggregate-either-3 : tie.Need-slice-aggregate-either-3
 slice-aggregate-either-3 c = simp length-take (omega arith)
 
-slice-aggregate-either-8 : tie.Need-slice-aggregate-either-8
-slice-aggregate-either-8 c = simp length-take (omega arith)
-
 slice-aggregate-either-9 : tie.Need-slice-aggregate-either-9
 slice-aggregate-either-9 c = simp length-take (omega arith)
+
+slice-aggregate-either-10 : tie.Need-slice-aggregate-either-10
+slice-aggregate-either-10 c = simp length-take (omega arith)
 
 leaves : (s : State) (call : Call) (e : Event) (h : events.Event) (fuel : ℕ) (ss : List ℕ) (ls : List Float) (x : Left) → h ≡ eventOf e
     → callOf call (given (s .record') (s .table .kinds) (s .table .ns) (s .table .limits) (s .cells') freshRun freshBoard h fuel ss ls) ≡ x
@@ -39,15 +39,15 @@ leaves s call e h fuel ss ls x p q =
     record { answer-is = ap (λ y. y .answer) r; record-is = ap (λ y. y .record') r; cells-are = ap (λ y. y .cells') r }
 
 abbrev start : tie.After-event-of → tie.Start
-start c = c .before .before .before .before .before .before .before .before .before .before .before .before .before .before .before .before .before .before .before .before
+start c = c .before .before .before .before .before .before .before .before .before .before .before .before .before .before .before .before .before .before .before .before .before .before .before
 
 returns : tie.Need-returns
 unfolding freshRun freshBoard ofBits
 returns c =
-    let called = c .before .before .before .before .before .before .before .before .before .before in
+    let called = c .before .before .before .before .before .before .before .before .before .before .before .before .before in
     let happened = called .before .before .before in
     let a = start happened .args in
-    leaves (stateOf (a .held) (rows (a .kinds .now) (a .ns .now) (a .limits .now)) (run (a .times .now) (a .places .now) (a .marks .now)))
+    leaves (stateOf (a .held) (rows (a .kinds .now) (a .ns .now) (a .limits .now)) (run (a .times .now) (a .places .now) (a .marks .now) (a .sinces .now)))
     (a .call) (a .event) (happened .event-of .result) (a .fuel) (take (a .count) (a .statuses .now)) (take (a .count) (a .leftovers .now)) _
     (happened .event-of .ensures) (called .either .ensures)
 
@@ -62,10 +62,12 @@ serve-spec =
     (λ c. search needs)
     (λ c. search needs)
     (λ c. search needs)
+    (λ c. search needs)
     (λ c κs. search needs)
-    slice-aggregate-either-8
     slice-aggregate-either-9
+    slice-aggregate-either-10
     (λ c κs. search needs)
+    (λ c. search needs)
     (λ c. search needs)
     (λ c. search needs)
     (λ c. search needs)

@@ -18,11 +18,11 @@ use Rattle.call.proofs.gate.checks.Tie as tie
 abbrev call : tie.Start → ℕ → Given
 call c fuel =
     let a = c .args in
-    given (a .«record») (a .kinds .now) (a .ns .now) (a .limits .now) (run (a .times .now) (a .places .now) (a .marks .now))
-    (run (a .spare-times .now) (a .spare-places .now) (a .spare-marks .now)) (a .board .now) (a .event) fuel (a .statuses .now) (a .leftovers .now)
+    given (a .«record») (a .kinds .now) (a .ns .now) (a .limits .now) (run (a .times .now) (a .places .now) (a .marks .now) (a .sinces .now))
+    (run (a .spare-times .now) (a .spare-places .now) (a .spare-marks .now) (a .spare-sinces .now)) (a .board .now) (a .event) fuel (a .statuses .now) (a .leftovers .now)
 
 abbrev start : tie.After-check-table → tie.Start
-start c = c .before .before .before .before .before .before .before .before .before .before .before .before .before .before
+start c = c .before .before .before .before .before .before .before .before .before .before .before .before .before .before .before .before
 
 abbrev ends : tie.After-check-table → List ℕ
 ends c = c .check-table .last .1 .1 .1 .0

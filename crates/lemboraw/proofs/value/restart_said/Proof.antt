@@ -8,8 +8,8 @@ use Rattle.lemboraw.proofs.value.restart_said.Tie as tie
 returns : tie.Need-returns
 unfolding hostRestart
 returns c =
-    let called = c .before .before .before .before .before .before .before .before .before .before .before .before .before .before .before .before in
-    let event = called .before .before .before .before .before .before .before .before .event-of in
+    let called = c .before .before .before .before .before .before .before .before .before .before .before .before .before .before .before .before .before .before .before .before in
+    let event = called .before .before .before .before .before .before .before .before .before .before .event-of in
     call-told (rw (event .ensures) at (called .restart-value .ensures)) (c .said .ensures)
 
 pub restart-said-spec : {M : Type 1} → statement M
@@ -19,6 +19,8 @@ restart-said-spec =
     (λ c κs. search needs)
     (λ c κs. search needs)
     (λ c κs. search needs)
+    (λ c. search needs)
+    (λ c. search needs)
     (λ c. search needs)
     (λ c. search needs)
     (λ c. search needs)

@@ -9,4 +9,4 @@ unfolding freshWord
 returns c = search needs
 
 pub fresh-word-spec : {M : Type 1} → statement M
-fresh-word-spec = tie.close (tie.spec (λ c. search needs) (λ c. search needs) returns)
+fresh-word-spec = tie.close (tie.spec (λ c. search needs) (λ c. search needs) (λ c. search needs) returns)
