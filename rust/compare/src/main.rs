@@ -4,13 +4,16 @@
 //! since they are built as they are.
 
 mod bound;
+mod cases;
 mod expect;
 mod figures;
 mod ours;
 mod random;
 mod sample;
+mod sides;
 mod since;
 mod small;
+mod stack;
 mod theirs;
 mod tree;
 mod walk;
@@ -67,8 +70,8 @@ impl Count {
 const USAGE: &str = "usage: compare [--full] [--seed N]
        compare sample FOLDER
        compare times | stack | list
-       compare repeat NUMBER SIDE ROUNDS
-       compare counts < COUNTS";
+       compare repeat TREE TREES SIDE ROUNDS
+       compare trace TREE";
 
 fn main() -> ExitCode {
     let args: Vec<String> = std::env::args().skip(1).collect();
@@ -81,20 +84,20 @@ fn main() -> ExitCode {
                 false
             }
         },
-        ["times"] => figures::print_times(),
-        ["counts"] => figures::print_counts(std::io::stdin().lines().map_while(Result::ok)),
+        ["times"] => {
+            figures::times();
+            true
+        }
         ["stack"] => {
-            figures::print_stack();
+            stack::print();
             true
         }
-        ["list"] => {
-            figures::list();
-            true
-        }
-        ["repeat", number, side, rounds] => match (number.parse(), rounds.parse()) {
-            (Ok(number), Ok(rounds)) => figures::repeat(number, side, rounds),
+        ["list"] => figures::list(),
+        ["repeat", tree, trees, side, rounds] => match (trees.parse(), rounds.parse()) {
+            (Ok(trees), Ok(rounds)) => figures::repeat(tree, trees, side, rounds),
             _ => usage(),
         },
+        ["trace", tree] => figures::trace(tree),
         _ => match options(&args) {
             Some((full, seed)) => compare(full, seed),
             None => usage(),

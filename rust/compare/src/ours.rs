@@ -3,6 +3,7 @@
 use crate::theirs::{Ev, Left, Theirs};
 use crate::tree::Tree;
 use lemboraw::raw::{self, Record, Said, Table};
+use std::ops::Range;
 
 /// Cells of a tree, and perhaps of more room behind them.
 #[derive(Clone, Debug, Default)]
@@ -49,6 +50,11 @@ impl Cells {
         }
     }
 
+    /// Where each of the runs lies.
+    pub fn runs(&self) -> [Range<usize>; 4] {
+        [run(&self.times), run(&self.places), run(&self.marks), run(&self.sinces)]
+    }
+
     /// Equal bit by bit.
     fn same(&self, other: &Cells) -> bool {
         self.places == other.places
@@ -56,6 +62,12 @@ impl Cells {
             && self.sinces == other.sinces
             && self.times.iter().zip(&other.times).all(|(a, b)| a.to_bits() == b.to_bits())
     }
+}
+
+/// Where the elements of a slice lie.
+pub fn run<T>(of: &[T]) -> Range<usize> {
+    let run = of.as_ptr_range();
+    run.start as usize..run.end as usize
 }
 
 /// The input of a tick or a restart, but for the memory.
