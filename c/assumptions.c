@@ -83,6 +83,68 @@ static void memory(void) {
     CHECK(tree.sinces[0] == 2 && tree.sinces[4] == 2 && tree.spare_sinces[1] == 1 && tree.spare_sinces[4] == 0);
 }
 
+/* All that an exchange is given can't be written to, the record neither, and its room is as long as the result. */
+static void exchange(void) {
+    static const uint8_t new_kinds[] = {LEMBORAW_INVERT, LEMBORAW_SEQUENCE, LEMBORAW_WAIT, LEMBORAW_ACTION};
+    static const uint16_t new_ns[] = {1, 2, 0, 9};
+    static const double new_limits[] = {0, 0, 2, 0};
+    static const double times[NODES] = {0, 0, 1, 0, 0};
+    static const uint16_t places[NODES] = {0};
+    static const uint8_t marks[NODES] = {0};
+    static const uint64_t sinces[NODES] = {1, 2, 3, 4, 5};
+    static const struct lemboraw_record record = {false, 77};
+    /* A Select of the tree's nodes: its last child is due only when the others have failed. */
+    static const uint8_t select[NODES] = {LEMBORAW_SELECT, LEMBORAW_ACTION, LEMBORAW_WAIT, LEMBORAW_SEQUENCE, LEMBORAW_WAIT};
+    enum { NEW = 4, RESULT = NODES - 2 + NEW };
+    for (int run = -1; run < 17; run++) {
+        size_t len[17];
+        for (int i = 0; i < 17; i++) len[i] = i == run ? 0 : i < 7 ? (size_t)NODES : i < 10 ? (size_t)NEW : (size_t)RESULT;
+#define IN(i, type, what) (run == i ? NULL : (const type *)lend_const(what, sizeof what)), len[i]
+#define OUT(i, type) (type *)(run == i ? NULL : lend(RESULT * sizeof(type))), len[i]
+        double *out_times = (double *)lend(RESULT * sizeof(double));
+        uint64_t *out_sinces = (uint64_t *)lend(RESULT * sizeof(uint64_t));
+        struct lemboraw_exchange_said said = lemboraw_exchange(
+            record,
+            IN(0, uint8_t, select), IN(1, uint16_t, ns), IN(2, double, limits), IN(3, double, times), IN(4, uint16_t, places),
+            IN(5, uint8_t, marks), IN(6, uint64_t, sinces), 3, IN(7, uint8_t, new_kinds), IN(8, uint16_t, new_ns),
+            IN(9, double, new_limits), OUT(10, uint8_t), OUT(11, uint16_t), OUT(12, double), (run == 13 ? NULL : out_times), len[13],
+            OUT(14, uint16_t), OUT(15, uint8_t), (run == 16 ? NULL : out_sinces), len[16]);
+#undef OUT
+#undef IN
+        uint8_t must = run < 0 ? LEMBORAW_DONE : run < 3 ? LEMBORAW_BAD_TABLE : run < 7 ? LEMBORAW_TOO_SHORT
+                     : run < 10 ? LEMBORAW_BAD_TABLE : LEMBORAW_SHORT_ROOM;
+        CHECK(said.no == must && said.table == (run >= 7 && run < 10) && said.place == 0 && said.nodes == (run < 0 ? RESULT : 0));
+        CHECK(out_times[2] == (run < 0 ? 1 : 0) && out_sinces[2] == (run < 0 ? 3u : 0) && out_sinces[RESULT - 1] == (run < 0 ? 77u : 0));
+    }
+}
+
+/* A tree that is exchanged back and forth between two rooms. */
+static void tree_exchange(void) {
+    static struct lemboraw_room rooms[2];
+    static struct lemboraw_table tables[2];
+    static const uint8_t both[] = {LEMBORAW_SEQUENCE, LEMBORAW_WAIT, LEMBORAW_WAIT, LEMBORAW_WAIT};
+    static const uint16_t counts[] = {3, 0, 0, 0};
+    static const double waits[] = {0, 1, 5, 9};
+    static const uint8_t inverts[] = {LEMBORAW_INVERT, LEMBORAW_WAIT};
+    static const uint16_t one[] = {1, 0};
+    static const double soon[] = {0, 2};
+    struct lemboraw_tree tree = lemboraw_tree_new(both, counts, waits, 4, &rooms[0]);
+    CHECK(lemboraw_tree_tick(&tree, true, 2, 4, none).status == LEMBORAW_RUNNING && tree.places[0] == 1 && tree.times[2] == 1);
+    struct lemboraw_exchange_said said = lemboraw_tree_exchange(&tree, 2, inverts, one, soon, 2, &tables[1], &rooms[1]);
+    CHECK(said.no == LEMBORAW_STATE_HELD && tree.len == 4 && tree.kinds == both && tree.times == rooms[0].times);
+    /* The first child is done, and is replaced by two nodes: all that is behind moves. */
+    said = lemboraw_tree_exchange(&tree, 1, inverts, one, soon, 2, &tables[1], &rooms[1]);
+    CHECK(said.no == LEMBORAW_DONE && tree.len == 5 && tree.kinds == tables[1].kinds && tree.times == rooms[1].times);
+    CHECK(tree.times[3] == 1 && tree.limits[2] == 2 && tree.limits[3] == 5 && lemboraw_tree_age(&tree, 1) == 0);
+    CHECK(tree.board[0] == LEMBORAW_RUNNING && tree.board[1] == 0 && tree.board[2] == 0 && tree.board[3] == LEMBORAW_RUNNING);
+    /* And back by a branch of one node. */
+    said = lemboraw_tree_exchange(&tree, 1, inverts + 1, one + 1, soon + 1, 1, &tables[0], &rooms[0]);
+    CHECK(said.no == LEMBORAW_DONE && tree.len == 4 && tree.times == rooms[0].times && tree.times[2] == 1);
+    CHECK(tree.board[1] == 0 && tree.board[2] == LEMBORAW_RUNNING && tree.board[3] == 0);
+    CHECK(lemboraw_tree_tick(&tree, true, 4, 4, none).status == LEMBORAW_RUNNING && tree.places[0] == 2 && tree.record.ticks == 2);
+    CHECK(lemboraw_tree_restart(&tree, true, 1, 4, none).no == LEMBORAW_DONE && tree.times[1] == 1 && tree.limits[1] == 2);
+}
+
 /* Each of the runs, null and empty, in place of one that is long enough. */
 static void empty_runs(void) {
     for (int run = 0; run <= 14; run++) {
@@ -168,6 +230,8 @@ static void settings(void) {
 
 int main(void) {
     memory();
+    exchange();
+    tree_exchange();
     empty_runs();
     places_of_bad_tables();
     settings();

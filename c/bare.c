@@ -14,13 +14,16 @@ void *memset(void *to, int byte, size_t n) {
 static const uint8_t kinds[] = {LEMBORAW_SEQUENCE, LEMBORAW_WAIT, LEMBORAW_WAIT};
 static const uint16_t ns[] = {2, 0, 0};
 static const double limits[] = {0, 2, 1};
-static struct lemboraw_room room;
+static struct lemboraw_room room, other_room;
+static struct lemboraw_table other_table;
 
 static int run(void) {
     struct lemboraw_answers none = {NULL, NULL, 0};
     struct lemboraw_tree tree = lemboraw_tree_new(kinds, ns, limits, 3, &room);
     struct lemboraw_said first = lemboraw_tree_tick(&tree, true, 1, 3, none);
     bool as_it_must = first.no == LEMBORAW_DONE && first.status == LEMBORAW_RUNNING && room.board[1] == LEMBORAW_RUNNING;
+    /* The second wait by one as long: nothing else changes. */
+    as_it_must = as_it_must && lemboraw_tree_exchange(&tree, 2, kinds + 2, ns + 2, limits + 2, 1, &other_table, &other_room).nodes == 3;
     struct lemboraw_said second = lemboraw_tree_tick(&tree, true, 3, 3, none);
     as_it_must = as_it_must && second.no == LEMBORAW_DONE && second.status == LEMBORAW_SUCCESS && second.time == 1;
     as_it_must = as_it_must && lemboraw_tree_age(&tree, 0) == 2 && lemboraw_tree_age(&tree, 2) == 0;

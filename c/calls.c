@@ -1,4 +1,4 @@
-/* The five functions as they are, each run with its length: a wait, an action that is asked for, a restart, the refusals. */
+/* The six functions as they are, each run with its length: a wait, an action that is asked for, a restart, an exchange, the refusals. */
 #include "lemboraw.h"
 #include <stdio.h>
 
@@ -31,12 +31,87 @@ static struct lemboraw_said restart(double dt, uint32_t fuel, uint8_t status, si
                             true, dt, fuel, &status, answers, &leftover, answers);
 }
 
+/* The branch of an exchange, and its room: one node more than a result with it has in place of one node. */
+enum { BRANCH = 2, ROOM = LEN - 1 + BRANCH + 1 };
+static const uint8_t branch_kinds[BRANCH] = {LEMBORAW_TIMEOUT, LEMBORAW_ACTION};
+static const uint16_t branch_ns[BRANCH] = {1, 7};
+static const double branch_limits[BRANCH] = {3.0, -0.0};
+static uint8_t room_kinds[ROOM], room_marks[ROOM];
+static uint16_t room_ns[ROOM], room_places[ROOM];
+static double room_limits[ROOM], room_times[ROOM];
+static uint64_t room_sinces[ROOM];
+
+static struct lemboraw_exchange_said exchange(size_t nodes, size_t cells, size_t at, size_t branch, size_t room) {
+    for (size_t i = 0; i < ROOM; i++) {
+        room_kinds[i] = room_marks[i] = 99;
+        room_ns[i] = room_places[i] = 99;
+        room_limits[i] = room_times[i] = 99;
+        room_sinces[i] = 99;
+    }
+    return lemboraw_exchange(record, kinds, nodes, ns, nodes, limits, nodes, times, LEN, places, cells, marks, LEN, sinces, LEN,
+                             at, branch_kinds, branch, branch_ns, branch, branch_limits, branch,
+                             room_kinds, ROOM, room_ns, ROOM, room_limits, ROOM, room_times, ROOM, room_places, room,
+                             room_marks, ROOM, room_sinces, ROOM);
+}
+
+/* Whether that node of the room is as it was. */
+static bool untouched(size_t i) {
+    return room_kinds[i] == 99 && room_ns[i] == 99 && room_limits[i] == 99 && room_times[i] == 99 && room_places[i] == 99 &&
+           room_marks[i] == 99 && room_sinces[i] == 99;
+}
+
+static bool refused(struct lemboraw_exchange_said said, uint8_t no, uint8_t table, size_t place) {
+    for (size_t i = 0; i < ROOM; i++) {
+        if (!untouched(i)) return false;
+    }
+    return said.no == no && said.table == table && said.place == place && said.nodes == 0;
+}
+
+/* While the wait is under way, the action behind it is exchanged. */
+static void exchanges(void) {
+    /* In the order in which it looks: from one line to the next the first thing that is wrong is put right. */
+    double stood = times[0];
+    times[0] = -1.0;
+    record.finished = true;
+    CHECK(refused(exchange(LEN - 1, 1, 9, 1, 1), LEMBORAW_BAD_TABLE, 0, 2));
+    CHECK(refused(exchange(LEN, 1, 9, 1, 1), LEMBORAW_BAD_TABLE, 1, 1));
+    CHECK(refused(exchange(LEN, 1, 9, BRANCH, 1), LEMBORAW_TOO_SHORT, 0, 0));
+    CHECK(refused(exchange(LEN, LEN, 9, BRANCH, 1), LEMBORAW_BAD_CELL, 0, 0));
+    times[0] = stood;
+    CHECK(refused(exchange(LEN, LEN, 9, BRANCH, 1), LEMBORAW_FINISHED, 0, 0));
+    record.finished = false;
+    CHECK(refused(exchange(LEN, LEN, LEN, BRANCH, 1), LEMBORAW_NO_NODE, 0, 0));
+    CHECK(refused(exchange(LEN, LEN, 1, BRANCH, 1), LEMBORAW_STATE_HELD, 0, 0));
+    CHECK(refused(exchange(LEN, LEN, 0, BRANCH, 1), LEMBORAW_STATE_HELD, 0, 0));
+    CHECK(refused(exchange(LEN, LEN, 2, BRANCH, LEN), LEMBORAW_SHORT_ROOM, 0, 0));
+
+    struct lemboraw_exchange_said said = exchange(LEN, LEN, 2, BRANCH, LEN + 1);
+    CHECK(said.no == LEMBORAW_DONE && said.table == 0 && said.place == 0 && said.nodes == LEN + 1 && untouched(LEN + 1));
+    CHECK(room_kinds[0] == LEMBORAW_SEQUENCE && room_kinds[2] == LEMBORAW_TIMEOUT && room_kinds[3] == LEMBORAW_ACTION);
+    CHECK(room_ns[0] == 2 && room_ns[2] == 1 && room_ns[3] == 7 && room_limits[1] == 2.0 && room_limits[2] == 3.0);
+    /* Minus zero is written as plus zero; the new nodes are fresh and stand since now, the others as they did. */
+    CHECK(1.0 / room_limits[3] > 0.0 && room_times[1] == 1.0 && room_times[2] == 0.0 && room_places[0] == 0 && room_marks[3] == 0);
+    CHECK(room_sinces[0] == 0 && room_sinces[1] == 0 && room_sinces[2] == record.ticks && room_sinces[3] == record.ticks);
+    CHECK(times[1] == 1.0 && record.ticks == 1 && !record.finished);
+
+    /* A result that is too large: refused before its room is looked at. */
+    static uint8_t many[256];
+    static uint16_t counts[256];
+    static double zeros[256];
+    many[0] = LEMBORAW_WHEN_ALL, counts[0] = 255;
+    for (int i = 1; i < 256; i++) many[i] = LEMBORAW_WAIT_FOREVER;
+    said = lemboraw_exchange(record, kinds, LEN, ns, LEN, limits, LEN, times, LEN, places, LEN, marks, LEN, sinces, LEN, 2,
+                             many, 256, counts, 256, zeros, 256, NULL, 0, NULL, 0, NULL, 0, NULL, 0, NULL, 0, NULL, 0, NULL, 0);
+    CHECK(said.no == LEMBORAW_TOO_LARGE && said.table == 0 && said.place == 0 && said.nodes == 0);
+}
+
 int main(void) {
     struct lemboraw_said said = tick(LEN, true, 1.0, 3, LEMBORAW_RUNNING, 0);
     CHECK(said.no == LEMBORAW_DONE && said.status == LEMBORAW_RUNNING && said.visits == 2 && said.used == 0);
     CHECK(said.time == 0.0 && record.ticks == 1 && times[1] == 1.0 && board[0] == LEMBORAW_RUNNING && board[2] == 0);
     /* Nothing was made fresh: all of it has stood since the tree was new. */
     CHECK(sinces[0] == 0 && sinces[1] == 0 && sinces[2] == 0 && lemboraw_age(record.ticks, sinces[1]) == 1);
+    exchanges();
 
     said = tick(LEN, true, 4.0, 3, LEMBORAW_RUNNING, 0);
     CHECK(said.no == LEMBORAW_ASKS && said.extra == 40000 && said.time == 3.0 && record.ticks == 1 && times[1] == 1.0);
@@ -93,6 +168,6 @@ int main(void) {
     CHECK(lemboraw_memory(LEMBORAW_SEQUENCE, false) == LEMBORAW_MEMORYLESS_SEQUENCE);
     CHECK(lemboraw_memory(LEMBORAW_MEMORYLESS_SELECTOR, true) == LEMBORAW_SELECT);
     CHECK(lemboraw_memory(LEMBORAW_RACE, false) == LEMBORAW_RACE);
-    puts(wrong ? "C, the five functions: wrong" : "C, the five functions: ok");
+    puts(wrong ? "C, the six functions: wrong" : "C, the six functions: ok");
     return wrong;
 }

@@ -31,8 +31,8 @@
  *   lemboraw_floats_are_usual() looks.
  *
  * Several runs that make up one thing (kinds, ns and limits are the table; times, places, marks and
- * sinces the cells; statuses and leftovers the answers) count as long as the shortest of them. Nothing
- * past the table's length is read or written in cells, spare and board.
+ * sinces the cells; statuses and leftovers the answers; all seven of an exchange its room) count as long
+ * as the shortest of them. Nothing past the table's length is read or written in cells, spare and board.
  */
 #ifndef LEMBORAW_H
 #define LEMBORAW_H
@@ -101,7 +101,8 @@ enum lemboraw_status {
  * does that is the table's length; where it goes on behind its tree, the first node there; where the
  * tree has more than 256 nodes, 256. A restart says the same in the same order, but never 9 or 2. The
  * bound says 3, 8 or 0; 8 stands for a step that is not whole or not from 1 to 2^40, a limit that is not
- * whole or above 2^40, or an After without children, anywhere in the tree. */
+ * whole or above 2^40, or an After without children, anywhere in the tree. What an exchange says stands
+ * at lemboraw_exchange. */
 enum lemboraw_no {
     LEMBORAW_DONE = 0,
     LEMBORAW_ASKS = 1,
@@ -112,7 +113,11 @@ enum lemboraw_no {
     LEMBORAW_BAD_ANSWER = 6,
     LEMBORAW_OUT_OF_FUEL = 7,
     LEMBORAW_NO_BOUND = 8,
-    LEMBORAW_BAD_CELL = 9
+    LEMBORAW_BAD_CELL = 9,
+    LEMBORAW_NO_NODE = 17,
+    LEMBORAW_STATE_HELD = 18,
+    LEMBORAW_TOO_LARGE = 19,
+    LEMBORAW_SHORT_ROOM = 20
 };
 
 /* The standing record of one tree. A new tree has {false, 0}. */
@@ -143,6 +148,14 @@ struct lemboraw_bound_said {
     uint8_t kind;   /* of 0: enum lemboraw_bound_kind */
     size_t place;   /* of 3: the place */
     uint64_t ticks; /* of LEMBORAW_TICKS: the number */
+};
+
+/* What an exchange says. A field that the line of `no` does not name is 0. */
+struct lemboraw_exchange_said {
+    uint8_t no;    /* enum lemboraw_no */
+    uint8_t table; /* of 3: which table is bad, 0 the tree's, 1 the branch's */
+    size_t place;  /* of 3: the place in that table; of 9: the place in the tree's */
+    size_t nodes;  /* of 0: how many nodes were written */
 };
 
 /* One tick: an update by dt (update true) or another event (update false; dt is not looked at).
@@ -210,6 +223,57 @@ struct lemboraw_said lemboraw_restart(
     const uint8_t *statuses, size_t statuses_len,
     const double *leftovers, size_t leftovers_len);
 
+/* The exchange of a branch that has not been started: the tree in which a new branch, a table of its own,
+ * stands in place of the node `at` and all below it is written to the room, its table and its cells. The
+ * tree that was given is only read, and so is the record, which goes on with the new tree.
+ *
+ * The new branch is fresh: its times, places and marks are 0, its sinces the record's tick count. Every
+ * other node keeps its four numbers. Limits are written as they are taken, minus zero as plus zero.
+ *
+ * It is allowed where the tree holds no state for the node. That is so where it is, or lies below,
+ *
+ * - a child of a Select or Sequence other than the one at its place; at place n the last child is that one,
+ * - a child in the body of a While or WhileAll that is not in progress; at place 0 of a WhileAll the first
+ *   is in progress,
+ * - a branch of an If that is not chosen, so both before it is decided, or the condition once it is,
+ *
+ * and neither is a marked child nor lies below one. So never for the root.
+ *
+ *   no  when                                                       table, place, nodes
+ *   3   a bad table: the tree's, and then the branch's             which, and the faulty place in it
+ *   4   cells shorter than the tree's table
+ *   9   a bad cell                                                 its place
+ *   2   the tree is finished
+ *   17  the tree has no node `at`: it counts from 0
+ *   18  state is held for it
+ *   19  the result has more than 256 nodes or is deeper than 16
+ *   20  the room is shorter than the result
+ *   0   done                                                       the nodes of the result
+ *
+ * It looks in this order. On 0 as many elements of each run of the room are written as the result has
+ * nodes; on anything else nothing is. What was in the room does not matter. There is no board: until the
+ * next tick the host shows what it likes of the new branch. */
+struct lemboraw_exchange_said lemboraw_exchange(
+    struct lemboraw_record record,
+    const uint8_t *kinds, size_t kinds_len,
+    const uint16_t *ns, size_t ns_len,
+    const double *limits, size_t limits_len,
+    const double *times, size_t times_len,
+    const uint16_t *places, size_t places_len,
+    const uint8_t *marks, size_t marks_len,
+    const uint64_t *sinces, size_t sinces_len,
+    size_t at,
+    const uint8_t *new_kinds, size_t new_kinds_len,
+    const uint16_t *new_ns, size_t new_ns_len,
+    const double *new_limits, size_t new_limits_len,
+    uint8_t *room_kinds, size_t room_kinds_len,
+    uint16_t *room_ns, size_t room_ns_len,
+    double *room_limits, size_t room_limits_len,
+    double *room_times, size_t room_times_len,
+    uint16_t *room_places, size_t room_places_len,
+    uint8_t *room_marks, size_t room_marks_len,
+    uint64_t *room_sinces, size_t room_sinces_len);
+
 /* The most ticks that a fresh tree takes to finish, whatever statuses its actions answer; a restart that
  * says 0 is the first of them. It holds if, from the fresh tree on,
  *
@@ -276,6 +340,13 @@ struct lemboraw_room {
     uint8_t marks[LEMBORAW_MOST_NODES], spare_marks[LEMBORAW_MOST_NODES], board[LEMBORAW_MOST_NODES];
 };
 
+/* Room for the table of the largest tree that there can be. */
+struct lemboraw_table {
+    double limits[LEMBORAW_MOST_NODES];
+    uint16_t ns[LEMBORAW_MOST_NODES];
+    uint8_t kinds[LEMBORAW_MOST_NODES];
+};
+
 /* What the actions of a tick answered, in the order in which they were asked. */
 struct lemboraw_answers {
     const uint8_t *statuses;
@@ -335,6 +406,41 @@ static inline struct lemboraw_said lemboraw_tree_restart(
         tree->spare_times, room, tree->spare_places, room, tree->spare_marks, room, tree->spare_sinces, room,
         tree->board, room, update, dt, fuel,
         answers.statuses, answers.len, answers.leftovers, answers.len);
+}
+
+/* lemboraw_exchange of a tree. Table and room are others than those it stands over: on 0 it stands over
+ * these, and the old ones are free for the next exchange. On the board all others show what they showed,
+ * and the new branch 0. On anything else the tree is as it was. */
+static inline struct lemboraw_exchange_said lemboraw_tree_exchange(
+    struct lemboraw_tree *tree, size_t at,
+    const uint8_t *new_kinds, const uint16_t *new_ns, const double *new_limits, size_t new_len,
+    struct lemboraw_table *table, struct lemboraw_room *room) {
+    const size_t len = tree->len, most = LEMBORAW_MOST_NODES, lent = len < most ? len : most;
+    struct lemboraw_exchange_said said = lemboraw_exchange(
+        tree->record, tree->kinds, len, tree->ns, len, tree->limits, len,
+        tree->times, lent, tree->places, lent, tree->marks, lent, tree->sinces, lent,
+        at, new_kinds, new_len, new_ns, new_len, new_limits, new_len,
+        table->kinds, most, table->ns, most, table->limits, most,
+        room->times, most, room->places, most, room->marks, most, room->sinces, most);
+    if (said.no != LEMBORAW_DONE) return said;
+    for (size_t i = 0; i < said.nodes; i++) {
+        /* What stands behind the branch has moved by as much as the tree has grown. */
+        room->board[i] = i < at ? tree->board[i] : i < at + new_len ? 0 : tree->board[i + len - said.nodes];
+    }
+    tree->len = said.nodes;
+    tree->kinds = table->kinds;
+    tree->ns = table->ns;
+    tree->limits = table->limits;
+    tree->times = room->times;
+    tree->places = room->places;
+    tree->marks = room->marks;
+    tree->sinces = room->sinces;
+    tree->spare_times = room->spare_times;
+    tree->spare_places = room->spare_places;
+    tree->spare_marks = room->spare_marks;
+    tree->spare_sinces = room->spare_sinces;
+    tree->board = room->board;
+    return said;
 }
 
 /* lemboraw_bound of a tree. */

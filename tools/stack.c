@@ -95,6 +95,21 @@ static bool many_children(void) {
     return said.no == LEMBORAW_DONE && said.status == LEMBORAW_SUCCESS && said.visits == LEMBORAW_MOST_NODES;
 }
 
+/* The deepest node of a tree of 16 levels, in a branch that has not been started. */
+static bool deep_exchange(void) {
+    static struct lemboraw_room other_room;
+    static struct lemboraw_table other_table;
+    bool all = true;
+    for (uint8_t kind = LEMBORAW_INVERT; kind <= LEMBORAW_RACE; kind++) {
+        size_t len = chain(2, kind, LEMBORAW_MOST_DEPTH - 2);
+        kinds[0] = LEMBORAW_SEQUENCE, ns[0] = 2, kinds[1] = LEMBORAW_WAIT_FOREVER, ns[1] = 0;
+        struct lemboraw_tree tree = tree_of(len);
+        const size_t leaf = 1;
+        all = all && lemboraw_tree_exchange(&tree, len - 1, kinds + 1, ns + 1, limits + 1, leaf, &other_table, &other_room).nodes == len;
+    }
+    return all;
+}
+
 static bool (*now)(void);
 static bool done;
 static char *top;
@@ -136,6 +151,7 @@ int main(void) {
     size_t two = measured("a tick that makes a branch of 2 levels fresh", two_levels);
     size_t levels = measured("a tick that makes a branch of 15 levels fresh", all_levels);
     measured("a bound, 16 levels of each kind", deep_bound);
+    measured("an exchange, 16 levels of each kind", deep_exchange);
     measured("a tick of a While with fifty million turns", many_turns);
     measured("a tick of a Sequence of 255 children", many_children);
     if (levels != two) printf("more levels to make fresh take more stack\n");

@@ -70,9 +70,27 @@ FAULTS = [
     ),
     (
         "an age does not wrap",
-        "lemboraw/src/lib.rt",
+        "rules/src/answer.rt",
         "std::num::wrapping_sub_u64(ticks, since)",
         "ticks.saturating_sub(since)",
+    ),
+    (
+        "the child at the place of a Sequence can be exchanged",
+        "exchange/src/way.rt",
+        "i != or_last(place, n)",
+        "true",
+    ),
+    (
+        "a new branch has stood since tick 0",
+        "exchange/src/write.rt",
+        "Source::New(_) => ticks,",
+        "Source::New(_) => 0,",
+    ),
+    (
+        "a branch in an ended child of WhenAll can be exchanged",
+        "exchange/src/way.rt",
+        "if marks[child] == 1 {",
+        "if marks[child] == 2 {",
     ),
 ]
 

@@ -25,24 +25,16 @@ use Rattle.tables.specs.declared.answers.Answered.the-variants as answered
 use Rattle.tables.specs.Checks.{numberOf, answeredOf, firstBad}
 use Rattle.cells.specs.declared.check.Found.{Found as Said}
 use Rattle.cells.specs.declared.check.Found.the-variants.{Faulty, Fine}
-use Rattle.cells.specs.Check.{Room, Checks, said}
+use Rattle.cells.specs.Check.{Room, Checks, said, said-faulty, said-fine}
+use Rattle.cells.specs.Long.{long}
 use Rattle.call.specs.declared.gate.Gate.{Gate}
 use Rattle.call.specs.declared.gate.Gate.the-variants.{Refused, Open}
 use Rattle.call.specs.declared.gate.Timed.{Timed as Chosen}
 use Rattle.call.specs.declared.gate.Timed.the-variants as timed
 use Rattle.call.specs.Due.{callOf, begun, walkWith, Due, timedOf, Passed}
-use Rattle.call.proofs.Good.{Good}
-use Rattle.call.proofs.Long.{long}
+use Rattle.tables.proofs.Good.{Good}
 
 -- ---- what the checks of cells and answers said
-said-faulty : (o : Found) (r : Said) (p : ℕ) → r ≡ said o → r ≡ Faulty p → o ≡ faulty p
-said-faulty (faulty q) r p e h = cc
-said-faulty (none q) r p e h = cc
-
-said-fine : (o : Found) (r : Said) → r ≡ said o → r ≡ Fine → (q : ℕ) × (o ≡ none q)
-said-fine (faulty q) r e h = (0, cc)
-said-fine (none q) r e h = (q, refl)
-
 answered-bad : (o : Found) (r : Answered) (i : ℕ) → r ≡ answeredOf o → r ≡ answered.Bad i → o ≡ faulty i
 answered-bad (faulty q) r i e h = cc
 answered-bad (none q) r i e h = cc
@@ -163,7 +155,7 @@ module _ {g : Given} {ends : List ℕ} {n : ℕ} (t : Fit g ends n) where
 
   module _ {r : Said} (k : Checks (g .kinds) (g .ns) ends (g .cells' .times) (g .cells' .places) (g .cells' .marks) n r) where
     says : r ≡ said found
-    says = k (g .limits) (t .good .tree) (t .good .held) (t .good .sized) (t .good .levels)
+    says = k (g .limits) (t .good .tree) (t .good .stands) (t .good .sized) (t .good .levels)
 
     pub bad-cell : (fresh : Bool) → fresh ≡ false → (p : ℕ) → r ≡ Faulty p → callOf fresh g ≡ refused g (BadCell p)
     bad-cell fresh e p h = rw e (room-found false ∙ rw (dueOf, said-faulty found r p says h))
@@ -223,7 +215,7 @@ module _ {fresh : Bool} {g : Given} {ends : List ℕ} {n : ℕ} where
           sized = fit .good .sized;
           few = fit .good .few;
           levels = fit .good .levels;
-          stands = fit .good .held;
+          stands = fit .good .stands;
           ends-long = fit .good .ends-long;
           in-kinds = fit .good .in-kinds;
           behind = t .timed .held .behind;

@@ -1,7 +1,6 @@
 pub mod Arms
 pub mod Copies
-pub mod Long
-pub mod Good
+pub mod Lent
 pub mod Gates
 pub mod Columns
 pub mod Walks

@@ -27,6 +27,7 @@ use Rattle.rules.specs.Board.{shown}
 use Rattle.rules.specs.Call.{Given, Run, run, left, answers, counted, ontoRun, ontoBoard, sinceIn, spared, walked}
 use Rattle.calls.specs.Shape.{size-shape, depth-shape}
 use Rattle.calls.specs.Memory.{held, with-shape}
+use Rattle.cells.specs.Long.{Long}
 use Rattle.work.specs.declared.result.Result.{Result}
 use Rattle.work.specs.declared.result.Seen.{Seen}
 use Rattle.work.specs.declared.result.Seen.the-variants.{Stopped, Running, Success, Failure}
@@ -42,7 +43,7 @@ use Rattle.load.specs.Load.{loadWords, over, stampedOver}
 use Rattle.load.specs.Trees.{Loads, lent-loads, fresh-loads, loaded, holds, fits, put-places, put-marks, put-sinces, put-board}
 use Rattle.board.specs.Show.{endedWords}
 use Rattle.board.specs.Trees.{shown-words, size-shown, fits-shown, places-shown, marks-shown, sinces-shown}
-use Rattle.call.specs.Onto.{onto, Long, ontoCells}
+use Rattle.call.specs.Onto.{onto, ontoCells}
 use Rattle.call.specs.Due.{callOf, startOf, begun, walkWith, Due}
 use Rattle.call.specs.Enter.{updates}
 use Rattle.call.specs.Told.{statusIn, toldStopped, toldDone}

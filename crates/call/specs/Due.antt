@@ -15,11 +15,11 @@ use Rattle.rules.specs.Call.{Run, Given, Left, answers, cleanedEvent, timeAllow
 use Rattle.calls.specs.Memory.{held}
 use Rattle.calls.specs.Zeros.{withEvent}
 use Rattle.tables.specs.At.{At}
+use Rattle.cells.specs.Long.{Long}
 use Rattle.call.specs.declared.gate.Gate.{Gate}
 use Rattle.call.specs.declared.gate.Gate.the-variants.{Refused, Open}
 use Rattle.call.specs.declared.gate.Timed.{Timed}
 use Rattle.call.specs.declared.gate.Timed.the-variants as timed
-use Rattle.call.specs.Onto.{Long}
 
 unfoldable pub callOf : Bool → Given → Left
 unfolding tickCall restartCall

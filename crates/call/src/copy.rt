@@ -3,7 +3,8 @@ ghost use mathlib.Core.Path.{_≡_};
 ghost use Prim.Native.Nat.{_≤_};
 ghost use lib.ListN.{length};
 ghost use Rattle.rules.specs.Call.{run};
-ghost use Rattle.call.specs.Onto.{onto, Long, ontoCells};
+ghost use Rattle.cells.specs.Long.{Long};
+ghost use Rattle.call.specs.Onto.{onto, ontoCells};
 
 pub fn copy_times(from: &[f64], to: &mut [f64], n: usize)
     requires { ⌜ (n ≤ length (now from)) × (n ≤ length (now to)) ⌝ }

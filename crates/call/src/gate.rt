@@ -1,6 +1,7 @@
 // The checks before a walk, in document 01's order.
 use cells::Found;
 use cells::check_cells;
+use cells::long_enough;
 use rules::Answer;
 use rules::Event;
 use rules::Record;
@@ -12,9 +13,8 @@ use tables::check_table;
 use tables::number_of;
 ghost use mathlib.Core.Path.{_≡_};
 ghost use Prim.Native.Nat.{ℕ};
-ghost use lib.Dec.{leb};
 ghost use lib.ListN.{length};
-ghost use Rattle.rules.specs.Call.{run, runLength, given};
+ghost use Rattle.rules.specs.Call.{run, given};
 ghost use Rattle.call.specs.Due.{timedOf, Passed};
 
 // What is to be done: nothing but to answer, or the walk of a tree of so many nodes with an event.
@@ -27,22 +27,6 @@ pub enum Gate {
 enum Timed {
     Good(Event),
     Bad,
-}
-
-// Whether a run has n cells or more.
-fn long_enough(times: &[f64], places: &[u16], marks: &[u8], sinces: &[u64], n: usize) -> bool
-    ensures { λ r. ⌜ r ≡ leb n (runLength (run (now (times .entry)) (now (places .entry)) (now (marks .entry)) (now (sinces .entry)))) ⌝ }
-{
-    if times.len() < n {
-        return false;
-    }
-    if places.len() < n {
-        return false;
-    }
-    if marks.len() < n {
-        return false;
-    }
-    n <= sinces.len()
 }
 
 fn event_of(event: Event) -> Timed

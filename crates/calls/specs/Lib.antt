@@ -2,6 +2,8 @@ pub mod Shape
 pub mod Post
 pub mod Memory
 pub mod Tables
+pub mod Tests
+pub mod Listed
 pub mod View
 pub mod Walks
 pub mod History

@@ -86,11 +86,14 @@ tabled kinds ns limits t e = rw e at (table-read kinds ns limits)
 pub at-least : (k : Kind) (n c : ℕ) → T (countAllowed k n) → children k n ≡ c → fewest k ≤ c
 at-least k n c a e = rw (← e) (leb→le (fewest k) (children k n) (and-l (leb (fewest k) (children k n)) (leb (children k n) (most k)) a))
 
--- ---- between two ticks, it is what it becomes when it is made fresh
+-- ---- it is what each tree of its shape is anew: made fresh, between two ticks
+abbrev pub renewed : Tree → Tree
+renewed t = clear (fresh t)
+
 mutual
   unfolding fresh clear
 
-  pub tabled-fresh : (t : Tree) → Tabled t → clear (fresh t) ≡ t
+  pub tabled-fresh : (t : Tree) → Tabled t → renewed t ≡ t
   tabled-fresh (node k n l c b ts) h = λ i. node k n l (sym (h .3) i) (sym (h .4) i) (tableds-fresh ts (h .5) i)
 
   tableds-fresh : (ts : Forest) → Tableds ts → clearAll (freshAll ts) ≡ ts

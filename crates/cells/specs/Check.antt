@@ -1,5 +1,5 @@
 -- What the check of the cells asks and answers.
-use mathlib.Core.Path.{_≡_}
+use mathlib.Core.Path.{_≡_, refl}
 use mathlib.Core.List.{List}
 use mathlib.Core.Bool.{cond, false}
 use Prim.Native.Nat.{ℕ, zero, suc, _≤_}
@@ -24,6 +24,14 @@ pub record Room (kinds ns : List ℕ) (times : List Float) (places marks : List 
 abbrev pub said : Found → Said
 said (faulty p) = Faulty p
 said (none p) = Fine
+
+pub said-faulty : (o : Found) (r : Said) (p : ℕ) → r ≡ said o → r ≡ Faulty p → o ≡ faulty p
+said-faulty (faulty q) r p e h = cc
+said-faulty (none q) r p e h = cc
+
+pub said-fine : (o : Found) (r : Said) → r ≡ said o → r ≡ Fine → (q : ℕ) × (o ≡ none q)
+said-fine (faulty q) r e h = (0, cc)
+said-fine (none q) r e h = (q, refl)
 
 -- whatever tree of n nodes stands in the table, its smallest bad cell is found
 abbrev pub Checks : List ℕ → List ℕ → List ℕ → List Float → List ℕ → List ℕ → ℕ → Said → Type 0

@@ -21,3 +21,5 @@ pub mod Instance
 pub mod Answered
 pub mod WholeTicks
 pub mod States
+pub mod Exchanges
+pub mod AfterExchange

@@ -13,14 +13,14 @@ use Rattle.rules.specs.Tree.{Tree, fresh}
 use Rattle.rules.specs.Outcome.{world, done, asks, short}
 use Rattle.rules.specs.State.{tick}
 use Rattle.rules.specs.Table.{mostDeep, good, table}
-use Rattle.rules.specs.Call.{Run, answers, cleanedEvent}
+use Rattle.rules.specs.Call.{Run, Given, answers, cleanedEvent, restartCall}
 use Rattle.rules.specs.Bound.{boundable, num}
 use Rattle.calls.specs.Shape.{shape}
 use Rattle.calls.specs.Memory.{held}
 use Rattle.calls.specs.Tables.{tabled, tabled-fresh}
-use Rattle.calls.specs.View.{Call}
-use Rattle.calls.specs.History.{Standing, afterAll}
-use Rattle.calls.specs.Invariant.{After, Steps, calls-keep}
+use Rattle.calls.specs.View.{Call, restarts}
+use Rattle.calls.specs.History.{Standing, isTicked, after, afterAll}
+use Rattle.calls.specs.Invariant.{After, Asked, Steps, calls-keep, restart-keeps}
 use Rattle.whole.specs.Times.{whole-W}
 use Rattle.finish.specs.Shaped.{Shaped}
 use Rattle.finish.specs.Accepted.{accepted}
@@ -63,10 +63,17 @@ module _ (kinds ns : List ℕ) (limits : List Float) (t : Tree) (e : table kinds
   pub new-state : State binary64 t t
   new-state = rw (tabled-fresh t (tabled kinds ns limits t e .0)) at (clear-state binary64 t (fresh t) first-state)
 
+  step : Steps (WholeTick t 0) t (Is binary64 t shaped 0) (Ended binary64 t shaped 0)
+  step = whole-step t shaped 0 (Is binary64 t shaped 0) (Ended binary64 t shaped 0) (λ t' k p. p)
+      (λ t' k x s' r t'' f left p full q. after-state binary64 t shaped 0 t' k x s' r t'' (world f left) p q)
+
   pub states : (st : Standing) → st .record' .finished ≡ false → StateIn t (st .cells') → (cs : List Call) → WholeHistory t 0 st cs
       → afterAll st cs .record' .finished ≡ false → StateIn t (afterAll st cs .cells')
   states st o v cs h u =
-      let step : Steps (WholeTick t 0) t (Is binary64 t shaped 0) (Ended binary64 t shaped 0) =
-      whole-step t shaped 0 (Is binary64 t shaped 0) (Ended binary64 t shaped 0) (λ t' k p. p)
-      (λ t' k x s' r t'' f left p full q. after-state binary64 t shaped 0 t' k x s' r t'' (world f left) p q) in
       rw u at (calls-keep (WholeTick t 0) t (Is binary64 t shaped 0) (Ended binary64 t shaped 0) (λ st' g n ok. ok .takes-up) step first-state st cs h (rw o v))
+
+  -- behind a restart, whatever stood before it
+  pub state-restarted : (st : Standing) (g : Given) → T (isTicked (restartCall g .answer)) → Asked (WholeTick t 0) st (restarts g)
+      → after st (restarts g) .record' .finished ≡ false → StateIn t (after st (restarts g) .cells')
+  state-restarted st g y h u =
+      rw u at (restart-keeps (WholeTick t 0) t (Is binary64 t shaped 0) (Ended binary64 t shaped 0) (λ st' g n ok. ok .takes-up) step first-state st g y h)

@@ -21,4 +21,7 @@ pub mod CellsGood
 pub mod OnlyFuel
 pub mod Lent
 pub mod Again
+pub mod ReadBack
+pub mod Replaced
+pub mod Exchanged
 pub mod Deep

@@ -6,9 +6,17 @@ use Rattle.rules.specs.declared.answer.Answer.{Answer}
 use Rattle.rules.specs.declared.answer.Record.{Record}
 use Rattle.rules.specs.declared.answer.Said.{Said}
 use Rattle.rules.specs.Call.{Run, Left, left, saidOf}
-use Rattle.lemboraw.specs.Host.{hostLeft, told}
+use Rattle.rules.specs.declared.exchanged.Exchanged.{Exchanged}
+use Rattle.rules.specs.declared.exchanged.ExchangeSaid.{ExchangeSaid}
+use Rattle.rules.specs.Exchange.{Room, LeftExchange, leftExchange, exchangeSaidOf}
+use Rattle.lemboraw.specs.Host.{hostLeft, told, hostExchanged, toldExchanged}
 
 pub call-told :
     {l : Left} {a : Answer} {r : Record} {c s : Run} {b : List ℕ} {said : Said} →
     l ≡ left a r c s b → said ≡ saidOf a → told l ≡ hostLeft said r c s b
 call-told e f = rw (e, f)
+
+pub exchange-told :
+    {l : LeftExchange} {a : Exchanged} {to : Room} {said : ExchangeSaid} →
+    l ≡ leftExchange a to → said ≡ exchangeSaidOf a → toldExchanged l ≡ hostExchanged said to
+exchange-told e f = rw (e, f)

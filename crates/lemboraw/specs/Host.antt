@@ -5,10 +5,12 @@ use Prim.Native.Nat.{ℕ}
 use lib.Dec.{leb}
 use Rattle.rules.specs.declared.answer.Record.{Record}
 use Rattle.rules.specs.declared.answer.Said.{Said}
+use Rattle.rules.specs.declared.exchanged.ExchangeSaid.{ExchangeSaid}
 use Rattle.rules.specs.declared.answer.BoundAnswer.{BoundAnswer}
 use Rattle.rules.specs.declared.answer.BoundAnswer.the-variants.{Within, Never, Above, BadTable, NoBound}
 use Rattle.rules.specs.Kinds.{code, kindOf, memory}
 use Rattle.rules.specs.Call.{Run, Given, Left, tickCall, restartCall, saidOf}
+use Rattle.rules.specs.Exchange.{Room, GivenExchange, LeftExchange, exchangeCall, exchangeSaidOf}
 use Rattle.lemboraw.specs.declared.numbers.Bound.{Bound}
 
 -- what a call leaves
@@ -30,6 +32,20 @@ hostTick g = told (tickCall g)
 
 unfoldable pub hostRestart : Given → HostLeft
 hostRestart g = told (restartCall g)
+
+-- what an exchange leaves
+pub record HostExchanged : Type 0 where
+  pub said : ExchangeSaid
+  pub room' : Room
+
+abbrev pub hostExchanged : ExchangeSaid → Room → HostExchanged
+hostExchanged a to = record { said = a; room' = to }
+
+abbrev pub toldExchanged : LeftExchange → HostExchanged
+toldExchanged l = hostExchanged (exchangeSaidOf (l .answer)) (l .room')
+
+unfoldable pub hostExchange : GivenExchange → HostExchanged
+hostExchange g = toldExchanged (exchangeCall g)
 
 -- the number of a kind with its memory on or off; a number that is no kind stays
 abbrev pub memoryOf : ℕ → Bool → ℕ

@@ -5,6 +5,7 @@ mod value;
 use bound::finish_bound;
 pub use numbers::Bound;
 use numbers::bound_of;
+use rules::ExchangeSaid;
 use rules::Kind;
 use rules::Record;
 use rules::Said;
@@ -14,8 +15,9 @@ use value::tick_said;
 ghost use mathlib.Core.Path.{_≡_};
 ghost use Rattle.rules.specs.Outcome.{eventOf};
 ghost use Rattle.rules.specs.Call.{run, given, age};
+ghost use Rattle.rules.specs.Exchange.{room, givenExchange};
 ghost use Rattle.rules.specs.Bound.{boundCall};
-ghost use Rattle.lemboraw.specs.Host.{hostTick, hostRestart, hostLeft, memoryOf, boundOf};
+ghost use Rattle.lemboraw.specs.Host.{hostTick, hostRestart, hostLeft, hostExchange, hostExchanged, memoryOf, boundOf};
 
 // A tick: the cells, the board and the record change only as its answer says.
 #[no_mangle]
@@ -130,6 +132,64 @@ pub extern "C" fn lemboraw_restart(
     );
     *record = told.record;
     told.said
+}
+
+// The exchange of a branch that has not been started: the tree with the branch at a place replaced is written to the
+// room; on any answer but 0 nothing is written.
+#[no_mangle]
+pub extern "C" fn lemboraw_exchange(
+    record: Record,
+    kinds: &[u8],
+    ns: &[u16],
+    limits: &[f64],
+    times: &[f64],
+    places: &[u16],
+    marks: &[u8],
+    sinces: &[u64],
+    at: usize,
+    new_kinds: &[u8],
+    new_ns: &[u16],
+    new_limits: &[f64],
+    room_kinds: &mut [u8],
+    room_ns: &mut [u16],
+    room_limits: &mut [f64],
+    room_times: &mut [f64],
+    room_places: &mut [u16],
+    room_marks: &mut [u8],
+    room_sinces: &mut [u64],
+) -> ExchangeSaid
+    ensures { λ r. ⌜
+        hostExchange (givenExchange «record» (now (kinds .entry)) (now (ns .entry)) (now (limits .entry))
+        (run (now (times .entry)) (now (places .entry)) (now (marks .entry)) (now (sinces .entry))) at
+        (now («new_kinds» .entry)) (now («new_ns» .entry)) (now («new_limits» .entry))
+        (room (now («room_kinds» .entry)) (now («room_ns» .entry)) (now («room_limits» .entry)) (now («room_times» .entry)) (now («room_places» .entry))
+        (now («room_marks» .entry)) (now («room_sinces» .entry))))
+        ≡ hostExchanged r (room (now («room_kinds» .exit)) (now («room_ns» .exit)) (now («room_limits» .exit)) (now («room_times» .exit))
+        (now («room_places» .exit)) (now («room_marks» .exit)) (now («room_sinces» .exit)))
+        ⌝ }
+{
+    let answer = exchange::exchange(
+        record,
+        kinds,
+        ns,
+        limits,
+        times,
+        places,
+        marks,
+        sinces,
+        at,
+        new_kinds,
+        new_ns,
+        new_limits,
+        room_kinds,
+        room_ns,
+        room_limits,
+        room_times,
+        room_places,
+        room_marks,
+        room_sinces,
+    );
+    answer.said()
 }
 
 // How many ticks ago a branch was made fresh: the tick count less the number in its cell, with wrap.

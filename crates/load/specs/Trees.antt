@@ -17,6 +17,7 @@ use Rattle.rules.specs.declared.behavior.Kind.the-variants.{Wait, WaitForever, 
 use Rattle.rules.specs.declared.behavior.Kind.the-variants.{Select, If, Sequence, MemorylessSequence, MemorylessSelector}
 use Rattle.rules.specs.declared.behavior.Kind.the-variants.{While, WhileAll, WhenAll, WhenAny, After, Race}
 use Rattle.rules.specs.Kinds.{code, kindOf, fewest, most, children, timed}
+use Rattle.rules.specs.Codes.{code-kind}
 use Rattle.rules.specs.Tree.{Cell, freshCell, newCell, Tree, node, Forest, [], _∷_, size, sizes, count}
 use Rattle.rules.specs.Table.{zeroBits, countAllowed, limitAllowed, rowAllowed}
 use Rattle.rules.specs.Cells.{cells, withCells, withCellsAll, column, columns, elapsed, lastPlace, cellAllowed, Found, faulty, none, badCell, badCells, boardOf}
@@ -32,22 +33,6 @@ use Rattle.refine.specs.Stand.{count-sizes}
 use Rattle.load.specs.Load.{loadWords, over, stampedOver}
 
 -- ---- kinds and their numbers
-abbrev allBelow : ℕ → (ℕ → Bool) → Bool
-allBelow zero p = true
-allBelow (suc n) p = p n && allBelow n p
-
-below-is : (n : ℕ) (p : ℕ → Bool) (x : ℕ) → allBelow n p ≡ true → x < n → p x ≡ true
-below-is zero p x h l = absurd (omega arith)
-below-is (suc n) p x h l = let both = and-eq-true-iff (p n) (allBelow n p) .0 h in go (ltb x n) refl (both .0) (below-is n p x (both .1))
-  where
-    go : (b : Bool) → ltb x n ≡ b → p n ≡ true → (x < n → p x ≡ true) → p x ≡ true
-    go true e last rest = rest (ltb-true x n e)
-    go false e last rest = let same : x ≡ n = omega (arith, ltb-false x n e) in rw same last
-
-code-kind : (x : ℕ) → x ≤ 16 → code (kindOf x) ≡ x
-unfolding kindOf
-code-kind x h = eqb-true (code (kindOf x)) x (below-is 17 (λ (x : ℕ). eqb (code (kindOf x)) x) x refl (omega arith))
-
 last-place : (k : Kind) (n : ℕ) → fewest k ≤ children k n → lastPlace k n ≤ children k n
 last-place Wait n h = omega arith
 last-place WaitForever n h = omega arith

@@ -7,7 +7,8 @@ use lib.Dec.{eqb}
 use Rattle.rules.specs.declared.behavior.Kind.{Kind}
 use Rattle.rules.specs.declared.behavior.Kind.the-variants.{Wait, WaitForever, Action, Invert, AlwaysSucceed, Timeout, Select, If, Sequence}
 use Rattle.rules.specs.declared.behavior.Kind.the-variants.{MemorylessSequence, MemorylessSelector, While, WhileAll, WhenAll, WhenAny, After, Race}
-use Rattle.rules.specs.Kinds.{code, kindOf}
+use Rattle.rules.specs.Kinds.{code}
+use Rattle.rules.specs.Codes.{kind-code}
 use Rattle.work.specs.Word.{belowOf, codeOf, kindIn, placeOf, markOf, anewOf, seenOf, withPlace, withMark, withSeen, freshWord}
 use Rattle.refine.specs.Words.{bit, pack}
 
@@ -29,26 +30,6 @@ code-small WhenAll = omega arith
 code-small WhenAny = omega arith
 code-small After = omega arith
 code-small Race = omega arith
-
-kind-code : (k : Kind) → kindOf (code k) ≡ k
-unfolding kindOf
-kind-code Wait = refl
-kind-code WaitForever = refl
-kind-code Action = refl
-kind-code Invert = refl
-kind-code AlwaysSucceed = refl
-kind-code Timeout = refl
-kind-code Select = refl
-kind-code If = refl
-kind-code Sequence = refl
-kind-code MemorylessSequence = refl
-kind-code MemorylessSelector = refl
-kind-code While = refl
-kind-code WhileAll = refl
-kind-code WhenAll = refl
-kind-code WhenAny = refl
-kind-code After = refl
-kind-code Race = refl
 
 bit-small : (a : Bool) → bit a < 2
 bit-small true = omega arith

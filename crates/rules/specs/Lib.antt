@@ -1,4 +1,5 @@
 pub mod Kinds
+pub mod Codes
 pub mod Tree
 pub mod Outcome
 pub mod Sequence
@@ -9,5 +10,7 @@ pub mod Table
 pub mod Cells
 pub mod Board
 pub mod Call
+pub mod Exchange
 pub mod Bound
 pub mod Cases
+pub mod ExchangeCases

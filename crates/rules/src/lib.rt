@@ -3,6 +3,7 @@
 mod answer;
 mod behavior;
 mod event;
+mod exchanged;
 mod number;
 mod status;
 
@@ -13,5 +14,7 @@ pub use answer::Said;
 pub use answer::age;
 pub use behavior::Kind;
 pub use event::Event;
+pub use exchanged::ExchangeSaid;
+pub use exchanged::Exchanged;
 pub use number::cleaned;
 pub use status::Status;

@@ -5,3 +5,4 @@ pub mod Placed
 pub mod Rows
 mod Scan
 mod Turn
+pub mod Good

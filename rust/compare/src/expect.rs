@@ -10,7 +10,7 @@ pub fn is_time(x: f64) -> bool {
 }
 
 /// A run lent as several slices is as long as the shortest.
-fn length(table: &Table) -> usize {
+pub fn length(table: &Table) -> usize {
     table.kinds.len().min(table.ns.len()).min(table.limits.len())
 }
 

@@ -4,7 +4,10 @@
 //! since they are built as they are.
 
 mod bound;
+mod branch;
 mod cases;
+mod exchange;
+mod exchanges;
 mod expect;
 mod figures;
 mod ours;
@@ -13,6 +16,7 @@ mod sample;
 mod sides;
 mod since;
 mod small;
+mod spoil;
 mod stack;
 mod theirs;
 mod tree;
@@ -43,6 +47,9 @@ pub struct Count {
     refused: u64,
     restarts: u64,
     bounds: u64,
+    exchanged: u64,
+    held: u64,
+    not_exchanged: u64,
 }
 
 impl Count {
@@ -57,6 +64,15 @@ impl Count {
         }
     }
 
+    /// An exchange and what it said.
+    fn exchange(&mut self, no: u8) {
+        match no {
+            0 => self.exchanged += 1,
+            18 => self.held += 1,
+            _ => self.not_exchanged += 1,
+        }
+    }
+
     fn add(&mut self, other: Count) {
         self.done += other.done;
         self.asked += other.asked;
@@ -64,6 +80,9 @@ impl Count {
         self.refused += other.refused;
         self.restarts += other.restarts;
         self.bounds += other.bounds;
+        self.exchanged += other.exchanged;
+        self.held += other.held;
+        self.not_exchanged += other.not_exchanged;
     }
 }
 
@@ -142,7 +161,12 @@ fn compare(full: bool, seed: u64) -> bool {
     ] {
         match share(jobs, job) {
             Ok(count) => {
-                println!("{name}: {} ticks done, {} seconds", count.done, start.elapsed().as_secs());
+                println!(
+                    "{name}: {} ticks done, {} branches exchanged, {} seconds",
+                    count.done,
+                    count.exchanged,
+                    start.elapsed().as_secs()
+                );
                 total.add(count);
             }
             Err(wrong) => {
@@ -152,8 +176,17 @@ fn compare(full: bool, seed: u64) -> bool {
         }
     }
     println!(
-        "all the same: {} ticks done, {} stopped to ask, {} out of fuel, {} refused ({} of all these were restarts), {} bounds",
-        total.done, total.asked, total.fuel, total.refused, total.restarts, total.bounds
+        "all the same: {} ticks done, {} stopped to ask, {} out of fuel, {} refused ({} of all these were restarts), {} bounds, \
+         {} branches exchanged, {} not, for state held, {} not, for something else",
+        total.done,
+        total.asked,
+        total.fuel,
+        total.refused,
+        total.restarts,
+        total.bounds,
+        total.exchanged,
+        total.held,
+        total.not_exchanged
     );
     true
 }

@@ -21,11 +21,16 @@ impl Cells {
 
     /// What may lie in memory before the library writes there.
     pub fn rubbish(len: usize) -> Self {
+        Cells::rubbish_of([len; 4])
+    }
+
+    /// The same, each of its own length.
+    pub fn rubbish_of([times, places, marks, sinces]: [usize; 4]) -> Self {
         Cells {
-            times: vec![-123.456; len],
-            places: vec![0xbeef; len],
-            marks: vec![0xcd; len],
-            sinces: vec![0xfeed_f00d; len],
+            times: vec![-123.456; times],
+            places: vec![0xbeef; places],
+            marks: vec![0xcd; marks],
+            sinces: vec![0xfeed_f00d; sinces],
         }
     }
 
@@ -56,10 +61,11 @@ impl Cells {
     }
 
     /// Equal bit by bit.
-    fn same(&self, other: &Cells) -> bool {
+    pub fn same(&self, other: &Cells) -> bool {
         self.places == other.places
             && self.marks == other.marks
             && self.sinces == other.sinces
+            && self.times.len() == other.times.len()
             && self.times.iter().zip(&other.times).all(|(a, b)| a.to_bits() == b.to_bits())
     }
 }
@@ -136,6 +142,24 @@ impl Ours {
             board: vec![0xab; len + more],
         };
         Ours { len, must: now.clone(), now }
+    }
+
+    /// The tree that an exchange led to, over the cells that it left.
+    pub fn over(&self, tree: &Tree, cells: Cells) -> Self {
+        let lens = [cells.times.len(), cells.places.len(), cells.marks.len(), cells.sinces.len()];
+        let room = lens.into_iter().min().unwrap_or(0);
+        let mut now = Memory {
+            record: self.now.record,
+            cells: Cells::rubbish(room),
+            spare: Cells::rubbish(room),
+            board: vec![0xab; room],
+        };
+        now.cells.copy(&cells, room);
+        Ours { len: tree.len(), must: now.clone(), now }
+    }
+
+    pub fn record(&self) -> Record {
+        self.now.record
     }
 
     pub fn cells(&self) -> &Cells {

@@ -5,10 +5,12 @@
 //! time passed. After a tick the time in all of them is set to NaN, and whatever is added it stays NaN:
 //! where it is another after the next tick, bonsai has made that State in it.
 
+use crate::branch::{self, Step};
 use crate::state::State;
 use crate::theirs::{cleaned, Ev, Seen, Trace};
 use crate::tree::{Act, Tree};
 use crate::{ActionArgs, Behavior, Status, BT};
+use std::ops::Range;
 
 /// The second bonsai, with what it has shown.
 #[derive(Clone)]
@@ -16,6 +18,11 @@ pub struct Since {
     bt: BT<Act, ()>,
     /// For each node the number of the tick that last made it fresh.
     pub numbers: Vec<u64>,
+}
+
+/// A Timeout without end above a node.
+fn under_timeout(node: Behavior<Act>) -> Behavior<Act> {
+    Behavior::Timeout(f64::NAN, Box::new(node))
 }
 
 /// A tick that was carried out: its number, and what was seen of it.
@@ -28,8 +35,7 @@ struct Tick<'a> {
 impl Since {
     /// A new tree.
     pub fn new(tree: &Tree, seen: &Seen) -> Self {
-        let above = |node| Behavior::Timeout(f64::NAN, Box::new(node));
-        let mut since = Since { bt: BT::new(tree.behavior_under(0, &above), ()), numbers: vec![0; tree.len()] };
+        let mut since = Since { bt: BT::new(tree.behavior_under(0, &under_timeout), ()), numbers: vec![0; tree.len()] };
         // What a new tree holds was made in no tick.
         Tick { tree, seen, number: 0 }.follow(&mut since.bt.state, 0, &mut since.numbers);
         since
@@ -37,6 +43,14 @@ impl Since {
 
     pub fn reset(&mut self) {
         self.bt.reset_bt();
+    }
+
+    /// Replaces a branch as in the first bonsai. That makes no State, so no tick shows the new nodes: they have stood
+    /// since the tick count of the moment.
+    pub fn exchange(&mut self, way: &[Step], result: &Tree, removed: Range<usize>, added: usize, number: u64) {
+        let branch = result.behavior_under(removed.start, &under_timeout);
+        branch::exchange(&mut self.bt, &branch::way_under(way), &branch);
+        self.numbers.splice(removed, vec![number; added]);
     }
 
     /// Ticks with the answers of the first bonsai, and notes what was made or dropped.

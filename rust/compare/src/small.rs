@@ -1,5 +1,7 @@
-//! Every tree of few nodes, with every answer and both events, for three ticks.
+//! Every tree of few nodes, with every answer and both events, for three ticks, and at each state reached an exchange
+//! of each branch.
 
+use crate::exchange;
 use crate::ours::{Call, Cells, Ours, ALL};
 use crate::theirs::{number, Answer, Ev, Left, Theirs, Trace};
 use crate::tree::{children_of, Node, Tree, ACTION, TIMEOUT, WAIT};
@@ -70,6 +72,55 @@ struct Point {
     ours: Ours,
 }
 
+/// New branches that are tried in turn, with the turn.
+struct Branches {
+    all: Vec<Tree>,
+    turn: usize,
+}
+
+impl Branches {
+    fn new() -> Self {
+        let all: [&[Node]; 6] = [
+            &[(ACTION, 40, -0.0)],
+            &[(WAIT, 0, 1.0)],
+            &[(8, 2, 0.0), (ACTION, 41, -0.0), (WAIT, 0, -0.0)],
+            &[(TIMEOUT, 1, 2.0), (ACTION, 42, 0.0)],
+            &[(13, 2, -0.0), (WAIT, 0, 1.0), (ACTION, 43, 0.0)],
+            &[(10, 0, 0.0)],
+        ];
+        Branches { all: all.into_iter().map(Tree::new).collect(), turn: 0 }
+    }
+
+    /// An exchange of each at each node of a tree, and behind the last.
+    fn each_place(&mut self, tree: &Tree, point: &mut Point, count: &mut Count) -> Result<(), String> {
+        let Branches { all, turn } = self;
+        for (at, branch) in (0..=tree.len()).flat_map(|at| all.iter().map(move |branch| (at, branch))) {
+            *turn += 1;
+            let size = tree.ends.get(at).map_or(tree.len(), |end| tree.len() - (end - at) + branch.len());
+            let mut room = [size + 1; 7];
+            // Now and then one part of the room is just long enough, or too short.
+            room[*turn % 7] -= [0, 1, 0, 0, 2][*turn % 5];
+            let after = exchange::both(&point.theirs, &mut point.ours, tree, at, branch, room, count)?;
+            if let Some(exchange::After { tree, theirs, ours }) = after {
+                go_on(&tree, Point { theirs, ours }, *turn, count)
+                    .map_err(|wrong| format!("{branch}at {at}, which gives\n{tree}{wrong}"))?;
+            }
+        }
+        Ok(())
+    }
+}
+
+/// After an exchange two ticks and a restart.
+fn go_on(tree: &Tree, mut point: Point, turn: usize, count: &mut Count) -> Result<(), String> {
+    let event = |tick: usize| EVENTS[(turn + tick) % EVENTS.len()];
+    for tick in 0..2 {
+        if !point.theirs.bt.finished {
+            walk(tree, &mut point, false, event(tick), turn / 4 + tick, count)?;
+        }
+    }
+    again(tree, point, event(2), count)
+}
+
 /// Follows a tree through every answer and event. States that meet again are followed once.
 pub fn explore(nodes: &[Node], count: &mut Count) -> Result<(), String> {
     let tree = Tree::new(nodes);
@@ -78,9 +129,11 @@ pub fn explore(nodes: &[Node], count: &mut Count) -> Result<(), String> {
     theirs.bt.tick_count = u64::MAX - 1;
     theirs.since.numbers = (0..tree.len() as u64).map(|place| 100 + place).collect();
     let mut level = vec![Point { ours: Ours::new(&tree, 1, &theirs), theirs }];
+    let mut branches = Branches::new();
     for _ in 0..TICKS {
         let mut next = vec![];
         for point in &mut level {
+            branches.each_place(&tree, point, count).map_err(|wrong| format!("{tree}{wrong}"))?;
             for ev in EVENTS {
                 again(&tree, point.clone(), ev, count).map_err(|wrong| format!("{tree}{wrong}"))?;
                 follow(&tree, point, ev, &mut next, count).map_err(|wrong| format!("{tree}{wrong}"))?;
@@ -159,20 +212,27 @@ fn again(tree: &Tree, point: Point, ev: Ev, count: &mut Count) -> Result<(), Str
         ours.cells_mut().copy(&Cells::rubbish(tree.len()), tree.len());
     }
     theirs.reset();
-    let watched = theirs.watch(tree, ev, FUEL, &mut |k| ANSWERS[k % ANSWERS.len()]);
+    walk(tree, &mut Point { theirs, ours }, true, ev, 0, count)
+}
+
+/// A tick, or a restart of what was reset: with each answer missing, with too little fuel, and carried out. The answers are
+/// those from `first` on.
+fn walk(tree: &Tree, point: &mut Point, restart: bool, ev: Ev, first: usize, count: &mut Count) -> Result<(), String> {
+    let Point { theirs, ours } = point;
+    let watched = theirs.watch(tree, ev, FUEL, &mut |k| ANSWERS[(first + k) % ANSWERS.len()]);
     let trace = &watched.trace;
     let all = trace.asks.len();
     for given in 0..all {
-        call(tree, &mut ours, true, ev, trace, FUEL, given, None, count)?;
+        call(tree, ours, restart, ev, trace, FUEL, given, None, count)?;
     }
     match trace.end.filter(|end| end.1 <= u64::from(FUEL)) {
         Some((_, visits)) => {
-            call(tree, &mut ours, true, ev, trace, visits as u32 - 1, all, None, count)?;
+            call(tree, ours, restart, ev, trace, visits as u32 - 1, all, None, count)?;
             theirs.tick(tree, ev, &watched)?;
             let left = theirs.left(tree);
-            call(tree, &mut ours, true, ev, trace, visits as u32, all, Some((&theirs, &left)), count)
+            call(tree, ours, restart, ev, trace, visits as u32, all, Some((theirs, &left)), count)
         }
-        None => call(tree, &mut ours, true, ev, trace, FUEL, all, None, count),
+        None => call(tree, ours, restart, ev, trace, FUEL, all, None, count),
     }
 }
 

@@ -1,5 +1,6 @@
 //! bonsai, watched.
 
+use crate::branch;
 use crate::ours::Cells;
 use crate::since::Since;
 use crate::state::State;
@@ -166,20 +167,35 @@ impl Tracer for Watch<'_> {
     }
 }
 
+fn metas(tree: &Tree) -> Rc<[NodeMeta]> {
+    (0..tree.len()).map(|p| NodeMeta { subtree_size: tree.ends[p] - p }).collect()
+}
+
 impl Theirs {
     pub fn new(tree: &Tree) -> Self {
         let seen = Seen { board: vec![0; tree.len()], cursors: vec![0; tree.len()] };
-        Theirs {
-            bt: BT::new(tree.behavior(0), ()),
-            since: Since::new(tree, &seen),
-            seen,
-            metas: (0..tree.len()).map(|p| NodeMeta { subtree_size: tree.ends[p] - p }).collect(),
-        }
+        Theirs { bt: BT::new(tree.behavior(0), ()), since: Since::new(tree, &seen), seen, metas: metas(tree) }
     }
 
     pub fn reset(&mut self) {
         self.bt.reset_bt();
         self.since.reset();
+    }
+
+    /// The same with the branch at a place replaced by that of `result`, which has `added` nodes.
+    pub fn exchanged(&self, tree: &Tree, place: usize, added: usize, result: &Tree) -> Self {
+        let way = branch::way(tree, &self.seen, place);
+        let mut after = Theirs { metas: metas(result), ..self.clone() };
+        branch::exchange(&mut after.bt, &way, &result.behavior(place));
+        let removed = place..tree.ends[place];
+        after.since.exchange(&way, result, removed.clone(), added, self.bt.tick_count);
+        after.seen.board.splice(removed.clone(), vec![0; added]);
+        after.seen.cursors.splice(removed.clone(), vec![0; added]);
+        // What stands behind the branch has moved.
+        for child in after.seen.cursors.iter_mut().filter(|child| **child >= removed.end) {
+            *child = *child - removed.len() + added;
+        }
+        after
     }
 
     /// Ticks a copy of the state, with answers made as they are asked for, and stops past `most`

@@ -1,12 +1,14 @@
 //! Random trees on random histories.
 
 use crate::bound;
+use crate::exchanges::{self, Sides};
 use crate::expect;
 use crate::ours::{Call, Cells, Ours, ALL};
 use crate::random::Random;
 use crate::small::split;
+use crate::spoil;
 use crate::theirs::{Answer, Ev, Left, Theirs, Trace};
-use crate::tree::{Tree, ACTION};
+use crate::tree::Tree;
 use crate::wrapped::{How, Wrapped};
 use crate::{Count, Status};
 use lemboraw::raw::{Said, Table};
@@ -60,13 +62,15 @@ pub fn batch(seed: u64, number: u64, count: &mut Count) -> Result<(), String> {
         let source = random.pick(&SOURCES);
         let most = random.pick(&[6, 12, 12, 40, 256]);
         let tree = Tree::random(random, most, &mut |random| source.time(random));
-        walk(&tree, source, random, count).map_err(|wrong| format!("batch {number}\n{tree}{wrong}"))?;
+        let mut now = tree.clone();
+        walk(&mut now, source, random, count).map_err(|wrong| format!("batch {number}\n{tree}now\n{now}{wrong}"))?;
         bound::compare(random, count).map_err(|wrong| format!("batch {number}\n{wrong}"))?;
     }
     Ok(())
 }
 
-fn walk(tree: &Tree, source: Source, random: &mut Random, count: &mut Count) -> Result<(), String> {
+/// Ticks a tree, of which branches are exchanged now and then.
+fn walk(tree: &mut Tree, source: Source, random: &mut Random, count: &mut Count) -> Result<(), String> {
     let mut theirs = Theirs::new(tree);
     // Some trees have ticked nearly forever, so that the count goes round.
     theirs.bt.tick_count = random.pick(&[0, 0, 5, u64::MAX - 6, u64::MAX - 1, u64::MAX]);
@@ -80,9 +84,14 @@ fn walk(tree: &Tree, source: Source, random: &mut Random, count: &mut Count) -> 
     let mut wrapped = if tree.len() <= 40 { Some(Wrapped::new(tree, &theirs)?) } else { None };
     // Some hosts say Running most of the time, so that trees grow old.
     let patient = random.one_in(2);
-    // Room for some rounds of a loop.
-    let most = 4 * tree.len() as u32 + 40;
     for _ in 0..4 + random.below(20) {
+        if random.one_in(12) {
+            exchanges::spoiled(tree, &theirs, &ours, random, count)?;
+            let sides = Sides { tree, theirs: &mut theirs, ours: &mut ours, wrapped: &mut wrapped };
+            exchanges::each_place(sides, &mut |random| source.time(random), random, count)?;
+        }
+        // Room for some rounds of a loop.
+        let most = 4 * tree.len() as u32 + 40;
         let ev = if random.one_in(4) { Ev::Other } else { Ev::Update(source.time(random)) };
         if random.one_in(3) {
             spoiled(tree, &theirs, &ours, ev, random, count)?;
@@ -200,8 +209,7 @@ fn spoiled(
     let mut lent = ALL;
     let no_time = [f64::NAN, f64::INFINITY, f64::NEG_INFINITY, -5e-324, -1.0, -f64::NAN];
     for _ in 0..1 + random.below(2) {
-        let place = random.below(len);
-        match random.below(6) {
+        match random.below(7) {
             0 => ev = Ev::Update(random.pick(&no_time)),
             1 => {
                 let index = random.below(statuses.len());
@@ -209,32 +217,10 @@ fn spoiled(
                 leftovers[index] = random.pick(&[0.0, no_time[index], no_time[index + 3]]);
             }
             2 => lent[random.below(9)] = random.pick(&[0, len - 1, len]),
-            3 => {
-                let cells = ours.cells_mut();
-                match random.below(3) {
-                    0 => cells.times[place] = random.pick(&[f64::NAN, -0.0, -1.0, 1.0, f64::INFINITY]),
-                    1 => cells.places[place] = random.pick(&[1, 2, tree.ns[place], tree.ns[place].wrapping_add(1)]),
-                    _ => cells.marks[place] = random.pick(&[1, 2, 255]),
-                }
-            }
-            4 => match random.below(3) {
-                0 => tree.kinds[place] = random.below(18) as u8,
-                1 => tree.ns[place] = random.pick(&[0, 1, 2, 3, 65535]),
-                _ => tree.limits[place] = random.pick(&[0.0, -5e-324, 1.0, f64::NAN, f64::INFINITY]),
-            },
-            // A column that is too short or too long; the others say whether that matters.
-            _ => match random.below(6) {
-                0 => tree.kinds.truncate(random.below(len)),
-                1 => tree.ns.truncate(random.below(len)),
-                2 => tree.limits.truncate(random.below(len)),
-                3 => tree.kinds.push(1),
-                4 => statuses.truncate(2),
-                _ => {
-                    tree.kinds.push(ACTION);
-                    tree.ns.push(0);
-                    tree.limits.push(0.0);
-                }
-            },
+            3 => spoil::cell(ours.cells_mut(), &tree, random),
+            4 => spoil::row(&mut tree, random),
+            5 => spoil::column(&mut tree, random),
+            _ => statuses.truncate(2),
         }
         // What is spoiled next needs every column.
         if tree.kinds.len() != len || tree.ns.len() != len || tree.limits.len() != len {

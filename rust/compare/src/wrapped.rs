@@ -1,9 +1,10 @@
 //! The Rust crate over the library, as a host uses it.
 
+use crate::exchange;
 use crate::theirs::{Ev, Theirs, Trace};
 use crate::tree::Tree;
 use crate::Status;
-use lemboraw::{ActionArgs, Behavior, Cell, Event, State, UpdateArgs, BT};
+use lemboraw::{ActionArgs, Behavior, Cell, Event, Refusal, State, UpdateArgs, BT};
 
 /// A tree in the crate; an action is told by its number.
 pub struct Wrapped(BT<u16, ()>);
@@ -52,6 +53,38 @@ impl Wrapped {
             Err(format!(
                 "the Rust crate: {how:?} {ev:?}\nanswered {got:?}, asked {asked:x?}, ages {ages:?}\nmust be {must:x?}, {asks:x?}, {old:?}\n"
             ))
+        }
+    }
+}
+
+impl Wrapped {
+    /// Exchanges a branch, which must be refused as bonsai's state has it and then leave the tree, or be carried out.
+    pub fn exchange(&mut self, at: usize, branch: &Tree, theirs: &Theirs, tree: &Tree) -> Result<(), String> {
+        let (said, _) = exchange::said(theirs, tree, at, branch, usize::MAX);
+        let before = (self.0.state(), self.0.to_string());
+        let got = self.0.exchange(at, behavior(branch, 0));
+        let good = match (said.no, got) {
+            (0, Ok(())) => self.0.len() == said.nodes,
+            (no, Err(refusal)) => {
+                let same = (self.0.state(), self.0.to_string()) == before;
+                same && match refusal {
+                    Refusal::Finished => no == 2,
+                    Refusal::NoSuchPlace { place, len } => no == 17 && place == at && len == tree.len(),
+                    Refusal::StateHeld { place, .. } => no == 18 && place == at,
+                    Refusal::TooLarge { len, depth } => {
+                        let result = exchange::replaced(tree, at, branch);
+                        let deepest = result.depths.iter().max().map_or(0, |&depth| usize::from(depth));
+                        no == 19 && len == result.len() && depth == deepest
+                    }
+                    _ => false,
+                }
+            }
+            _ => false,
+        };
+        if good {
+            Ok(())
+        } else {
+            Err(format!("the Rust crate: exchange at {at} of\n{branch}said {got:?}\nmust be {said:?}\n"))
         }
     }
 }

@@ -1,7 +1,7 @@
 //! A tree with its state.
 
 use crate::behavior::Behavior;
-use crate::raw::{self, Cells, Record, Said};
+use crate::raw::{self, Cells, CellsRef, Record, Said};
 use crate::state::{Cell, State};
 use crate::tree::Tree;
 use crate::{Refusal, Status, UpdateEvent};
@@ -36,16 +36,17 @@ pub enum FinishBound {
 #[derive(Clone, Debug)]
 pub struct BT<A, B> {
     pub(crate) tree: Tree<A>,
-    record: Record,
+    pub(crate) record: Record,
     /// Whether the next tick is to be a restart.
-    again: bool,
+    pub(crate) again: bool,
     pub(crate) cells: Room,
-    spare: Room,
+    pub(crate) spare: Room,
     pub(crate) board: Vec<u8>,
     /// The answers of the tick under way; kept so that their memory is used again.
     statuses: Vec<u8>,
     leftovers: Vec<f64>,
-    fuel: u32,
+    /// What was set; none for that of the tree's size.
+    fuel: Option<u32>,
     visits: u32,
     bb: B,
 }
@@ -60,7 +61,7 @@ pub(crate) struct Room {
 }
 
 impl Room {
-    fn new(len: usize) -> Self {
+    pub fn new(len: usize) -> Self {
         Room { times: vec![0.0; len], places: vec![0; len], marks: vec![0; len], sinces: vec![0; len] }
     }
 
@@ -73,8 +74,19 @@ impl Room {
         }
     }
 
-    fn lend(&mut self) -> Cells<'_> {
+    pub fn lend(&mut self) -> Cells<'_> {
         Cells { times: &mut self.times, places: &mut self.places, marks: &mut self.marks, sinces: &mut self.sinces }
+    }
+
+    pub fn lend_to_read(&self) -> CellsRef<'_> {
+        CellsRef { times: &self.times, places: &self.places, marks: &self.marks, sinces: &self.sinces }
+    }
+
+    pub fn truncate(&mut self, len: usize) {
+        self.times.truncate(len);
+        self.places.truncate(len);
+        self.marks.truncate(len);
+        self.sinces.truncate(len);
     }
 }
 
@@ -93,8 +105,7 @@ impl<A, B> BT<A, B> {
             board: vec![0; len],
             statuses: vec![],
             leftovers: vec![],
-            // A tree has at most 256 behaviors, or is refused below.
-            fuel: FUEL_LEAST.max(FUEL_EACH.saturating_mul(len as u32)),
+            fuel: None,
             visits: 0,
             bb: blackboard,
         };
@@ -156,7 +167,7 @@ impl<A, B> BT<A, B> {
         let dt = e.update_args().map(|args| args.dt);
         self.forget();
         loop {
-            let said = self.walk(restart, dt, self.fuel);
+            let said = self.walk(restart, dt, self.fuel());
             match (said.no, Status::from_number(said.status), self.tree.actions.get(said.extra)) {
                 (0, Some(status), _) => {
                     self.again = false;
@@ -277,13 +288,14 @@ impl<A, B> BT<A, B> {
     /// The most visits that one tick may make: unless it was set, 16 for each behavior and at least
     /// 1,024.
     pub fn fuel(&self) -> u32 {
-        self.fuel
+        // A tree has at most 256 behaviors.
+        self.fuel.unwrap_or_else(|| FUEL_LEAST.max(FUEL_EACH.saturating_mul(self.len() as u32)))
     }
 
     /// Sets the most visits that one tick may make. A tree without loops needs no more than it has
     /// behaviors; for one with loops [`last_visits`](BT::last_visits) tells what a tick took.
     pub fn set_fuel(&mut self, fuel: u32) {
-        self.fuel = fuel;
+        self.fuel = Some(fuel);
     }
 
     /// The tree's state, to keep; also whether a [`reset_bt`](BT::reset_bt) waits for its tick.
@@ -374,7 +386,7 @@ impl<A, B> BT<A, B> {
             3 => self.tree.bad_tree(at),
             5 => Refusal::BadTime { dt },
             6 => Refusal::BadAnswer { index: at, leftover: self.leftovers.get(at).copied().unwrap_or(0.0) },
-            7 => Refusal::OutOfFuel { fuel: self.fuel, questions: self.statuses.len() },
+            7 => Refusal::OutOfFuel { fuel: self.fuel(), questions: self.statuses.len() },
             9 => Refusal::BadCell { place: at, kind: self.tree.kind(at) },
             no => Refusal::Unexpected { no, extra: at },
         }

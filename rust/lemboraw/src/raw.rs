@@ -1,4 +1,4 @@
-//! The five functions of the archive on slices, without allocation.
+//! The six functions of the archive on slices, without allocation.
 //!
 //! Each is proved to return for every argument and to touch only what is lent to it, so these are
 //! safe to call with anything. What the numbers mean, and what each answer leaves behind, is in
@@ -51,6 +51,20 @@ pub struct Bound {
     pub ticks: u64,
 }
 
+/// What an exchange says; a field that `no` does not use is 0.
+#[repr(C)]
+#[derive(Clone, Copy, Debug, Default, PartialEq, Eq)]
+pub struct Exchanged {
+    /// 0 done, else a refusal.
+    pub no: u8,
+    /// Of a refusal 3: 0 for the tree's table, 1 for the branch's.
+    pub table: u8,
+    /// The place of a refusal 3 or 9.
+    pub place: usize,
+    /// Of 0: the nodes written.
+    pub nodes: usize,
+}
+
 /// A tree's nodes in preorder.
 #[derive(Clone, Copy, Debug)]
 pub struct Table<'a> {
@@ -73,6 +87,30 @@ pub struct Cells<'a> {
     pub marks: &'a mut [u8],
     /// The number of the tick that last made each fresh; any number is taken. See [`age`].
     pub sinces: &'a mut [u64],
+}
+
+/// Room for a table.
+#[derive(Debug)]
+pub struct TableMut<'a> {
+    /// As in [`Table`].
+    pub kinds: &'a mut [u8],
+    /// As in [`Table`].
+    pub ns: &'a mut [u16],
+    /// As in [`Table`].
+    pub limits: &'a mut [f64],
+}
+
+/// A tree's state, only to be read.
+#[derive(Clone, Copy, Debug)]
+pub struct CellsRef<'a> {
+    /// As in [`Cells`].
+    pub times: &'a [f64],
+    /// As in [`Cells`].
+    pub places: &'a [u16],
+    /// As in [`Cells`].
+    pub marks: &'a [u8],
+    /// As in [`Cells`].
+    pub sinces: &'a [u64],
 }
 
 /// One tick; `dt` is `None` for an event that is no update.
@@ -162,6 +200,61 @@ pub(crate) fn carry_out(
             statuses.len(),
             leftovers.as_ptr(),
             leftovers.len(),
+        )
+    })
+}
+
+/// The exchange of a branch that has not been started: writes the tree in which `branch` stands in place of
+/// the node `at` and all below it, its table and its cells. [`BT::exchange`](crate::BT::exchange) says where
+/// that is allowed. Where it does not say 0, nothing is written.
+pub fn exchange(
+    record: &Record,
+    table: Table,
+    cells: CellsRef,
+    at: usize,
+    branch: Table,
+    room_table: TableMut,
+    room_cells: Cells,
+) -> Exchanged {
+    // SAFETY: as for `tick`; what is lent by a shared borrow is only read.
+    usual(|| unsafe {
+        lemboraw_exchange(
+            *record,
+            table.kinds.as_ptr(),
+            table.kinds.len(),
+            table.ns.as_ptr(),
+            table.ns.len(),
+            table.limits.as_ptr(),
+            table.limits.len(),
+            cells.times.as_ptr(),
+            cells.times.len(),
+            cells.places.as_ptr(),
+            cells.places.len(),
+            cells.marks.as_ptr(),
+            cells.marks.len(),
+            cells.sinces.as_ptr(),
+            cells.sinces.len(),
+            at,
+            branch.kinds.as_ptr(),
+            branch.kinds.len(),
+            branch.ns.as_ptr(),
+            branch.ns.len(),
+            branch.limits.as_ptr(),
+            branch.limits.len(),
+            room_table.kinds.as_mut_ptr(),
+            room_table.kinds.len(),
+            room_table.ns.as_mut_ptr(),
+            room_table.ns.len(),
+            room_table.limits.as_mut_ptr(),
+            room_table.limits.len(),
+            room_cells.times.as_mut_ptr(),
+            room_cells.times.len(),
+            room_cells.places.as_mut_ptr(),
+            room_cells.places.len(),
+            room_cells.marks.as_mut_ptr(),
+            room_cells.marks.len(),
+            room_cells.sinces.as_mut_ptr(),
+            room_cells.sinces.len(),
         )
     })
 }
@@ -266,6 +359,45 @@ extern "C" {
         leftovers: *const f64,
         leftovers_len: usize,
     ) -> Said;
+
+    fn lemboraw_exchange(
+        record: Record,
+        kinds: *const u8,
+        kinds_len: usize,
+        ns: *const u16,
+        ns_len: usize,
+        limits: *const f64,
+        limits_len: usize,
+        times: *const f64,
+        times_len: usize,
+        places: *const u16,
+        places_len: usize,
+        marks: *const u8,
+        marks_len: usize,
+        sinces: *const u64,
+        sinces_len: usize,
+        at: usize,
+        new_kinds: *const u8,
+        new_kinds_len: usize,
+        new_ns: *const u16,
+        new_ns_len: usize,
+        new_limits: *const f64,
+        new_limits_len: usize,
+        room_kinds: *mut u8,
+        room_kinds_len: usize,
+        room_ns: *mut u16,
+        room_ns_len: usize,
+        room_limits: *mut f64,
+        room_limits_len: usize,
+        room_times: *mut f64,
+        room_times_len: usize,
+        room_places: *mut u16,
+        room_places_len: usize,
+        room_marks: *mut u8,
+        room_marks_len: usize,
+        room_sinces: *mut u64,
+        room_sinces_len: usize,
+    ) -> Exchanged;
 
     fn lemboraw_bound(
         kinds: *const u8,

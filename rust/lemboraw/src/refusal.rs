@@ -62,6 +62,29 @@ pub enum Refusal {
         /// The behaviors of this tree.
         len: usize,
     },
+    /// A branch that can't be ticked, for an [`exchange`](crate::BT::exchange).
+    BadBranch {
+        /// The first faulty behavior, counted in the branch.
+        place: usize,
+        /// What it is.
+        kind: Kind,
+        /// What is wrong with it.
+        fault: Fault,
+    },
+    /// The tree holds state for the behavior, so it can't be exchanged.
+    StateHeld {
+        /// The behavior.
+        place: usize,
+        /// What it is.
+        kind: Kind,
+    },
+    /// With the new branch the tree would have more than 256 behaviors, or be deeper than 16.
+    TooLarge {
+        /// The behaviors that it would have.
+        len: usize,
+        /// How deep it would be; a root alone is 1 deep.
+        depth: usize,
+    },
     /// An answer that the memory kept by this crate does not bring about.
     Unexpected {
         /// The refusal's number.
@@ -127,6 +150,15 @@ impl fmt::Display for Refusal {
                 write!(f, "behavior {place} in preorder ({kind}) can't have the cell that the state has for it")
             }
             Refusal::NoSuchPlace { place, len } => write!(f, "place {place} in a tree of {len} behaviors"),
+            Refusal::BadBranch { place, kind, fault } => {
+                write!(f, "behavior {place} of the branch in preorder ({kind}) {fault}")
+            }
+            Refusal::StateHeld { place, kind } => {
+                write!(f, "behavior {place} in preorder ({kind}) can't be exchanged: the tree holds state for it")
+            }
+            Refusal::TooLarge { len, depth } => {
+                write!(f, "the tree would have {len} behaviors and be {depth} deep: at most 256 and 16")
+            }
             Refusal::Unexpected { no, extra } => write!(f, "refusal {no} ({extra})"),
         }
     }

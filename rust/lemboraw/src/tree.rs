@@ -105,8 +105,41 @@ impl<A> Tree<A> {
         })
     }
 
+    /// Room for a table is lent.
+    pub fn lend(&mut self) -> raw::TableMut<'_> {
+        raw::TableMut { kinds: &mut self.kinds, ns: &mut self.ns, limits: &mut self.limits }
+    }
+
+    /// Leaves the first `len` behaviors, and all actions.
+    pub fn truncate(&mut self, len: usize) {
+        self.kinds.truncate(len);
+        self.ns.truncate(len);
+        self.limits.truncate(len);
+    }
+
+    /// Gives the actions of the table, which stand in `actions` in its order, their numbers.
+    pub fn number_actions(&mut self) {
+        let actions = self.kinds.iter().zip(&mut self.ns).filter(|(&kind, _)| kind == Kind::Action.number());
+        for (number, (_, n)) in (0..).zip(actions) {
+            *n = number;
+        }
+    }
+
+    /// The place behind a behavior and all below it.
+    pub fn end(&self, place: usize) -> usize {
+        let mut behind = self.depths().enumerate().skip(place);
+        let depth = behind.next().map(|(_, depth)| depth);
+        behind.find(|(_, next)| Some(*next) <= depth).map_or(self.kinds.len(), |(at, _)| at)
+    }
+
     /// Why the evaluator refuses the table at a place.
     pub fn bad_tree(&self, place: usize) -> Refusal {
+        let (kind, fault) = self.fault(place);
+        Refusal::BadTree { place, kind, fault }
+    }
+
+    /// What the behavior at a place is, and what is wrong with it.
+    pub fn fault(&self, place: usize) -> (Kind, Fault) {
         let depth = self.depths().nth(place);
         let limit = self.limits[place];
         let fault = if place >= MOST_NODES {
@@ -118,7 +151,7 @@ impl<A> Tree<A> {
         } else {
             Fault::Empty
         };
-        Refusal::BadTree { place, kind: self.kind(place), fault }
+        (self.kind(place), fault)
     }
 
     /// Why the evaluator works out no bound, if there is a reason.

@@ -9,7 +9,7 @@ use borrow.Author.Tests.{not-true, not-false}
 use lib.Dec.{T, leb}
 use Rattle.rules.specs.declared.event.Event.{Event}
 use Rattle.rules.specs.Call.{Given, given, run, runLength}
-use Rattle.call.proofs.Good.{Good, found-good, found-bad}
+use Rattle.tables.proofs.Good.{Good, found-good, found-bad}
 use Rattle.call.proofs.Gates.{Fit, Held, Timed, Answerable, bad-table, short-cells, short-spare, short-board, room, bad-cell, fine-cells, fresh-cells, bad-time, fine-time, bad-answer, fine-answers, finished, due}
 use Rattle.call.proofs.gate.checks.Statement.{statement}
 use Rattle.call.proofs.gate.checks.Tie as tie

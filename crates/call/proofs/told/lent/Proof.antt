@@ -1,6 +1,6 @@
 -- The shorter of two slices.
 use mathlib.Core.Path.{sym, _∙_}
-use Rattle.call.proofs.Long.{answers-length}
+use Rattle.call.proofs.Lent.{answers-length}
 use borrow.Author.Needs.{needs}
 use Rattle.call.proofs.told.lent.Statement.{statement}
 use Rattle.call.proofs.told.lent.Tie as tie

@@ -19,10 +19,11 @@ pub record Good (kinds ns : List ℕ) (limits : List Float) (ends : List ℕ) (n
   pub sized : size tree ≡ n
   pub few : n ≤ 256
   pub levels : depth tree ≤ 16
-  pub held : At kinds ns limits ends 0 tree
+  pub stands : At kinds ns limits ends 0 tree
   pub ends-long : length ends ≡ 256
   pub in-kinds : n ≤ length kinds
   pub in-ns : n ≤ length ns
+  pub in-limits : n ≤ length limits
 
 -- what the table check found
 module _ (kinds ns : List ℕ) (limits : List Float) (ends₀ ends : List ℕ) (r : Checked) (k : Tabled kinds ns limits ends₀ ends r) where
@@ -39,10 +40,11 @@ module _ (kinds ns : List ℕ) (limits : List Float) (ends₀ ends : List ℕ) (
             sized = z;
             few = omega (arith, l .few);
             levels = l .levels;
-            held = l .placed;
+            stands = l .placed;
             ends-long = k .long;
             in-kinds = omega (arith, l .nodes);
             in-ns = omega (arith, l .nodes);
+            in-limits = omega (arith, l .nodes);
           }
       go (bad p) i s l = let z : _≡_ {A = ℕ} 0 1 = cc in absurd (omega arith)
 

@@ -1,0 +1,11 @@
+mod Eachs
+mod Ways
+mod Levels
+mod Values
+mod Columns
+mod Sources
+mod Depths
+mod Filling
+mod Standing
+mod Gates
+mod Cuts

@@ -1,0 +1,5 @@
+pub mod Each
+pub mod Way
+pub mod Depth
+pub mod Write
+pub mod Due
