@@ -83,6 +83,48 @@ static void memory(void) {
     CHECK(tree.sinces[0] == 2 && tree.sinces[4] == 2 && tree.spare_sinces[1] == 1 && tree.spare_sinces[4] == 0);
 }
 
+/* Levels that are just long enough, and each of their runs null and empty. */
+static void levels(void) {
+    enum { ALL = LEMBORAW_LEVELS };
+    for (int run = -1; run < 4; run++) {
+        struct lemboraw_tree t = lent_tree();
+        uint64_t *opens = (uint64_t *)lend(ALL * sizeof(uint64_t));
+        uint32_t *counts = (uint32_t *)lend(ALL * sizeof(uint32_t));
+        double *wholes = (double *)lend(ALL * sizeof(double)), *rests = (double *)lend(ALL * sizeof(double));
+        opens[0] = 7, counts[ALL - 1] = 7, wholes[0] = 7, rests[ALL - 1] = -0.0;
+#define RUN(i, pointer) (run == i ? NULL : pointer), (run == i ? 0 : (size_t)ALL)
+#define LENT \
+    &t.record, t.kinds, NODES, t.ns, NODES, t.limits, NODES, t.times, NODES, t.places, NODES, t.marks, NODES, t.sinces, NODES, \
+    t.spare_times, NODES, t.spare_places, NODES, t.spare_marks, NODES, t.spare_sinces, NODES, t.board, NODES, \
+    true, 1.0, NODES, statuses, 1, leftovers, 1, RUN(0, opens), RUN(1, counts), RUN(2, wholes), RUN(3, rests)
+        struct lemboraw_said said = lemboraw_tick_flat(LENT);
+        CHECK(said.no == (run < 0 ? LEMBORAW_DONE : LEMBORAW_NO_ROOM) && t.times[4] == (run < 0) && t.record.ticks == (run < 0));
+        CHECK(opens[0] == (run < 0 ? 0u : 7u) && counts[ALL - 1] == (run < 0 ? 0u : 7u) && wholes[0] == (run < 0 ? 0 : 7));
+        CHECK((1 / rests[ALL - 1] > 0) == (run < 0));
+        said = lemboraw_restart_flat(LENT);
+        CHECK(said.no == (run < 0 ? LEMBORAW_DONE : LEMBORAW_NO_ROOM) && t.times[4] == (run < 0) && t.record.ticks == (run < 0 ? 2u : 0));
+#undef LENT
+#undef RUN
+    }
+}
+
+/* One tree ticked with recursion and one without. */
+static void tree_levels(void) {
+    static struct lemboraw_room rooms[2];
+    static struct lemboraw_levels lent;
+    struct lemboraw_answers one = {statuses, leftovers, 1};
+    struct lemboraw_tree tree = lemboraw_tree_new(kinds, ns, limits, NODES, &rooms[0]);
+    struct lemboraw_tree flat = lemboraw_tree_new(kinds, ns, limits, NODES, &rooms[1]);
+    for (int tick = 0; tick < 4; tick++) {
+        struct lemboraw_said must = tick == 2 ? lemboraw_tree_restart(&tree, true, 1.5, NODES, one) : lemboraw_tree_tick(&tree, true, 1.5, NODES, one);
+        struct lemboraw_said said =
+            tick == 2 ? lemboraw_tree_restart_flat(&flat, true, 1.5, NODES, one, &lent) : lemboraw_tree_tick_flat(&flat, true, 1.5, NODES, one, &lent);
+        CHECK(said.no == must.no && said.status == must.status && said.visits == must.visits && said.used == must.used && said.time == must.time);
+        CHECK(flat.record.ticks == tree.record.ticks && flat.record.finished == tree.record.finished);
+        CHECK(memcmp(&rooms[0], &rooms[1], sizeof rooms[0]) == 0);
+    }
+}
+
 /* All that an exchange is given can't be written to, the record neither, and its room is as long as the result. */
 static void exchange(void) {
     static const uint8_t new_kinds[] = {LEMBORAW_INVERT, LEMBORAW_SEQUENCE, LEMBORAW_WAIT, LEMBORAW_ACTION};
@@ -230,6 +272,8 @@ static void settings(void) {
 
 int main(void) {
     memory();
+    levels();
+    tree_levels();
     exchange();
     tree_exchange();
     empty_runs();

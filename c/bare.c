@@ -16,6 +16,7 @@ static const uint16_t ns[] = {2, 0, 0};
 static const double limits[] = {0, 2, 1};
 static struct lemboraw_room room, other_room;
 static struct lemboraw_table other_table;
+static struct lemboraw_levels levels;
 
 static int run(void) {
     struct lemboraw_answers none = {NULL, NULL, 0};
@@ -29,7 +30,9 @@ static int run(void) {
     as_it_must = as_it_must && lemboraw_tree_age(&tree, 0) == 2 && lemboraw_tree_age(&tree, 2) == 0;
     as_it_must = as_it_must && tree.record.finished && lemboraw_tree_bound(&tree, 1).ticks == 3;
     struct lemboraw_said again = lemboraw_tree_restart(&tree, true, 1, 3, none);
-    return as_it_must && again.no == LEMBORAW_DONE && again.status == LEMBORAW_RUNNING ? 0 : 1;
+    as_it_must = as_it_must && again.no == LEMBORAW_DONE && again.status == LEMBORAW_RUNNING;
+    struct lemboraw_said flat = lemboraw_tree_tick_flat(&tree, true, 3, 3, none, &levels);
+    return as_it_must && flat.no == LEMBORAW_DONE && flat.status == LEMBORAW_SUCCESS && flat.time == 1 ? 0 : 1;
 }
 
 /* Called by _start below, and ends by the system's own call. */

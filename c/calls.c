@@ -1,4 +1,5 @@
-/* The six functions as they are, each run with its length: a wait, an action that is asked for, a restart, an exchange, the refusals. */
+/* The eight functions as they are, each run with its length: a wait, an action that is asked for, a restart, an exchange, both without
+ * recursion, the refusals. */
 #include "lemboraw.h"
 #include <stdio.h>
 
@@ -29,6 +30,62 @@ static struct lemboraw_said restart(double dt, uint32_t fuel, uint8_t status, si
     return lemboraw_restart(&record, kinds, LEN, ns, LEN, limits, LEN, times, LEN, places, LEN, marks, LEN,
                             sinces, LEN, spare_times, spare, spare_places, LEN, spare_marks, LEN, spare_sinces, LEN, board, LEN,
                             true, dt, fuel, &status, answers, &leftover, answers);
+}
+
+/* Levels with one entry more than a call without recursion asks for. */
+enum { LEVELS = LEMBORAW_LEVELS + 1 };
+static uint64_t opens[LEVELS];
+static uint32_t counts[LEVELS];
+static double wholes[LEVELS], rests[LEVELS];
+
+static struct lemboraw_said flat(bool again, size_t nodes, double dt, uint32_t fuel, uint8_t status, size_t answers, size_t levels) {
+    double leftover = 0.25;
+    for (size_t i = 0; i < LEVELS; i++) {
+        opens[i] = counts[i] = 99;
+        wholes[i] = rests[i] = 99;
+    }
+    return (again ? lemboraw_restart_flat : lemboraw_tick_flat)(
+        &record, kinds, nodes, ns, nodes, limits, nodes, times, LEN, places, LEN, marks, LEN,
+        sinces, LEN, spare_times, LEN, spare_places, LEN, spare_marks, LEN, spare_sinces, LEN, board, LEN,
+        true, dt, fuel, &status, answers, &leftover, answers,
+        opens, LEVELS, counts, levels, wholes, LEVELS, rests, LEVELS);
+}
+
+/* Whether the levels hold that number, and behind those that are asked for what was there. */
+static bool levels_hold(int what) {
+    for (int i = 0; i < LEVELS; i++) {
+        int must = i < LEMBORAW_LEVELS ? what : 99;
+        if (opens[i] != (uint64_t)must || counts[i] != (uint32_t)must || wholes[i] != must || rests[i] != must) return false;
+    }
+    return true;
+}
+
+/* Without recursion, from a tree that has finished: refused in its order, asked, out of fuel, carried out. */
+static void flat_calls(void) {
+    const size_t all = LEMBORAW_LEVELS;
+    times[0] = -1.0;
+    struct lemboraw_said said = flat(false, LEN - 1, 1.0, 3, 9, 1, all - 1);
+    CHECK(said.no == LEMBORAW_BAD_TABLE && said.extra == 2 && levels_hold(99));
+    said = flat(false, LEN, 1.0, 3, 9, 1, all - 1);
+    CHECK(said.no == LEMBORAW_NO_ROOM && said.extra == 0 && levels_hold(99));
+    said = flat(true, LEN, -1.0, 3, 9, 1, 0);
+    CHECK(said.no == LEMBORAW_NO_ROOM && record.finished && times[0] == -1.0 && levels_hold(99));
+    said = flat(false, LEN, 1.0, 3, 9, 1, all);
+    CHECK(said.no == LEMBORAW_BAD_CELL && said.extra == 0 && levels_hold(99));
+    said = flat(true, LEN, -1.0, 3, 9, 1, all);
+    CHECK(said.no == LEMBORAW_BAD_TIME && levels_hold(99));
+    said = flat(true, LEN, 4.0, 3, LEMBORAW_RUNNING, 0, LEVELS);
+    CHECK(said.no == LEMBORAW_ASKS && said.extra == 40000 && said.time == 2.0 && record.finished && levels_hold(0));
+    said = flat(true, LEN, 1.0, 3, LEMBORAW_RUNNING, 0, all);
+    CHECK(said.no == LEMBORAW_DONE && said.status == LEMBORAW_RUNNING && said.visits == 2 && levels_hold(0));
+    CHECK(!record.finished && times[0] == 0.0 && times[1] == 1.0 && spare_times[0] == -1.0 && board[1] == LEMBORAW_RUNNING);
+    said = flat(false, LEN, 4.0, 2, LEMBORAW_SUCCESS, 1, all);
+    CHECK(said.no == LEMBORAW_OUT_OF_FUEL && times[1] == 1.0 && levels_hold(0));
+    said = flat(false, LEN, 4.0, 3, LEMBORAW_SUCCESS, 1, all);
+    CHECK(said.no == LEMBORAW_DONE && said.status == LEMBORAW_SUCCESS && said.time == 0.25 && said.visits == 3 && said.used == 1);
+    CHECK(record.finished && places[0] == 2 && spare_times[1] == 1.0 && sinces[2] == record.ticks && levels_hold(0));
+    said = flat(false, LEN, 4.0, 3, LEMBORAW_SUCCESS, 1, all);
+    CHECK(said.no == LEMBORAW_FINISHED && levels_hold(99));
 }
 
 /* The branch of an exchange, and its room: one node more than a result with it has in place of one node. */
@@ -158,6 +215,9 @@ int main(void) {
     CHECK(said.no == LEMBORAW_DONE && record.ticks == 0 && sinces[1] == UINT64_MAX - 1 && sinces[2] == 3);
     CHECK(lemboraw_age(record.ticks, sinces[1]) == 2 && lemboraw_age(0, UINT64_MAX) == 1 && lemboraw_age(UINT64_MAX, 0) == UINT64_MAX);
 
+    record.finished = true;
+    flat_calls();
+
     struct lemboraw_bound_said bound = lemboraw_bound(kinds, LEN, ns, LEN, limits, LEN, 1.0);
     CHECK(bound.no == LEMBORAW_DONE && bound.kind == LEMBORAW_UNBOUNDED && bound.ticks == 0);
     bound = lemboraw_bound(kinds + 1, 1, ns + 1, 1, limits + 1, 1, 1.0);
@@ -168,6 +228,6 @@ int main(void) {
     CHECK(lemboraw_memory(LEMBORAW_SEQUENCE, false) == LEMBORAW_MEMORYLESS_SEQUENCE);
     CHECK(lemboraw_memory(LEMBORAW_MEMORYLESS_SELECTOR, true) == LEMBORAW_SELECT);
     CHECK(lemboraw_memory(LEMBORAW_RACE, false) == LEMBORAW_RACE);
-    puts(wrong ? "C, the six functions: wrong" : "C, the six functions: ok");
+    puts(wrong ? "C, the eight functions: wrong" : "C, the eight functions: ok");
     return wrong;
 }

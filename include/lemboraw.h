@@ -15,15 +15,15 @@
  *   the host's C library, or from the host; nothing else is needed.
  * - Each run of memory is lent as a pointer and a number of elements, and is there for its length.
  *   Where the length is 0 the pointer may be null. The record is always there.
- * - Every pointer is aligned as C aligns its type: 8 bytes for double, uint64_t and the record, 2 for
- *   uint16_t.
+ * - Every pointer is aligned as C aligns its type: 8 bytes for double, uint64_t and the record, 4 for
+ *   uint32_t, 2 for uint16_t.
  * - Two things lent to one call do not overlap, and nobody else writes to any of them, or reads what
  *   is not const, until the call is back. Cells are changed in place, and put back where the call
  *   then says 7 or 1.
  * - What is not const can be written to, also in a call that is refused: the record is written back
  *   as it was.
  * - `finished`, `update` and `on` hold 0 or 1, as a bool does that C has written.
- * - LEMBORAW_STACK bytes of stack are left.
+ * - LEMBORAW_STACK bytes of stack are left, for a call without recursion LEMBORAW_STACK_FLAT.
  * - The thread's floating-point settings (MXCSR) are those with which it starts: round to nearest,
  *   no flush-to-zero, no denormals-are-zero, every exception masked. A host linked with -ffast-math
  *   has others: there a Wait of 5e-324 ends at an update by 0. With others elapsed times are not
@@ -31,8 +31,9 @@
  *   lemboraw_floats_are_usual() looks.
  *
  * Several runs that make up one thing (kinds, ns and limits are the table; times, places, marks and
- * sinces the cells; statuses and leftovers the answers; all seven of an exchange its room) count as long
- * as the shortest of them. Nothing past the table's length is read or written in cells, spare and board.
+ * sinces the cells; statuses and leftovers the answers; opens, counts, wholes and rests the levels; all
+ * seven of an exchange its room) count as long as the shortest of them. Nothing past the table's length is
+ * read or written in cells, spare and board, and nothing past the 16th entry in levels.
  */
 #ifndef LEMBORAW_H
 #define LEMBORAW_H
@@ -51,6 +52,12 @@ extern "C" {
 
 /* More stack than any call takes, in bytes: a tick of a tree 16 deep takes about 6,200. */
 #define LEMBORAW_STACK 8192
+
+/* The same for a tick or restart without recursion, whatever the tree. */
+#define LEMBORAW_STACK_FLAT 4096
+
+/* The entries that such a call asks for in its levels, one for each level that a tree can have. */
+#define LEMBORAW_LEVELS LEMBORAW_MOST_DEPTH
 
 /* The kinds of a node, with what the node's number n means. The limit is a time in Wait and
  * Timeout (finite, not below zero), and zero in every other kind. In limits, dt and leftovers minus
@@ -87,6 +94,7 @@ enum lemboraw_status {
  *   no  when                                             extra         leaves
  *   3   bad table                                        faulty place  everything as it was
  *   4   cells, spare or board shorter than the table                   everything as it was
+ *   13  without recursion: fewer than 16 levels                        everything as it was
  *   9   a bad cell                                       its place     everything as it was
  *   5   update whose dt is not finite or below zero                    everything as it was
  *   6   a bad status or leftover among the answers       its index     everything as it was
@@ -114,6 +122,7 @@ enum lemboraw_no {
     LEMBORAW_OUT_OF_FUEL = 7,
     LEMBORAW_NO_BOUND = 8,
     LEMBORAW_BAD_CELL = 9,
+    LEMBORAW_NO_ROOM = 13,
     LEMBORAW_NO_NODE = 17,
     LEMBORAW_STATE_HELD = 18,
     LEMBORAW_TOO_LARGE = 19,
@@ -222,6 +231,58 @@ struct lemboraw_said lemboraw_restart(
     bool update, double dt, uint32_t fuel,
     const uint8_t *statuses, size_t statuses_len,
     const double *leftovers, size_t leftovers_len);
+
+/* A tick without recursion, for hosts with little stack: it takes no more for a deeper tree. Its open nodes
+ * stand in lent levels, an entry for each level of the tree.
+ *
+ * In all else it is lemboraw_tick: the same answer on every input, and the same record, cells, spare and
+ * board. Levels of fewer than 16 entries are refused (13), also for a tree that is less deep. What is in
+ * them does not matter, so that all trees can share them. After 0, 7 and 1 the 16 entries are zero, every
+ * bit of them; after anything else they are as they were. */
+struct lemboraw_said lemboraw_tick_flat(
+    struct lemboraw_record *record,
+    const uint8_t *kinds, size_t kinds_len,
+    const uint16_t *ns, size_t ns_len,
+    const double *limits, size_t limits_len,
+    double *times, size_t times_len,
+    uint16_t *places, size_t places_len,
+    uint8_t *marks, size_t marks_len,
+    uint64_t *sinces, size_t sinces_len,
+    double *spare_times, size_t spare_times_len,
+    uint16_t *spare_places, size_t spare_places_len,
+    uint8_t *spare_marks, size_t spare_marks_len,
+    uint64_t *spare_sinces, size_t spare_sinces_len,
+    uint8_t *board, size_t board_len,
+    bool update, double dt, uint32_t fuel,
+    const uint8_t *statuses, size_t statuses_len,
+    const double *leftovers, size_t leftovers_len,
+    uint64_t *opens, size_t opens_len,
+    uint32_t *counts, size_t counts_len,
+    double *wholes, size_t wholes_len,
+    double *rests, size_t rests_len);
+
+/* A restart without recursion: lemboraw_restart in all else. */
+struct lemboraw_said lemboraw_restart_flat(
+    struct lemboraw_record *record,
+    const uint8_t *kinds, size_t kinds_len,
+    const uint16_t *ns, size_t ns_len,
+    const double *limits, size_t limits_len,
+    double *times, size_t times_len,
+    uint16_t *places, size_t places_len,
+    uint8_t *marks, size_t marks_len,
+    uint64_t *sinces, size_t sinces_len,
+    double *spare_times, size_t spare_times_len,
+    uint16_t *spare_places, size_t spare_places_len,
+    uint8_t *spare_marks, size_t spare_marks_len,
+    uint64_t *spare_sinces, size_t spare_sinces_len,
+    uint8_t *board, size_t board_len,
+    bool update, double dt, uint32_t fuel,
+    const uint8_t *statuses, size_t statuses_len,
+    const double *leftovers, size_t leftovers_len,
+    uint64_t *opens, size_t opens_len,
+    uint32_t *counts, size_t counts_len,
+    double *wholes, size_t wholes_len,
+    double *rests, size_t rests_len);
 
 /* The exchange of a branch that has not been started: the tree in which a new branch, a table of its own,
  * stands in place of the node `at` and all below it is written to the room, its table and its cells. The
@@ -340,6 +401,13 @@ struct lemboraw_room {
     uint8_t marks[LEMBORAW_MOST_NODES], spare_marks[LEMBORAW_MOST_NODES], board[LEMBORAW_MOST_NODES];
 };
 
+/* Levels for the calls without recursion; one of them serves any number of trees, one call at a time. */
+struct lemboraw_levels {
+    uint64_t opens[LEMBORAW_LEVELS];
+    double wholes[LEMBORAW_LEVELS], rests[LEMBORAW_LEVELS];
+    uint32_t counts[LEMBORAW_LEVELS];
+};
+
 /* Room for the table of the largest tree that there can be. */
 struct lemboraw_table {
     double limits[LEMBORAW_MOST_NODES];
@@ -406,6 +474,34 @@ static inline struct lemboraw_said lemboraw_tree_restart(
         tree->spare_times, room, tree->spare_places, room, tree->spare_marks, room, tree->spare_sinces, room,
         tree->board, room, update, dt, fuel,
         answers.statuses, answers.len, answers.leftovers, answers.len);
+}
+
+/* lemboraw_tick_flat of a tree. */
+static inline struct lemboraw_said lemboraw_tree_tick_flat(
+    struct lemboraw_tree *tree, bool update, double dt, uint32_t fuel, struct lemboraw_answers answers,
+    struct lemboraw_levels *levels) {
+    const size_t len = tree->len, room = len < LEMBORAW_MOST_NODES ? len : LEMBORAW_MOST_NODES, all = LEMBORAW_LEVELS;
+    return lemboraw_tick_flat(
+        &tree->record, tree->kinds, len, tree->ns, len, tree->limits, len,
+        tree->times, room, tree->places, room, tree->marks, room, tree->sinces, room,
+        tree->spare_times, room, tree->spare_places, room, tree->spare_marks, room, tree->spare_sinces, room,
+        tree->board, room, update, dt, fuel,
+        answers.statuses, answers.len, answers.leftovers, answers.len,
+        levels->opens, all, levels->counts, all, levels->wholes, all, levels->rests, all);
+}
+
+/* lemboraw_restart_flat of a tree. */
+static inline struct lemboraw_said lemboraw_tree_restart_flat(
+    struct lemboraw_tree *tree, bool update, double dt, uint32_t fuel, struct lemboraw_answers answers,
+    struct lemboraw_levels *levels) {
+    const size_t len = tree->len, room = len < LEMBORAW_MOST_NODES ? len : LEMBORAW_MOST_NODES, all = LEMBORAW_LEVELS;
+    return lemboraw_restart_flat(
+        &tree->record, tree->kinds, len, tree->ns, len, tree->limits, len,
+        tree->times, room, tree->places, room, tree->marks, room, tree->sinces, room,
+        tree->spare_times, room, tree->spare_places, room, tree->spare_marks, room, tree->spare_sinces, room,
+        tree->board, room, update, dt, fuel,
+        answers.statuses, answers.len, answers.leftovers, answers.len,
+        levels->opens, all, levels->counts, all, levels->wholes, all, levels->rests, all);
 }
 
 /* lemboraw_exchange of a tree. Table and room are others than those it stands over: on 0 it stands over

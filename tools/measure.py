@@ -35,13 +35,13 @@ def run(command, *words):
 
 
 def keys(program):
-    """What can be measured: tree, number of trees, side. Both sides were seen to tell the same."""
+    """What can be measured: tree, number of trees, side. All sides were seen to tell the same."""
     lines = (line.split("\t") for line in run(program, "list").stdout.splitlines())
     return [(tree, int(trees), side) for tree, trees, side in lines]
 
 
 def times(program):
-    """The times of each run, which is a process with both sides in it."""
+    """The times of each run, which is a process with all sides in it."""
     runs = {}
     for _ in range(performance.RUNS):
         for line in run(program, "times").stdout.splitlines():

@@ -95,6 +95,19 @@ def growth(figures, of, trees, form):
     return table(["nodes"] + [str(size) for size in SIZES] + ["a node, 16 to 32", "a node, 128 to 256"], rows)
 
 
+def without_recursion(figures):
+    """Both calls of this library, one tree of each; nothing yet where the second was not measured."""
+    rows = []
+    for tree, _, ours in sides(figures, 1):
+        if (tree, 1, "flat") not in figures:
+            continue
+        flat = figures[tree, 1, "flat"]
+        counts, ratios = [one.instructions for one in (ours, flat)], [mine / other for mine, other in zip(flat.runs, ours.runs)]
+        rows.append([tree] + [whole(count) for count in counts] + [ratio(counts[1] / counts[0])] + [spread(one.runs, short) for one in (ours, flat)] + [spread(ratios, ratio)])
+    header = ["tree", "with, instructions", "without", "without / with", "with, ns", "without, ns", "without / with, ns"]
+    return table(header, rows)
+
+
 def asking(figures):
     rows = []
     for tree in [tree for tree, _, of in figures if of == "asking"]:
@@ -111,6 +124,7 @@ TABLES = {
     "growth in instructions": lambda figures: growth(figures, "instructions", 1, whole),
     "growth in nanoseconds": lambda figures: growth(figures, "middle", MANY, short),
     "asking": asking,
+    "without recursion": without_recursion,
 }
 PLACE = re.compile("(?<=<!-- table: )([a-z0-9 ]+)( -->\n).*?(?=<!-- end -->)", re.S)
 

@@ -25,20 +25,37 @@ class Stored(unittest.TestCase):
 
     def test_the_file_is_whole(self):
         self.assertEqual(performance.text(self.figures), stored("performance.tsv"))
+        measured = {"bonsai", "ours", "flat"} & {of for _, _, of in self.figures}
+        self.assertTrue({"bonsai", "ours"} <= measured)
         for (tree, trees, of), figure in self.figures.items():
             where = "%s, %d, %s" % (tree, trees, of)
             self.assertIsNotNone(figure.count, where)
             self.assertEqual(figure.times is None, of in parts.PARTS, where)
-            self.assertTrue({(tree, trees, "bonsai"), (tree, trees, "ours")} <= set(self.figures), where)
+            self.assertTrue({(tree, trees, side) for side in measured} <= set(self.figures), where)
 
     def test_what_was_not_measured_is_told_so(self):
-        for without, left_out in [("times", ("times of 1 tree", "times of 500 trees", "growth in nanoseconds")), ("count", ("instructions", "parts", "asking"))]:
-            figures = {key: performance.Figure(figure.times, figure.count) for key, figure in self.figures.items()}
+        for without, left_out in [
+            ("times", ("times of 1 tree", "times of 500 trees", "growth in nanoseconds", "without recursion")),
+            ("count", ("instructions", "parts", "asking", "without recursion")),
+        ]:
+            figures = {key: performance.Figure(figure.times, figure.count) for key, figure in self.with_flat().items()}
             for figure in figures.values():
                 setattr(figure, without, None)
             for name in left_out:
                 self.assertRaises(performance.NotMeasured, tables.TABLES[name], figures)
         self.assertRaises(performance.NotMeasured, tables.TABLES["parts"], {})
+
+    def with_flat(self):
+        """The figures, and as those of calls without recursion twice the others."""
+        twice = {(tree, trees, "flat"): performance.Figure([2 * time for time in one.runs], 2 * one.count) for (tree, trees, of), one in self.figures.items() if of == "ours"}
+        return {**self.figures, **twice}
+
+    def test_without_recursion(self):
+        told = tables.without_recursion(self.with_flat())[2:]
+        self.assertEqual(len(told), len(list(tables.sides(self.figures, 1))))
+        for line in told:
+            words = [word.strip() for word in line.split("|")]
+            self.assertEqual((words[4], words[7]), ("2.00", "2.00 (2.00 to 2.00)"), line)
 
     def test_the_parts_are_the_whole_call(self):
         for tree in {tree for tree, _, of in self.figures if of in parts.PARTS}:

@@ -92,6 +92,24 @@ FAULTS = [
         "if marks[child] == 1 {",
         "if marks[child] == 2 {",
     ),
+    (
+        "the last level is left as it is",
+        "engine/src/room.rt",
+        "while i < 16 {\n        opens[i] = 0;",
+        "while i < 15 {\n        opens[i] = 0;",
+    ),
+    (
+        "an entry behind the levels is made zero",
+        "engine/src/room.rt",
+        "while i < 16 {\n        counts[i] = 0;",
+        "while i < counts.len() {\n        counts[i] = 0;",
+    ),
+    (
+        "a tree that has finished needs no levels",
+        "call/src/gate.rt",
+        "if entries < 16 {",
+        "if entries < 16 && (fresh || !record.finished) {",
+    ),
 ]
 
 HERE = os.path.dirname(os.path.abspath(__file__))

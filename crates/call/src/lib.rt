@@ -1,32 +1,32 @@
 // The calls by value: the checks, then the walk, in place, with the cells at entry in the spare. A restart
 // walks as from a fresh tree.
 // Whoever keeps the record gets it back with the answer.
-mod copy;
 mod enter;
-mod gate;
-mod told;
 
 use board::show_ended;
-use copy::copy_cells;
-use copy::copy_times;
 use enter::enter;
-use gate::Gate;
-use gate::checks;
 use load::load;
 use load::load_fresh;
 use load::put_back;
 use rules::Answer;
 use rules::Event;
 use rules::Record;
-use told::counted;
-use told::lent;
-use told::told_done;
-use told::told_stopped;
+use steps::Gate;
+use steps::checks;
+use steps::copy_cells;
+use steps::copy_times;
+use steps::counted;
+use steps::entries_of;
+use steps::lent;
+use steps::told_done;
+use steps::told_stopped;
 use work::Seen;
 ghost use mathlib.Core.Path.{_≡_};
-ghost use mathlib.Core.Bool.{true, false};
+ghost use mathlib.Core.Bool.{true, false, cond};
+ghost use Prim.Native.Nat.{_≤_};
 ghost use Rattle.rules.specs.Call.{run, given, left, tickCall, restartCall};
-ghost use Rattle.call.specs.Due.{callOf, Due};
+ghost use Rattle.rules.specs.Levels.{levels, cleared, flatLeft, tickFlat, restartFlat};
+ghost use Rattle.steps.specs.Due.{callOf, wholeCall, entriesOf, Due};
 
 pub struct Called {
     pub answer: Answer,
@@ -54,18 +54,29 @@ fn carry_out(
     fuel: u32,
     statuses: &[u8],
     leftovers: &[f64],
+    opens: &mut [u64],
+    counts: &mut [u32],
+    wholes: &mut [f64],
+    rests: &mut [f64],
     n: usize,
+    flat: bool,
     fresh: bool,
 ) -> Called
     requires { ⌜
         Due fresh (given «record» (now kinds) (now ns) (now limits) (run (now times) (now places) (now marks) (now sinces))
         (run (now «spare_times») (now «spare_places») (now «spare_marks») (now «spare_sinces»)) (now board) event fuel (now statuses) (now leftovers)) (now ends) n
         ⌝ }
+    requires { ⌜ 16 ≤ entriesOf flat (levels (now opens) (now counts) (now wholes) (now rests)) ⌝ }
     ensures { λ r. ⌜
         callOf fresh (given «record» (now (kinds .entry)) (now (ns .entry)) (now (limits .entry)) (run (now (times .entry)) (now (places .entry)) (now (marks .entry)) (now (sinces .entry)))
         (run (now («spare_times» .entry)) (now («spare_places» .entry)) (now («spare_marks» .entry)) (now («spare_sinces» .entry))) (now (board .entry)) event fuel (now (statuses .entry))
         (now (leftovers .entry))) ≡ left (r .answer) (r .record) (run (now (times .exit)) (now (places .exit)) (now (marks .exit)) (now (sinces .exit))) (run (now («spare_times» .exit))
         (now («spare_places» .exit)) (now («spare_marks» .exit)) (now («spare_sinces» .exit))) (now (board .exit))
+        ⌝ }
+    ensures { λ _. ⌜
+        levels (now (opens .exit)) (now (counts .exit)) (now (wholes .exit)) (now (rests .exit))
+        ≡ cond flat (cleared (levels (now (opens .entry)) (now (counts .entry)) (now (wholes .entry)) (now (rests .entry))))
+        (levels (now (opens .entry)) (now (counts .entry)) (now (wholes .entry)) (now (rests .entry)))
         ⌝ }
 {
     copy_cells(
@@ -91,9 +102,14 @@ fn carry_out(
         statuses,
         leftovers,
         times,
+        opens,
+        counts,
+        wholes,
+        rests,
         n,
         event,
         fuel,
+        flat,
     );
     let seen = result.seen;
     if let Seen::Stopped = seen {
@@ -131,15 +147,23 @@ fn value(
     fuel: u32,
     statuses: &[u8],
     leftovers: &[f64],
+    opens: &mut [u64],
+    counts: &mut [u32],
+    wholes: &mut [f64],
+    rests: &mut [f64],
+    flat: bool,
     fresh: bool,
 ) -> Called
     ensures { λ r. ⌜
-        callOf fresh (given «record» (now (kinds .entry)) (now (ns .entry)) (now (limits .entry)) (run (now (times .entry)) (now (places .entry)) (now (marks .entry)) (now (sinces .entry)))
+        wholeCall flat fresh (given «record» (now (kinds .entry)) (now (ns .entry)) (now (limits .entry)) (run (now (times .entry)) (now (places .entry)) (now (marks .entry)) (now (sinces .entry)))
         (run (now («spare_times» .entry)) (now («spare_places» .entry)) (now («spare_marks» .entry)) (now («spare_sinces» .entry))) (now (board .entry)) event fuel (now (statuses .entry))
-        (now (leftovers .entry))) ≡ left (r .answer) (r .record) (run (now (times .exit)) (now (places .exit)) (now (marks .exit)) (now (sinces .exit))) (run (now («spare_times» .exit))
-        (now («spare_places» .exit)) (now («spare_marks» .exit)) (now («spare_sinces» .exit))) (now (board .exit))
+        (now (leftovers .entry))) (levels (now (opens .entry)) (now (counts .entry)) (now (wholes .entry)) (now (rests .entry)))
+        ≡ flatLeft (left (r .answer) (r .record) (run (now (times .exit)) (now (places .exit)) (now (marks .exit)) (now (sinces .exit))) (run (now («spare_times» .exit))
+        (now («spare_places» .exit)) (now («spare_marks» .exit)) (now («spare_sinces» .exit))) (now (board .exit)))
+        (levels (now (opens .exit)) (now (counts .exit)) (now (wholes .exit)) (now (rests .exit)))
         ⌝ }
 {
+    let entries = entries_of(opens, counts, wholes, rests, flat);
     let mut ends = [0u16; 256];
     match checks(
         record,
@@ -159,6 +183,7 @@ fn value(
         event,
         statuses,
         leftovers,
+        entries,
         fresh,
     ) {
         Gate::Refused(answer) => Called { answer, record },
@@ -181,7 +206,12 @@ fn value(
             fuel,
             statuses,
             leftovers,
+            opens,
+            counts,
+            wholes,
+            rests,
             n,
+            flat,
             fresh,
         ),
     }
@@ -214,6 +244,10 @@ pub fn tick_value(
         (now («spare_places» .exit)) (now («spare_marks» .exit)) (now («spare_sinces» .exit))) (now (board .exit))
         ⌝ }
 {
+    let mut opens = [0u64; 1];
+    let mut counts = [0u32; 1];
+    let mut wholes = [0.0; 1];
+    let mut rests = [0.0; 1];
     value(
         record,
         kinds,
@@ -232,6 +266,11 @@ pub fn tick_value(
         fuel,
         statuses,
         leftovers,
+        &mut opens,
+        &mut counts,
+        &mut wholes,
+        &mut rests,
+        false,
         false,
     )
 }
@@ -263,6 +302,10 @@ pub fn restart_value(
         (now («spare_places» .exit)) (now («spare_marks» .exit)) (now («spare_sinces» .exit))) (now (board .exit))
         ⌝ }
 {
+    let mut opens = [0u64; 1];
+    let mut counts = [0u32; 1];
+    let mut wholes = [0.0; 1];
+    let mut rests = [0.0; 1];
     value(
         record,
         kinds,
@@ -281,6 +324,131 @@ pub fn restart_value(
         fuel,
         statuses,
         leftovers,
+        &mut opens,
+        &mut counts,
+        &mut wholes,
+        &mut rests,
+        false,
+        true,
+    )
+}
+
+// A tick without recursion, in lent room.
+pub fn tick_flat_value(
+    record: Record,
+    kinds: &[u8],
+    ns: &[u16],
+    limits: &[f64],
+    times: &mut [f64],
+    places: &mut [u16],
+    marks: &mut [u8],
+    sinces: &mut [u64],
+    spare_times: &mut [f64],
+    spare_places: &mut [u16],
+    spare_marks: &mut [u8],
+    spare_sinces: &mut [u64],
+    board: &mut [u8],
+    event: Event,
+    fuel: u32,
+    statuses: &[u8],
+    leftovers: &[f64],
+    opens: &mut [u64],
+    counts: &mut [u32],
+    wholes: &mut [f64],
+    rests: &mut [f64],
+) -> Called
+    ensures { λ r. ⌜
+        tickFlat (given «record» (now (kinds .entry)) (now (ns .entry)) (now (limits .entry)) (run (now (times .entry)) (now (places .entry)) (now (marks .entry)) (now (sinces .entry)))
+        (run (now («spare_times» .entry)) (now («spare_places» .entry)) (now («spare_marks» .entry)) (now («spare_sinces» .entry))) (now (board .entry)) event fuel (now (statuses .entry))
+        (now (leftovers .entry))) (levels (now (opens .entry)) (now (counts .entry)) (now (wholes .entry)) (now (rests .entry)))
+        ≡ flatLeft (left (r .answer) (r .record) (run (now (times .exit)) (now (places .exit)) (now (marks .exit)) (now (sinces .exit))) (run (now («spare_times» .exit))
+        (now («spare_places» .exit)) (now («spare_marks» .exit)) (now («spare_sinces» .exit))) (now (board .exit)))
+        (levels (now (opens .exit)) (now (counts .exit)) (now (wholes .exit)) (now (rests .exit)))
+        ⌝ }
+{
+    value(
+        record,
+        kinds,
+        ns,
+        limits,
+        times,
+        places,
+        marks,
+        sinces,
+        spare_times,
+        spare_places,
+        spare_marks,
+        spare_sinces,
+        board,
+        event,
+        fuel,
+        statuses,
+        leftovers,
+        opens,
+        counts,
+        wholes,
+        rests,
+        true,
+        false,
+    )
+}
+
+// A restart without recursion, in lent room.
+pub fn restart_flat_value(
+    record: Record,
+    kinds: &[u8],
+    ns: &[u16],
+    limits: &[f64],
+    times: &mut [f64],
+    places: &mut [u16],
+    marks: &mut [u8],
+    sinces: &mut [u64],
+    spare_times: &mut [f64],
+    spare_places: &mut [u16],
+    spare_marks: &mut [u8],
+    spare_sinces: &mut [u64],
+    board: &mut [u8],
+    event: Event,
+    fuel: u32,
+    statuses: &[u8],
+    leftovers: &[f64],
+    opens: &mut [u64],
+    counts: &mut [u32],
+    wholes: &mut [f64],
+    rests: &mut [f64],
+) -> Called
+    ensures { λ r. ⌜
+        restartFlat (given «record» (now (kinds .entry)) (now (ns .entry)) (now (limits .entry)) (run (now (times .entry)) (now (places .entry)) (now (marks .entry)) (now (sinces .entry)))
+        (run (now («spare_times» .entry)) (now («spare_places» .entry)) (now («spare_marks» .entry)) (now («spare_sinces» .entry))) (now (board .entry)) event fuel (now (statuses .entry))
+        (now (leftovers .entry))) (levels (now (opens .entry)) (now (counts .entry)) (now (wholes .entry)) (now (rests .entry)))
+        ≡ flatLeft (left (r .answer) (r .record) (run (now (times .exit)) (now (places .exit)) (now (marks .exit)) (now (sinces .exit))) (run (now («spare_times» .exit))
+        (now («spare_places» .exit)) (now («spare_marks» .exit)) (now («spare_sinces» .exit))) (now (board .exit)))
+        (levels (now (opens .exit)) (now (counts .exit)) (now (wholes .exit)) (now (rests .exit)))
+        ⌝ }
+{
+    value(
+        record,
+        kinds,
+        ns,
+        limits,
+        times,
+        places,
+        marks,
+        sinces,
+        spare_times,
+        spare_places,
+        spare_marks,
+        spare_sinces,
+        board,
+        event,
+        fuel,
+        statuses,
+        leftovers,
+        opens,
+        counts,
+        wholes,
+        rests,
+        true,
         true,
     )
 }

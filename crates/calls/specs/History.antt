@@ -27,6 +27,7 @@ isTicked says.BadTime = false
 isTicked (says.BadAnswer i) = false
 isTicked says.OutOfFuel = false
 isTicked (says.BadCell p) = false
+isTicked says.NoRoom = false
 
 pub not-ticked : (a : Answer) → NotWalked a → isTicked a ≡ false
 not-ticked (says.Ticked s r v u) h = absurd h
@@ -38,6 +39,7 @@ not-ticked says.BadTime h = refl
 not-ticked (says.BadAnswer i) h = refl
 not-ticked says.OutOfFuel h = refl
 not-ticked (says.BadCell p) h = refl
+not-ticked says.NoRoom h = refl
 
 -- what is asked of a call answered 0, by the number of answers that it says it used
 abbrev pub OfTicked : Answer → (ℕ → Type 0) → Type 0
@@ -50,6 +52,7 @@ OfTicked says.BadTime P = Unit {0}
 OfTicked (says.BadAnswer i) P = Unit {0}
 OfTicked says.OutOfFuel P = Unit {0}
 OfTicked (says.BadCell p) P = Unit {0}
+OfTicked says.NoRoom P = Unit {0}
 
 -- ---- what stands
 -- record and cells, and how many ticks were carried out since the start or, itself counted, the last restart

@@ -5,7 +5,7 @@ use mathlib.Core.Bool.{Bool, true, false, cond}
 use Prim.Native.Nat.{ℕ}
 use lib.Dec.{T}
 use Rattle.rules.specs.declared.answer.Answer.{Answer}
-use Rattle.rules.specs.declared.answer.Answer.the-variants.{Ticked, Asked, Finished, BadTable, TooShort, BadTime, BadAnswer, OutOfFuel, BadCell}
+use Rattle.rules.specs.declared.answer.Answer.the-variants.{Ticked, Asked, Finished, BadTable, TooShort, BadTime, BadAnswer, OutOfFuel, BadCell, NoRoom}
 use Rattle.rules.specs.Tree.{Tree, fresh, size}
 use Rattle.rules.specs.Outcome.{Out}
 use Rattle.rules.specs.Table.{Table, good, bad, table}
@@ -70,8 +70,9 @@ NotWalked BadTime = Unit {0}
 NotWalked (BadAnswer i) = Unit {0}
 NotWalked OutOfFuel = ⊥
 NotWalked (BadCell p) = Unit {0}
+NotWalked NoRoom = Unit {0}
 
--- a refusal, and why; 9 and 2 are a tick's alone
+-- a refusal, and why; 9 and 2 are a tick's alone, and 13 is of the calls without recursion
 abbrev pub Why : Call → Answer → Type 0
 Why a (Ticked s r v u) = ⊥
 Why a (Asked n x) = ⊥
@@ -83,6 +84,7 @@ Why a (BadCell p) = (t : Tree) × (table (a .given' .kinds) (a .given' .ns) (a .
 Why a BadTime = timeAllowed (a .given' .event) ≡ false
 Why a (BadAnswer i) = badAnswer 0 (a .given' .statuses) (a .given' .leftovers) ≡ faulty i
 Why a Finished = (a .given' .record' .finished ≡ true) × (a .fresh ≡ false)
+Why a NoRoom = ⊥
 
 pub not-walked : (a : Call) (b : Answer) → Why a b → NotWalked b
 not-walked a (Ticked s r v u) h = h
@@ -91,6 +93,7 @@ not-walked a OutOfFuel h = h
 not-walked a (BadTable p) h = tt
 not-walked a TooShort h = tt
 not-walked a (BadCell p) h = tt
+not-walked a NoRoom h = tt
 not-walked a BadTime h = tt
 not-walked a (BadAnswer i) h = tt
 not-walked a Finished h = tt

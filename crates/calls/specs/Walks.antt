@@ -3,7 +3,7 @@ use mathlib.Core.Path.{_≡_, sym, ap, _∙_, subst}
 use mathlib.Core.Bool.{false}
 use lib.Dec.{T}
 use Rattle.rules.specs.declared.answer.Answer.{Answer}
-use Rattle.rules.specs.declared.answer.Answer.the-variants.{Ticked, Asked, Finished, BadTable, TooShort, BadTime, BadAnswer, OutOfFuel, BadCell}
+use Rattle.rules.specs.declared.answer.Answer.the-variants.{Ticked, Asked, Finished, BadTable, TooShort, BadTime, BadAnswer, OutOfFuel, BadCell, NoRoom}
 use Rattle.rules.specs.Tree.{Tree, size}
 use Rattle.rules.specs.Table.{Table, good, bad, table}
 use Rattle.rules.specs.Cells.{Found, faulty, none, badCell}
@@ -26,6 +26,7 @@ clash : (a : Call) (t : Tree) (b : Answer) → Walked a t → Why a b → ⊥
 clash a t (Ticked s r v u) w y = y
 clash a t (Asked n x) w y = y
 clash a t OutOfFuel w y = y
+clash a t NoRoom w y = y
 clash a t (BadTable p) w y = subst IsGood (sym (w .table-good) ∙ y) tt
 clash a t TooShort w y = subst T (sym (y .2) ∙ ap (λ (u : Tree). tooShort (a .given') (size u)) (the-tree a t w (y .0) (y .1)) ∙ w .long-enough) tt
 clash a t (BadCell p) w y =

@@ -10,7 +10,7 @@ use lib.Dec.{T}
 use lib.ListN.{length, length-append}
 use lib.Ieee.{Float, binary64}
 use Rattle.rules.specs.declared.answer.Answer.{Answer}
-use Rattle.rules.specs.declared.answer.Answer.the-variants.{Ticked, Asked, Finished, BadTable, TooShort, BadTime, BadAnswer, OutOfFuel, BadCell}
+use Rattle.rules.specs.declared.answer.Answer.the-variants.{Ticked, Asked, Finished, BadTable, TooShort, BadTime, BadAnswer, OutOfFuel, BadCell, NoRoom}
 use Rattle.rules.specs.Tree.{Tree}
 use Rattle.rules.specs.Outcome.{statusOf, world, Out, done, asks, short}
 use Rattle.rules.specs.State.{tick}
@@ -107,6 +107,7 @@ Progress n TooShort = ⊥
 Progress n BadTime = ⊥
 Progress n (BadAnswer i) = ⊥
 Progress n (BadCell p) = ⊥
+Progress n NoRoom = ⊥
 
 abbrev pub isAsked : Answer → Type 0
 isAsked (Asked n x) = Unit {0}
@@ -118,6 +119,7 @@ isAsked TooShort = ⊥
 isAsked BadTime = ⊥
 isAsked (BadAnswer i) = ⊥
 isAsked (BadCell p) = ⊥
+isAsked NoRoom = ⊥
 
 no-more : (used left : Answers) → List.[] ≡ used ++ left → length left ≡ 0
 no-more used left e = zero-of (length used) (length left) (ap length e ∙ length-append used left)
@@ -168,6 +170,7 @@ module _ (a : Call) (s : ℕ) (l : Float) (even : Paired (a .given' .statuses) (
   asked-not BadTime h q = q
   asked-not (BadAnswer i) h q = q
   asked-not (BadCell p) h q = q
+  asked-not NoRoom h q = q
 
   -- asked: with one answer more, all answers are used, or a next question is asked, or the fuel is used up
   pub answered-again : isAsked (leftBy a .answer) → Progress (suc (length (answers (g' .statuses) (g' .leftovers)))) (leftBy one .answer)

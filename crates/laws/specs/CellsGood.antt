@@ -11,7 +11,7 @@ use lib.Ieee.{Float, Format, binary64}
 use Rattle.rules.specs.declared.event.Event.{Event}
 use Rattle.rules.specs.declared.event.Event.the-variants.{Update, Other}
 use Rattle.rules.specs.declared.answer.Answer.{Answer}
-use Rattle.rules.specs.declared.answer.Answer.the-variants.{Ticked, Asked, Finished, BadTable, TooShort, BadTime, BadAnswer, OutOfFuel, BadCell}
+use Rattle.rules.specs.declared.answer.Answer.the-variants.{Ticked, Asked, Finished, BadTable, TooShort, BadTime, BadAnswer, OutOfFuel, BadCell, NoRoom}
 use Rattle.rules.specs.Tree.{Tree, fresh, size}
 use Rattle.rules.specs.Outcome.{dt, World, world, Out, done, asks, short}
 use Rattle.rules.specs.State.{tick}
@@ -157,6 +157,7 @@ NotBad BadTime = Unit {0}
 NotBad (BadAnswer i) = Unit {0}
 NotBad OutOfFuel = Unit {0}
 NotBad (BadCell p) = ⊥
+NotBad NoRoom = Unit {0}
 
 abbrev IsFaulty : Found → Type 0
 IsFaulty (faulty p) = Unit {0}
@@ -183,6 +184,7 @@ module _ (t : Tree) (st : Standing) (g : Given) (up : TakesUp t st (ticks g)) (a
   not-bad (BadAnswer i) h = tt
   not-bad OutOfFuel h = tt
   not-bad (BadCell p) h = found-none p h
+  not-bad NoRoom h = tt
 
   by-view : (l : Left) → View (ticks g) l → NotBad (l .answer)
   by-view l (refusing b n) = not-bad b n

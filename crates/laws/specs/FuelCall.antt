@@ -6,7 +6,7 @@ use lib.Dec.{T}
 use lib.Ieee.{binary64}
 use lib.Ieee.Fits.{and-l, and-r}
 use Rattle.rules.specs.declared.answer.Answer.{Answer}
-use Rattle.rules.specs.declared.answer.Answer.the-variants.{Ticked, Asked, Finished, BadTable, TooShort, BadTime, BadAnswer, OutOfFuel, BadCell}
+use Rattle.rules.specs.declared.answer.Answer.the-variants.{Ticked, Asked, Finished, BadTable, TooShort, BadTime, BadAnswer, OutOfFuel, BadCell, NoRoom}
 use Rattle.rules.specs.Tree.{Tree, node, Forest, [], _∷_, size}
 use Rattle.rules.specs.Outcome.{world, Out, done, asks, short}
 use Rattle.rules.specs.Table.{mostDeep, good, table}
@@ -48,6 +48,7 @@ NotOut BadTime = Unit {0}
 NotOut (BadAnswer i) = Unit {0}
 NotOut OutOfFuel = ⊥
 NotOut (BadCell p) = Unit {0}
+NotOut NoRoom = Unit {0}
 
 walked-not-out : (g : Given) (t : Tree) (o : Out Tree) → (o ≡ short → ⊥) → NotOut (walked g t o .answer)
 walked-not-out g t (done s r t' (world f ans)) h = tt
@@ -64,6 +65,7 @@ refused-not-out BadTime h = tt
 refused-not-out (BadAnswer i) h = tt
 refused-not-out OutOfFuel h = h
 refused-not-out (BadCell p) h = tt
+refused-not-out NoRoom h = tt
 
 module _ (a : Call) (t : Tree) (e : table (a .given' .kinds) (a .given' .ns) (a .given' .limits) ≡ good t) (w : T (loopless t)) (f : size t ≤ a .given' .fuel) where
   abbrev g : Given

@@ -2,7 +2,7 @@
 use mathlib.Core.Path.{_≡_, refl, subst}
 use lib.Dec.{T}
 use Rattle.rules.specs.declared.answer.Answer.{Answer}
-use Rattle.rules.specs.declared.answer.Answer.the-variants.{Ticked, Asked, Finished, BadTable, TooShort, BadTime, BadAnswer, OutOfFuel, BadCell}
+use Rattle.rules.specs.declared.answer.Answer.the-variants.{Ticked, Asked, Finished, BadTable, TooShort, BadTime, BadAnswer, OutOfFuel, BadCell, NoRoom}
 use Rattle.rules.specs.Tree.{Tree}
 use Rattle.rules.specs.Outcome.{world, Out, done, asks, short}
 use Rattle.rules.specs.Table.{good, table}
@@ -20,6 +20,7 @@ Leaves g l TooShort = l ≡ refused g TooShort
 Leaves g l BadTime = l ≡ refused g BadTime
 Leaves g l (BadAnswer i) = l ≡ refused g (BadAnswer i)
 Leaves g l (BadCell p) = l ≡ refused g (BadCell p)
+Leaves g l NoRoom = l ≡ refused g NoRoom
 
 refused-leaves : (g : Given) (a : Answer) → NotWalked a → Leaves g (refused g a) a
 refused-leaves g (Ticked s r v u) h = tt
@@ -31,6 +32,7 @@ refused-leaves g TooShort h = refl
 refused-leaves g BadTime h = refl
 refused-leaves g (BadAnswer i) h = refl
 refused-leaves g (BadCell p) h = refl
+refused-leaves g NoRoom h = refl
 
 walked-leaves : (g : Given) (t : Tree) → table (g .kinds) (g .ns) (g .limits) ≡ good t → (o : Out Tree) → Leaves g (walked g (heldBy t g) o) (walked g (heldBy t g) o .answer)
 walked-leaves g t e (done s r t' (world f ans)) = tt
@@ -44,7 +46,7 @@ by-view a l (walking t w) = walked-leaves (a .given') t (w .table-good) (walk t 
 pub leaves : (a : Call) → Leaves (a .given') (leftBy a) (leftBy a .answer)
 leaves a = by-view a (leftBy a) (view a)
 
--- ---- a restart is never answered 9 or 2
+-- ---- a restart is never answered 9, 2 or 13
 abbrev pub OfRestart : Answer → Type 0
 OfRestart (Ticked s r v u) = Unit {0}
 OfRestart (Asked n x) = Unit {0}
@@ -55,6 +57,7 @@ OfRestart TooShort = Unit {0}
 OfRestart BadTime = Unit {0}
 OfRestart (BadAnswer i) = Unit {0}
 OfRestart (BadCell p) = ⊥
+OfRestart NoRoom = ⊥
 
 refused-restart : (g : Given) (b : Answer) → Why (restarts g) b → OfRestart b
 refused-restart g (Ticked s r v u) h = tt
@@ -66,6 +69,7 @@ refused-restart g TooShort h = tt
 refused-restart g BadTime h = tt
 refused-restart g (BadAnswer i) h = tt
 refused-restart g (BadCell p) h = subst T (h .4) tt
+refused-restart g NoRoom h = h
 
 walked-restart : (g : Given) (t : Tree) (o : Out Tree) → OfRestart (walked g t o .answer)
 walked-restart g t (done s r t' (world f ans)) = tt

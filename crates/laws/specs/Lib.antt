@@ -11,6 +11,7 @@ pub mod Fuel
 pub mod Fine
 pub mod FuelCall
 pub mod Leaves
+pub mod Flat
 pub mod Follows
 pub mod Elapsed
 pub mod Live

@@ -12,7 +12,7 @@ use lib.Ieee.{Float, Format, binary64}
 use Rattle.rules.specs.declared.status.Status.{Status}
 use Rattle.rules.specs.declared.event.Event.{Event}
 use Rattle.rules.specs.declared.answer.Answer.{Answer}
-use Rattle.rules.specs.declared.answer.Answer.the-variants.{Ticked, Asked, Finished, BadTable, TooShort, BadTime, BadAnswer, OutOfFuel, BadCell}
+use Rattle.rules.specs.declared.answer.Answer.the-variants.{Ticked, Asked, Finished, BadTable, TooShort, BadTime, BadAnswer, OutOfFuel, BadCell, NoRoom}
 use Rattle.rules.specs.Tree.{Tree, node, [], _∷_}
 use Rattle.rules.specs.Outcome.{dt, World, world, Out, done, asks, short, Ticker, _▸_}
 use Rattle.rules.specs.State.{rule, tick}
@@ -163,6 +163,7 @@ ByFuel a t TooShort = ⊥
 ByFuel a t BadTime = ⊥
 ByFuel a t (BadAnswer i) = ⊥
 ByFuel a t (BadCell p) = ⊥
+ByFuel a t NoRoom = ⊥
 
 pub by-fuel : (a : Call) (t : Tree) → Walked a t → ByFuel a t (leftBy a .answer)
 by-fuel a t w = subst (λ (l : Left). ByFuel a t (l .answer)) (sym (walks a t w)) (on (walk t a) refl (walk-or a t w))

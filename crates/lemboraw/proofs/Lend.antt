@@ -43,6 +43,11 @@ use Rattle.lemboraw.specs.declared.value.Told.{Told}
 use Rattle.lemboraw.proofs.value.Told as D
 use Rattle.lemboraw.proofs.value.Told.Laws as D′
 
+-- a tuple that is nested to the right, flat on the page
+infixr 20 _▸_
+abbrev pub _▸_ : {A B : Type 0} → A → B → A × B
+a ▸ b = (a, b)
+
 abbrev pub R : RattleType
 R = T.the-row
 

@@ -1,3 +1,5 @@
 mod Told
 mod Lend
+mod Shape
 mod Outer
+mod Roomed

@@ -10,6 +10,7 @@ use Rattle.rules.specs.declared.answer.BoundAnswer.{BoundAnswer}
 use Rattle.rules.specs.declared.answer.BoundAnswer.the-variants.{Within, Never, Above, BadTable, NoBound}
 use Rattle.rules.specs.Kinds.{code, kindOf, memory}
 use Rattle.rules.specs.Call.{Run, Given, Left, tickCall, restartCall, saidOf}
+use Rattle.rules.specs.Levels.{Levels, FlatLeft, tickFlat, restartFlat}
 use Rattle.rules.specs.Exchange.{Room, GivenExchange, LeftExchange, exchangeCall, exchangeSaidOf}
 use Rattle.lemboraw.specs.declared.numbers.Bound.{Bound}
 
@@ -32,6 +33,23 @@ hostTick g = told (tickCall g)
 
 unfoldable pub hostRestart : Given → HostLeft
 hostRestart g = told (restartCall g)
+
+-- what a call without recursion leaves
+pub record HostFlatLeft : Type 0 where
+  pub host : HostLeft
+  pub levels' : Levels
+
+abbrev pub hostFlatLeft : Said → Record → Run → Run → List ℕ → Levels → HostFlatLeft
+hostFlatLeft a r c s b l = record { host = hostLeft a r c s b; levels' = l }
+
+abbrev pub toldFlat : FlatLeft → HostFlatLeft
+toldFlat l = record { host = told (l .left'); levels' = l .levels' }
+
+unfoldable pub hostTickFlat : Given → Levels → HostFlatLeft
+hostTickFlat g r = toldFlat (tickFlat g r)
+
+unfoldable pub hostRestartFlat : Given → Levels → HostFlatLeft
+hostRestartFlat g r = toldFlat (restartFlat g r)
 
 -- what an exchange leaves
 pub record HostExchanged : Type 0 where

@@ -10,14 +10,17 @@ use rules::Kind;
 use rules::Record;
 use rules::Said;
 use rules::age;
+use value::restart_flat_said;
 use value::restart_said;
+use value::tick_flat_said;
 use value::tick_said;
 ghost use mathlib.Core.Path.{_≡_};
 ghost use Rattle.rules.specs.Outcome.{eventOf};
 ghost use Rattle.rules.specs.Call.{run, given, age};
+ghost use Rattle.rules.specs.Levels.{levels};
 ghost use Rattle.rules.specs.Exchange.{room, givenExchange};
 ghost use Rattle.rules.specs.Bound.{boundCall};
-ghost use Rattle.lemboraw.specs.Host.{hostTick, hostRestart, hostLeft, hostExchange, hostExchanged, memoryOf, boundOf};
+ghost use Rattle.lemboraw.specs.Host.{hostTick, hostRestart, hostLeft, hostTickFlat, hostRestartFlat, hostFlatLeft, hostExchange, hostExchanged, memoryOf, boundOf};
 
 // A tick: the cells, the board and the record change only as its answer says.
 #[no_mangle]
@@ -129,6 +132,139 @@ pub extern "C" fn lemboraw_restart(
         fuel,
         statuses,
         leftovers,
+    );
+    *record = told.record;
+    told.said
+}
+
+// A tick without recursion: as the tick in all else. Its open nodes stand in the lent room, an entry for each of sixteen
+// levels, which is zero behind a walk.
+#[no_mangle]
+pub extern "C" fn lemboraw_tick_flat(
+    record: &mut Record,
+    kinds: &[u8],
+    ns: &[u16],
+    limits: &[f64],
+    times: &mut [f64],
+    places: &mut [u16],
+    marks: &mut [u8],
+    sinces: &mut [u64],
+    spare_times: &mut [f64],
+    spare_places: &mut [u16],
+    spare_marks: &mut [u8],
+    spare_sinces: &mut [u64],
+    board: &mut [u8],
+    update: bool,
+    dt: f64,
+    fuel: u32,
+    statuses: &[u8],
+    leftovers: &[f64],
+    opens: &mut [u64],
+    counts: &mut [u32],
+    wholes: &mut [f64],
+    rests: &mut [f64],
+) -> Said
+    ensures { λ r. ⌜
+        hostTickFlat (given (now («record» .entry)) (now (kinds .entry)) (now (ns .entry)) (now (limits .entry))
+        (run (now (times .entry)) (now (places .entry)) (now (marks .entry)) (now (sinces .entry)))
+        (run (now («spare_times» .entry)) (now («spare_places» .entry)) (now («spare_marks» .entry)) (now («spare_sinces» .entry)))
+        (now (board .entry)) (eventOf update dt) fuel (now (statuses .entry)) (now (leftovers .entry)))
+        (levels (now (opens .entry)) (now (counts .entry)) (now (wholes .entry)) (now (rests .entry)))
+        ≡ hostFlatLeft r (now («record» .exit))
+        (run (now (times .exit)) (now (places .exit)) (now (marks .exit)) (now (sinces .exit)))
+        (run (now («spare_times» .exit)) (now («spare_places» .exit)) (now («spare_marks» .exit)) (now («spare_sinces» .exit)))
+        (now (board .exit)) (levels (now (opens .exit)) (now (counts .exit)) (now (wholes .exit)) (now (rests .exit)))
+        ⌝ }
+{
+    let told = tick_flat_said(
+        *record,
+        kinds,
+        ns,
+        limits,
+        times,
+        places,
+        marks,
+        sinces,
+        spare_times,
+        spare_places,
+        spare_marks,
+        spare_sinces,
+        board,
+        update,
+        dt,
+        fuel,
+        statuses,
+        leftovers,
+        opens,
+        counts,
+        wholes,
+        rests,
+    );
+    *record = told.record;
+    told.said
+}
+
+// A restart without recursion: as the restart in all else, in lent room as the tick's.
+#[no_mangle]
+pub extern "C" fn lemboraw_restart_flat(
+    record: &mut Record,
+    kinds: &[u8],
+    ns: &[u16],
+    limits: &[f64],
+    times: &mut [f64],
+    places: &mut [u16],
+    marks: &mut [u8],
+    sinces: &mut [u64],
+    spare_times: &mut [f64],
+    spare_places: &mut [u16],
+    spare_marks: &mut [u8],
+    spare_sinces: &mut [u64],
+    board: &mut [u8],
+    update: bool,
+    dt: f64,
+    fuel: u32,
+    statuses: &[u8],
+    leftovers: &[f64],
+    opens: &mut [u64],
+    counts: &mut [u32],
+    wholes: &mut [f64],
+    rests: &mut [f64],
+) -> Said
+    ensures { λ r. ⌜
+        hostRestartFlat (given (now («record» .entry)) (now (kinds .entry)) (now (ns .entry)) (now (limits .entry))
+        (run (now (times .entry)) (now (places .entry)) (now (marks .entry)) (now (sinces .entry)))
+        (run (now («spare_times» .entry)) (now («spare_places» .entry)) (now («spare_marks» .entry)) (now («spare_sinces» .entry)))
+        (now (board .entry)) (eventOf update dt) fuel (now (statuses .entry)) (now (leftovers .entry)))
+        (levels (now (opens .entry)) (now (counts .entry)) (now (wholes .entry)) (now (rests .entry)))
+        ≡ hostFlatLeft r (now («record» .exit))
+        (run (now (times .exit)) (now (places .exit)) (now (marks .exit)) (now (sinces .exit)))
+        (run (now («spare_times» .exit)) (now («spare_places» .exit)) (now («spare_marks» .exit)) (now («spare_sinces» .exit)))
+        (now (board .exit)) (levels (now (opens .exit)) (now (counts .exit)) (now (wholes .exit)) (now (rests .exit)))
+        ⌝ }
+{
+    let told = restart_flat_said(
+        *record,
+        kinds,
+        ns,
+        limits,
+        times,
+        places,
+        marks,
+        sinces,
+        spare_times,
+        spare_places,
+        spare_marks,
+        spare_sinces,
+        board,
+        update,
+        dt,
+        fuel,
+        statuses,
+        leftovers,
+        opens,
+        counts,
+        wholes,
+        rests,
     );
     *record = told.record;
     told.said

@@ -69,11 +69,11 @@ module _ {G : Given} {d : ℕ} where
     moved-count : count (moved i t' ts) ≡ count ts
     moved-count = ats-count G (fr .q) (moved i t' ts) ts (fr .stop) d moved-ats vs
 
-    moved-link : (v : Visitor) (f u m : ℕ) (again : ℕ → ℕ → Step)
-        → flat.moved v (fr .stop) (fr .q) again (spot G i (fr .q)) m (wordsIn fr (put i t' ts) f u) (timesIn fr (put i t' ts))
+    moved-link : (f u m : ℕ) (again : ℕ → ℕ → Step)
+        → flat.moved (fr .stop) (fr .q) again (spot G i (fr .q)) m (wordsIn fr (put i t' ts) f u) (timesIn fr (put i t' ts))
         ≡ again (spot G (next i ts) (fr .q)) (cond (ltb (suc i) (count ts)) (suc m) 0) (wordsIn fr (moved i t' ts) f u) (timesIn fr (moved i t' ts))
     unfolding flat.moved
-    moved-link v f u m again =
+    moved-link f u m again =
         let l₁ : i < count (put i t' ts) = omega (arith, ats-count G (fr .q) (put i t' ts) ts (fr .stop) d vp vs) in
         let ts₁ : Forest = freshAt i (put i t' ts) in
         let vs₁ : All fr ts₁ = ats-fresh-at G (put i t' ts) i (fr .q) (fr .stop) d vp in
@@ -141,7 +141,7 @@ module _ (G : Given) (d : ℕ) (child : Ticker) (v : Visitor) (g : Ticks G d chi
           | Failure ↦ λ r t' f' u' v' e'. went u' (still e') (v', within t' v') (rw (zero-add i)) refl
           | Success ↦ λ r t' f' u' v' e'. rw (updates-in (nodesIn fr (put i t' ts)) (full-length fr (put i t' ts) v') (G .update) f' u')
               (sim-event (kids p 0 fr) (suc f) x _ _ _ _
-              (λ up. rw (up r, moved-link fr ts i t' vs v' l v f' u' i (λ q' i'. whileGo v p (fr .stop) (fr .q) k q' i' r))
+              (λ up. rw (up r, moved-link fr ts i t' vs v' l f' u' i (λ q' i'. whileGo v p (fr .stop) (fr .q) k q' i' r))
               (sim-more (kids p 0 fr) (suc f') (suc f) (whileBody child budget (next i ts) (event G r) (moved i t' ts) (worldAt G f' u')) _
               (body-go-link k budget (next i ts) fr r (moved i t' ts) p f' u' (moved-ats fr ts i t' vs v' l) (e' .few) (omega (arith, e' .burnt)) (omega (arith, e' .burnt))
               (rw (moved-count fr ts i t' vs v' l) (next-less i (count ts) l)))
@@ -211,8 +211,7 @@ module _ (G : Given) (d : ℕ) (child : Ticker) (v : Visitor) (g : Ticks G d chi
               let i' : ℕ = cond (ltb (suc i) (count ts)) (suc (suc i)) 0 in
               let n : count (moved i t' ts) ≡ count ts = moved-count fr' ts i t' (vs .1) v' l in
               rw (
-                at i refl,
-                moved-link fr' ts i t' (vs .1) v' l v f' u' (suc i) (λ q' i'. whileAllGo v p (fr .stop) (fr' .q) whole k q' i' r),
+                moved-link fr' ts i t' (vs .1) v' l f' u' (suc i) (λ q' i'. whileAllGo v p (fr .stop) (fr' .q) whole k q' i' r),
                 rest-event G x r,
                 over-words fr c (vs .0) (moved i t' ts) f' u',
                 over-times fr c (vs .0) (moved i t' ts),

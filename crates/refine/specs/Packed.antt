@@ -5,31 +5,10 @@ use Prim.Native.Nat.{ℕ, _<_, _/_, _%_}
 use native.Mathlib.Omega.{arith}
 use lib.Dec.{eqb}
 use Rattle.rules.specs.declared.behavior.Kind.{Kind}
-use Rattle.rules.specs.declared.behavior.Kind.the-variants.{Wait, WaitForever, Action, Invert, AlwaysSucceed, Timeout, Select, If, Sequence}
-use Rattle.rules.specs.declared.behavior.Kind.the-variants.{MemorylessSequence, MemorylessSelector, While, WhileAll, WhenAll, WhenAny, After, Race}
 use Rattle.rules.specs.Kinds.{code}
-use Rattle.rules.specs.Codes.{kind-code}
+use Rattle.rules.specs.Codes.{code-small, kind-code}
 use Rattle.work.specs.Word.{belowOf, codeOf, kindIn, placeOf, markOf, anewOf, seenOf, withPlace, withMark, withSeen, freshWord}
 use Rattle.refine.specs.Words.{bit, pack}
-
-code-small : (k : Kind) → code k < 256
-code-small Wait = omega arith
-code-small WaitForever = omega arith
-code-small Action = omega arith
-code-small Invert = omega arith
-code-small AlwaysSucceed = omega arith
-code-small Timeout = omega arith
-code-small Select = omega arith
-code-small If = omega arith
-code-small Sequence = omega arith
-code-small MemorylessSequence = omega arith
-code-small MemorylessSelector = omega arith
-code-small While = omega arith
-code-small WhileAll = omega arith
-code-small WhenAll = omega arith
-code-small WhenAny = omega arith
-code-small After = omega arith
-code-small Race = omega arith
 
 bit-small : (a : Bool) → bit a < 2
 bit-small true = omega arith

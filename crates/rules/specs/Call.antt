@@ -11,7 +11,7 @@ use Rattle.rules.specs.declared.status.Status.the-variants.{Running, Suc
 use Rattle.rules.specs.declared.event.Event.{Event}
 use Rattle.rules.specs.declared.event.Event.the-variants.{Update, Other}
 use Rattle.rules.specs.declared.answer.Answer.{Answer}
-use Rattle.rules.specs.declared.answer.Answer.the-variants.{Ticked, Asked, Finished, BadTable, TooShort, BadTime, BadAnswer, OutOfFuel, BadCell}
+use Rattle.rules.specs.declared.answer.Answer.the-variants.{Ticked, Asked, Finished, BadTable, TooShort, BadTime, BadAnswer, OutOfFuel, BadCell, NoRoom}
 use Rattle.rules.specs.declared.answer.Record.{Record}
 use Rattle.rules.specs.declared.answer.Said.{Said}
 use Rattle.rules.specs.Tree.{zeroTime, Tree, fresh, size}
@@ -192,3 +192,4 @@ saidOf BadTime = numbers 5 0 0 0 0 zeroTime
 saidOf (BadAnswer i) = numbers 6 0 0 0 i zeroTime
 saidOf OutOfFuel = numbers 7 0 0 0 0 zeroTime
 saidOf (BadCell p) = numbers 9 0 0 0 p zeroTime
+saidOf NoRoom = numbers 13 0 0 0 0 zeroTime

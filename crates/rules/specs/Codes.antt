@@ -45,3 +45,22 @@ below-is (suc n) p x h l = let both = and-eq-true-iff (p n) (allBelow n p) .0 h 
 pub code-kind : (x : ℕ) → x ≤ 16 → code (kindOf x) ≡ x
 unfolding kindOf
 code-kind x h = eqb-true (code (kindOf x)) x (below-is 17 (λ (x : ℕ). eqb (code (kindOf x)) x) x refl (omega arith))
+
+pub code-small : (k : Kind) → code k < 256
+code-small Wait = omega arith
+code-small WaitForever = omega arith
+code-small Action = omega arith
+code-small Invert = omega arith
+code-small AlwaysSucceed = omega arith
+code-small Timeout = omega arith
+code-small Select = omega arith
+code-small If = omega arith
+code-small Sequence = omega arith
+code-small MemorylessSequence = omega arith
+code-small MemorylessSelector = omega arith
+code-small While = omega arith
+code-small WhileAll = omega arith
+code-small WhenAll = omega arith
+code-small WhenAny = omega arith
+code-small After = omega arith
+code-small Race = omega arith

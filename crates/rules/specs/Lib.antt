@@ -10,6 +10,7 @@ pub mod Table
 pub mod Cells
 pub mod Board
 pub mod Call
+pub mod Levels
 pub mod Exchange
 pub mod Bound
 pub mod Cases

@@ -37,6 +37,7 @@ pub enum Answer {
     BadAnswer(usize),
     OutOfFuel,
     BadCell(usize),
+    NoRoom,
 }
 
 // What the finish bound can say: a number of ticks, none, above 2^53; or 3 and 8.
@@ -93,6 +94,7 @@ impl Answer {
             Answer::BadAnswer(i) => bare(6, i),
             Answer::OutOfFuel => bare(7, 0),
             Answer::BadCell(p) => bare(9, p),
+            Answer::NoRoom => bare(13, 0),
         }
     }
 }

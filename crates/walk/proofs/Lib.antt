@@ -1,4 +1,3 @@
-mod VisitLaws
 mod SequenceLaws
 mod WhenAllLaws
 mod LoopLaws

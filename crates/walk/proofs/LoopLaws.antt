@@ -16,7 +16,7 @@ use Rattle.work.specs.Word.{placeOf}
 use Rattle.work.specs.Array.{wordAt, fuelOf, updates, endOf, setPlace, childFrom, indexAfter, childAfter, movedWords, movedTimes}
 use Rattle.work.specs.Flat.{Out, out, Visitor}
 use Rattle.work.specs.Flat.{moved, whileGo, whileLoop, whileAllGo, whileAll}
-use Rattle.walk.proofs.VisitLaws.{Gave, NotRunning}
+use Rattle.work.proofs.VisitLaws.{Gave, NotRunning}
 
 module _ (v : Visitor) (p stop body : ℕ) where
   module _ (q i : ℕ) (dt : Float) (ws : List ℕ) (ts : List Float) where

@@ -1,9 +1,7 @@
 -- One law for each path of If and of the decorators.
 use mathlib.Core.Path.{_≡_, refl}
 use mathlib.Core.Bool.{Bool, true, false, cond}
-use mathlib.Core.List.{List, [], _∷_}
-use types.Run.{OneOf}
-use denote.Enum.Declared.{tagOf}
+use mathlib.Core.List.{List, _∷_}
 use Prim.Native.Nat.{ℕ, zero, suc, _+_, _-_, _≤_, _<_}
 use native.Mathlib.Omega.{arith}
 use lib.Dec.{ltb}
@@ -13,19 +11,16 @@ use borrow.Author.Tests.{lt-ltb, le-ltb, ne-eqb}
 use Rattle.rules.specs.declared.behavior.Kind.{Kind}
 use Rattle.rules.specs.declared.status.Status.{Status}
 use Rattle.rules.specs.declared.status.Status.the-variants as status
-use Rattle.rules.specs.Kinds.{is, kindOf}
+use Rattle.rules.specs.Kinds.{is}
 use Rattle.rules.specs.Tree.{zeroTime}
-use Rattle.rules.specs.Outcome.{largest}
-use Rattle.rules.proofs.Arms.{arm}
-use Rattle.rules.proofs.behavior.Kind.{the-type}
 use Rattle.work.specs.declared.result.Seen.{Seen}
 use Rattle.work.specs.declared.result.Seen.the-variants.{Stopped, Running, Success, Failure}
 use Rattle.work.specs.Word.{kindIn, placeOf}
 use Rattle.work.specs.Array.{wordAt, timeAt, numberAt, fuelOf, passed, endOf, setSeen, childFrom, decidedWords, chosenWords, chosenTimes}
-use Rattle.work.specs.Flat.{Out, out, Lent, Visitor, seenNo, stopped, andThen, turnOut, turning, isLeaf, isDecorator, choiceOf, seen}
-use Rattle.work.specs.Flat.{leaf, sequence, memoryless, whenAll, race, after, whileLoop, whileAll, exchangesOf, branch, chosen, ifNode, timesOut, decorated, decorator, byKind, visit, tick}
+use Rattle.work.specs.Flat.{Out, out, Lent, Visitor, seenNo, stopped, andThen, isLeaf, isDecorator, choiceOf, seen}
+use Rattle.work.specs.Flat.{branch, chosen, ifNode, timesOut, decorated, decorator, byKind, visit, tick}
 use Rattle.rules.specs.declared.behavior.Kind.the-variants.{Wait, WaitForever, Action, Invert, AlwaysSucceed, Timeout, Select, If, Sequence, MemorylessSequence, MemorylessSelector, While, WhileAll, WhenAll, WhenAny, After, Race}
-use Rattle.walk.proofs.VisitLaws.{Gave, seen-put, visit-node, tick-zero, tick-spent, tick-on}
+use Rattle.work.proofs.VisitLaws.{Gave, seen-put, visit-node, tick-zero, tick-spent, tick-on}
 
 no : _≡_ {A = Bool} false true → ⊥
 no e = let z : _≡_ {A = ℕ} 0 1 = cc in omega arith
@@ -79,54 +74,6 @@ module _ (v : Visitor) (p : ℕ) (dt : Float) (ws : List ℕ) (ts : List Float) 
 
         pub if-chosen-lost : stop ≤ q → ifNode v p dt ws ts ≡ out Stopped zeroTime ws₂ ts₂
         if-chosen-lost g = decided s e (rw (← c) z) _ (rw (← c) (chosen-is _ (rw (le-ltb q stop g))))
-
--- ---- the rule of each kind
-module _ (F : Format) (T : Lent) (v : Visitor) (k : Kind) (p : ℕ) (dt : Float) (ws : List ℕ) (ts : List Float) (o : Out) where
-  pub by-leaf : OneOf (0 ∷ 1 ∷ 2 ∷ []) (tagOf the-type k) → leaf F T k p dt ws ts ≡ o → byKind F T v k p dt ws ts ≡ o
-  unfolding kindOf byKind
-  by-leaf h = arm (λ k. leaf F T k p dt ws ts ≡ o → byKind F T v k p dt ws ts ≡ o) (0 ∷ 1 ∷ 2 ∷ []) k h ((λ e. e), ((λ e. e), ((λ e. e), tt)))
-
-  pub by-decorator : OneOf (3 ∷ 4 ∷ 5 ∷ []) (tagOf the-type k) → decorator F T v p dt ws ts ≡ o → byKind F T v k p dt ws ts ≡ o
-  unfolding kindOf byKind
-  by-decorator h = arm (λ k. decorator F T v p dt ws ts ≡ o → byKind F T v k p dt ws ts ≡ o) (3 ∷ 4 ∷ 5 ∷ []) k h ((λ e. e), ((λ e. e), ((λ e. e), tt)))
-
-  module _ (x : Bool) (e : x ≡ exchangesOf k) where
-    pub by-sequence : OneOf (6 ∷ 8 ∷ []) (tagOf the-type k) → turnOut x (sequence (turning x v) p dt ws ts) ≡ o → byKind F T v k p dt ws ts ≡ o
-    unfolding kindOf byKind
-    by-sequence h = rw e (arm
-        (λ k. turnOut (exchangesOf k) (sequence (turning (exchangesOf k) v) p dt ws ts) ≡ o → byKind F T v k p dt ws ts ≡ o)
-        (6 ∷ 8 ∷ []) k h ((λ e. e), ((λ e. e), tt)))
-
-    pub by-memoryless : OneOf (9 ∷ 10 ∷ []) (tagOf the-type k) → turnOut x (memoryless (turning x v) p dt ws ts) ≡ o → byKind F T v k p dt ws ts ≡ o
-    unfolding kindOf byKind
-    by-memoryless h = rw e (arm
-        (λ k. turnOut (exchangesOf k) (memoryless (turning (exchangesOf k) v) p dt ws ts) ≡ o → byKind F T v k p dt ws ts ≡ o)
-        (9 ∷ 10 ∷ []) k h ((λ e. e), ((λ e. e), tt)))
-
-    pub by-when-all : OneOf (13 ∷ 14 ∷ []) (tagOf the-type k) → turnOut x (whenAll (turning x v) (largest F) p dt ws ts) ≡ o → byKind F T v k p dt ws ts ≡ o
-    unfolding kindOf byKind
-    by-when-all h = rw e (arm (λ k. turnOut (exchangesOf k) (whenAll (turning (exchangesOf k) v) (largest F) p dt ws ts) ≡ o → byKind F T v k p dt ws ts ≡ o)
-        (13 ∷ 14 ∷ []) k h ((λ e. e), ((λ e. e), tt)))
-
-  pub by-if : k ≡ If → ifNode v p dt ws ts ≡ o → byKind F T v k p dt ws ts ≡ o
-  unfolding byKind
-  by-if e g = rw e g
-
-  pub by-while : k ≡ While → whileLoop v p dt ws ts ≡ o → byKind F T v k p dt ws ts ≡ o
-  unfolding byKind
-  by-while e g = rw e g
-
-  pub by-while-all : k ≡ WhileAll → whileAll v p dt ws ts ≡ o → byKind F T v k p dt ws ts ≡ o
-  unfolding byKind
-  by-while-all e g = rw e g
-
-  pub by-after : k ≡ After → after v (largest F) p dt ws ts ≡ o → byKind F T v k p dt ws ts ≡ o
-  unfolding byKind
-  by-after e g = rw e g
-
-  pub by-race : k ≡ Race → race v p dt ws ts ≡ o → byKind F T v k p dt ws ts ≡ o
-  unfolding byKind
-  by-race e g = rw e g
 
 -- ---- decorators
 decorator-kind : (F : Format) (T : Lent) (v : Visitor) (k : Kind) → isDecorator k ≡ true → (isLeaf k ≡ false) × ((p : ℕ) (dt : Float) (ws : List ℕ) (ts : List Float)

@@ -14,7 +14,7 @@ use Rattle.work.specs.declared.result.Seen.the-variants.{Stopped, Running, Succ
 use Rattle.work.specs.Word.{placeOf, markOf}
 use Rattle.work.specs.Array.{wordAt, passed, endOf, setPlace, setMark, freshWords, freshTimes, childFrom}
 use Rattle.work.specs.Flat.{Out, out, Visitor}
-use Rattle.walk.proofs.VisitLaws.{NotRunning}
+use Rattle.work.proofs.VisitLaws.{NotRunning}
 use Rattle.work.specs.Flat.{whenAllGo, whenAll, raceGo, race, afterOver, afterGo, after}
 
 in-turn : (a b : Bool) → a && b ≡ true → a ≡ true

@@ -151,23 +151,93 @@ module _ (F : Format) (T : Lent) where
       ])
       (out (seenAs (alwaysSucceed s)) l ws ts))
 
+-- ---- what a driver does with the result of a child; `again` goes on with the next
+-- Sequence: the child i, which is at q, of the node at p
+abbrev pub sequenceOn : ℕ → ℕ → (ℕ → ℕ → Float → Step) → ℕ → ℕ → Status → Float → Step
+sequenceOn p stop again q i status.Running l ws ts = waiting (setPlace ws p i) ts
+sequenceOn p stop again q i status.Failure l ws ts = out Failure l (setPlace ws p i) ts
+sequenceOn p stop again q i status.Success l ws ts =
+    let next = endOf ws q in
+    let behind = endOf ws next in
+    let ws' = freshWords q (behind - q) ws in
+    let ts' = freshTimes q (behind - q) ts in
+    cond (leb stop next)
+    (out Success l (setPlace ws p (upOn (updates ws) i)) ts)
+    (cond (updates ws) (again next (i + 1) l ws' ts') (waiting (setPlace ws' p (i + 1)) ts'))
+
+-- memoryless, over children that are fresh: the child from q to next
+abbrev pub memorylessOn : ℕ → Visitor → ℕ → ℕ → Status → Float → Step
+memorylessOn stop again q next status.Running l ws ts = waiting ws ts
+memorylessOn stop again q next status.Failure l ws ts = out Failure l ws ts
+memorylessOn stop again q next status.Success l ws ts = cond (leb stop next)
+    (out Success (passed ws l) ws ts)
+    (again next l (freshWords q (next - q) ws) (freshTimes q (next - q) ts))
+
+-- WhenAll: `all`: each child so far is marked; `least`: the least leftover so far
+abbrev pub whenAllOn : (ℕ → Bool → Float → Step) → ℕ → ℕ → Bool → Float → Status → Float → Step
+whenAllOn again q next all least status.Running l ws ts = again next false least ws ts
+whenAllOn again q next all least status.Failure l ws ts = out Failure l ws ts
+whenAllOn again q next all least status.Success l ws ts =
+    again next all (smaller least l) (setMark (freshWords q (next - q) ws) q) (freshTimes q (next - q) ts)
+
+abbrev pub raceOn : (ℕ → Step) → ℕ → Status → Float → Step
+raceOn again next status.Running l ws ts = again next ws ts
+raceOn again next status.Success l ws ts = out Success l ws ts
+raceOn again next status.Failure l ws ts = out Failure l ws ts
+
+-- After: `none`: no child so far is Running
+abbrev pub afterOn : ℕ → (ℕ → ℕ → Bool → Float → Step) → ℕ → ℕ → Bool → Float → Status → Float → Step
+afterOn p again next i none least status.Running l ws ts = again next i false zeroTime ws ts
+afterOn p again next i none least status.Failure l ws ts = out Failure l (setPlace ws p i) ts
+afterOn p again next i none least status.Success l ws ts = cond (none && lt l least)
+    (again next (i + 1) true l ws ts)
+    (out Failure (smaller least l) (setPlace ws p i) ts)
+
+-- loops: the child at q has succeeded, and it and the one that is next in the body are made fresh
+unfoldable pub moved : ℕ → ℕ → (ℕ → ℕ → Step) → ℕ → ℕ → Step
+moved stop body again q i ws ts =
+    let next = endOf ws q in
+    let ws' = freshWords q (next - q) ws in
+    let ts' = freshTimes q (next - q) ts in
+    let q' = childAfter next stop body in
+    let behind = endOf ws' q' in
+    again q' (indexAfter i next stop) (freshWords q' (behind - q') ws') (freshTimes q' (behind - q') ts')
+
+abbrev pub whileOn : ℕ → ℕ → ℕ → (ℕ → ℕ → Float → Step) → ℕ → ℕ → Status → Float → Step
+whileOn p stop body again q i status.Running l ws ts = waiting (setPlace ws p i) ts
+whileOn p stop body again q i status.Failure l ws ts = out Failure l (setPlace ws p i) ts
+whileOn p stop body again q i status.Success l ws ts = cond (updates ws)
+    (moved stop body (λ q i. again q i l) q i ws ts)
+    (waiting (setPlace ws p i) ts)
+
+-- While's condition, which is visited first
+abbrev pub whileHolds : Step → Status → Float → Step
+whileHolds again status.Running l ws ts = again ws ts
+whileHolds again status.Success l ws ts = out Success l ws ts
+whileHolds again status.Failure l ws ts = out Failure l ws ts
+
+abbrev pub whileAllOn : ℕ → ℕ → ℕ → (ℕ → ℕ → Float → Step) → ℕ → ℕ → Status → Float → Step
+whileAllOn p stop body again q i status.Running l ws ts = waiting (setPlace ws p i) ts
+whileAllOn p stop body again q i status.Failure l ws ts = out Failure l (setPlace ws p i) ts
+whileAllOn p stop body again q i status.Success l ws ts = moved stop body (λ q i. again q i l) q i ws ts
+
+-- WhileAll's condition, which is due at place 0
+abbrev pub whileAllHolds : ℕ → Step → Status → Float → Step
+whileAllHolds p again status.Running l ws ts = again ws ts
+whileAllHolds p again status.Success l ws ts = out Success l (setPlace ws p 1) ts
+whileAllHolds p again status.Failure l ws ts = out Failure l (setPlace ws p 1) ts
+
+-- If's condition; `again` is the branch that it chooses
+abbrev pub ifOn : (ℕ → Float → Step) → Status → Float → Step
+ifOn again status.Running l ws ts = out Running l ws ts
+ifOn again status.Success l ws ts = again 1 l ws ts
+ifOn again status.Failure l ws ts = again 2 l ws ts
+
 -- ---- the drivers, over what visits the children
 module _ (v : Visitor) where
-  -- Sequence: the child i, which is at q, of the node at p
   unfoldable pub sequenceGo : ℕ → ℕ → ℕ → ℕ → ℕ → Float → Step
   sequenceGo p stop zero q i dt ws ts = stopped ws ts
-  sequenceGo p stop (suc k) q i dt ws ts = andThen (v q dt ws ts) λ s l ws ts. elim s [
-    | status.Running ↦ waiting (setPlace ws p i) ts
-    | status.Failure ↦ out Failure l (setPlace ws p i) ts
-    | status.Success ↦
-        let next = endOf ws q in
-        let behind = endOf ws next in
-        let ws' = freshWords q (behind - q) ws in
-        let ts' = freshTimes q (behind - q) ts in
-        cond (leb stop next)
-        (out Success l (setPlace ws p (upOn (updates ws) i)) ts)
-        (cond (updates ws) (sequenceGo p stop k next (i + 1) l ws' ts') (waiting (setPlace ws' p (i + 1)) ts'))
-  ]
+  sequenceGo p stop (suc k) q i dt ws ts = andThen (v q dt ws ts) (sequenceOn p stop (sequenceGo p stop k) q i)
 
   unfoldable pub sequence : Visitor
   sequence p dt ws ts =
@@ -176,18 +246,11 @@ module _ (v : Visitor) where
       let q = childFrom ws stop i (p + 1) in
       cond (leb stop q) (waiting ws ts) (sequenceGo p stop 256 q i dt ws ts)
 
-  -- memoryless, over children that are fresh
   unfoldable pub memorylessGo : ℕ → ℕ → Visitor
   memorylessGo stop zero q dt ws ts = stopped ws ts
   memorylessGo stop (suc k) q dt ws ts =
       let next = endOf ws q in
-      andThen (v q dt ws ts) λ s l ws ts. elim s [
-        | status.Running ↦ waiting ws ts
-        | status.Failure ↦ out Failure l ws ts
-        | status.Success ↦ cond (leb stop next)
-            (out Success (passed ws l) ws ts)
-            (memorylessGo stop k next l (freshWords q (next - q) ws) (freshTimes q (next - q) ts))
-      ]
+      andThen (v q dt ws ts) (memorylessOn stop (memorylessGo stop k) q next)
 
   unfoldable pub memoryless : Visitor
   memoryless p dt ws ts =
@@ -195,18 +258,13 @@ module _ (v : Visitor) where
       let q = p + 1 in
       cond (leb stop q) (out Success (passed ws dt) ws ts) (memorylessGo stop 256 q dt (freshWords q (stop - q) ws) (freshTimes q (stop - q) ts))
 
-  -- WhenAll: `all`: each child so far is marked; `least`: the least leftover so far
   unfoldable pub whenAllGo : ℕ → Float → ℕ → ℕ → Bool → Float → Step
   whenAllGo stop dt zero q all least ws ts = cond all (out Success least ws ts) (waiting ws ts)
   whenAllGo stop dt (suc k) q all least ws ts =
       let next = endOf ws q in
       cond (ltb q stop)
       (cond (eqb (markOf (wordAt ws q)) 0)
-      (andThen (v q dt ws ts) λ s l ws ts. elim s [
-        | status.Running ↦ whenAllGo stop dt k next false least ws ts
-        | status.Failure ↦ out Failure l ws ts
-        | status.Success ↦ whenAllGo stop dt k next all (smaller least l) (setMark (freshWords q (next - q) ws) q) (freshTimes q (next - q) ts)
-      ])
+      (andThen (v q dt ws ts) (whenAllOn (whenAllGo stop dt k) q next all least))
       (whenAllGo stop dt k next all least ws ts))
       (cond all (out Success least ws ts) (waiting ws ts))
 
@@ -220,17 +278,12 @@ module _ (v : Visitor) where
   raceGo stop dt (suc k) q ws ts =
       let next = endOf ws q in
       cond (ltb q stop)
-      (andThen (v q dt ws ts) λ s l ws ts. elim s [
-        | status.Running ↦ raceGo stop dt k next ws ts
-        | status.Success ↦ out Success l ws ts
-        | status.Failure ↦ out Failure l ws ts
-      ])
+      (andThen (v q dt ws ts) (raceOn (raceGo stop dt k) next))
       (waiting ws ts)
 
   unfoldable pub race : Visitor
   race p dt ws ts = raceGo (endOf ws p) dt 256 (p + 1) ws ts
 
-  -- After: `none`: no child so far is Running
   unfoldable pub afterOver : ℕ → ℕ → Bool → Float → Step
   afterOver p i none least ws ts = cond none (out Success least (setPlace ws p i) ts) (waiting (setPlace ws p i) ts)
 
@@ -239,13 +292,7 @@ module _ (v : Visitor) where
   afterGo p stop dt (suc k) q i none least ws ts =
       let next = endOf ws q in
       cond (ltb q stop)
-      (andThen (v q dt ws ts) λ s l ws ts. elim s [
-        | status.Running ↦ afterGo p stop dt k next i false zeroTime ws ts
-        | status.Failure ↦ out Failure l (setPlace ws p i) ts
-        | status.Success ↦ cond (none && lt l least)
-            (afterGo p stop dt k next (i + 1) true l ws ts)
-            (out Failure (smaller least l) (setPlace ws p i) ts)
-      ])
+      (andThen (v q dt ws ts) (afterOn p (afterGo p stop dt k) next i none least))
       (afterOver p i none least ws ts)
 
   unfoldable pub after : Float → Visitor
@@ -255,57 +302,33 @@ module _ (v : Visitor) where
       afterGo p stop dt 256 (childFrom ws stop i (p + 1)) i true top ws ts
 
   -- ---- loops, at most once for each of the fuel
-  -- the child at q has succeeded: it and the one that is next in the body are made fresh
-  unfoldable pub moved : ℕ → ℕ → (ℕ → ℕ → Step) → ℕ → ℕ → Step
-  moved stop body again q i ws ts =
-      let next = endOf ws q in
-      let ws' = freshWords q (next - q) ws in
-      let ts' = freshTimes q (next - q) ts in
-      let q' = childAfter next stop body in
-      let behind = endOf ws' q' in
-      again q' (indexAfter i next stop) (freshWords q' (behind - q') ws') (freshTimes q' (behind - q') ts')
-
   unfoldable pub whileGo : ℕ → ℕ → ℕ → ℕ → ℕ → ℕ → Float → Step
   whileGo p stop body zero q i dt ws ts = stopped ws ts
   whileGo p stop body (suc k) q i dt ws ts = cond (ltb q stop)
-      (andThen (v q dt ws ts) λ s l ws ts. elim s [
-        | status.Running ↦ waiting (setPlace ws p i) ts
-        | status.Failure ↦ out Failure l (setPlace ws p i) ts
-        | status.Success ↦ cond (updates ws)
-            (moved stop body (λ q i. whileGo p stop body k q i l) q i ws ts)
-            (waiting (setPlace ws p i) ts)
-      ])
+      (andThen (v q dt ws ts) (whileOn p stop body (whileGo p stop body k) q i))
       (stopped ws ts)
+
+  -- the body, from the place on
+  abbrev pub whileBody : ℕ → Float → Step
+  whileBody p dt ws ts =
+      let stop = endOf ws p in
+      let body = endOf ws (p + 1) in
+      let i = placeOf (wordAt ws p) in
+      whileGo p stop body (fuelOf ws) (childFrom ws stop i body) i dt ws ts
 
   -- `while` is a word of antt's
   unfoldable pub whileLoop : Visitor
   whileLoop p dt ws ts = cond (ltb p 255)
-      (andThen (v (p + 1) dt ws ts) λ s l ws ts. elim s [
-        | status.Running ↦
-            let stop = endOf ws p in
-            let body = endOf ws (p + 1) in
-            let i = placeOf (wordAt ws p) in
-            whileGo p stop body (fuelOf ws) (childFrom ws stop i body) i dt ws ts
-        | status.Success ↦ out Success l ws ts
-        | status.Failure ↦ out Failure l ws ts
-      ])
+      (andThen (v (p + 1) dt ws ts) (whileHolds (whileBody p dt)))
       (stopped ws ts)
 
   -- WhileAll: the condition, which is due at place 0, gets the whole dt, and the body the rest
   unfoldable pub whileAllGo : ℕ → ℕ → ℕ → Float → ℕ → ℕ → ℕ → Float → Step
   whileAllGo p stop body whole zero q i dt ws ts = stopped ws ts
   whileAllGo p stop body whole (suc k) q i dt ws ts = cond (eqb i 0)
-      (andThen (v (p + 1) whole ws ts) λ s l ws ts. elim s [
-        | status.Running ↦ whileAllGo p stop body whole k body 1 dt ws ts
-        | status.Success ↦ out Success l (setPlace ws p 1) ts
-        | status.Failure ↦ out Failure l (setPlace ws p 1) ts
-      ])
+      (andThen (v (p + 1) whole ws ts) (whileAllHolds p (whileAllGo p stop body whole k body 1 dt)))
       (cond (ltb q stop)
-      (andThen (v q dt ws ts) λ s l ws ts. elim s [
-        | status.Running ↦ waiting (setPlace ws p i) ts
-        | status.Failure ↦ out Failure l (setPlace ws p i) ts
-        | status.Success ↦ moved stop body (λ q i. whileAllGo p stop body whole k q i l) q i ws ts
-      ])
+      (andThen (v q dt ws ts) (whileAllOn p stop body (whileAllGo p stop body whole k) q i))
       (stopped ws ts))
 
   unfoldable pub whileAll : Visitor
@@ -339,11 +362,7 @@ module _ (v : Visitor) where
       let i = placeOf (wordAt ws p) in
       cond (eqb i 0)
       (cond (ltb p 255)
-      (andThen (v (p + 1) dt ws ts) λ s l ws ts. elim s [
-        | status.Running ↦ out Running l ws ts
-        | status.Success ↦ chosen p stop 1 l ws ts
-        | status.Failure ↦ chosen p stop 2 l ws ts
-      ])
+      (andThen (v (p + 1) dt ws ts) (ifOn (chosen p stop)))
       (stopped ws ts))
       (branch p stop i dt ws ts)
 

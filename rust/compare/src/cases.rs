@@ -51,7 +51,7 @@ fn wide(kind: u8, nodes: usize) -> Case {
     }
 }
 
-/// The trees that are ticked on both sides.
+/// The trees that are ticked on every side.
 pub fn ticked() -> Vec<Case> {
     let small = [(WHEN_ALL, 2, 0.0), (3, 1, 0.0), (WAIT, 0, LONG), (TIMEOUT, 1, LONG), (ACTION, 0, 0.0)];
     let mut all = vec![case("small, 5 nodes", &small, 1.0, false), one_kind("deep, 16 levels", 3)];

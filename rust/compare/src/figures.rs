@@ -1,8 +1,8 @@
-//! What a tick costs here and in bonsai, in one process, on the same trees and answers.
+//! What a tick costs here, with recursion and without, and in bonsai, in one process, on the same trees and answers.
 
 use crate::cases::{asked, ticked, Case};
 use crate::ours::run;
-use crate::sides::{asking, bonsai, ours, Lent, Side};
+use crate::sides::{asking, bonsai, flat, ours, Lent, Side};
 use crate::theirs::number;
 use std::ops::Range;
 use std::slice::from_ref;
@@ -28,6 +28,7 @@ fn sides(case: &Case, trees: usize) -> Vec<Side<'_>> {
     let mut all = vec![
         Side::new("bonsai", trees, || bonsai(case)),
         Side::new("ours", trees, || ours(case, Lent::new(&case.tree))),
+        Side::new("flat", trees, || flat(case, Lent::new(&case.tree))),
     ];
     if case.asks {
         all.push(Side::new("asking", trees, || asking(case.answers.len())));
@@ -35,12 +36,13 @@ fn sides(case: &Case, trees: usize) -> Vec<Side<'_>> {
     all
 }
 
-/// Whether both sides tell the same of the first ticks: else there would be nothing to compare.
+/// Whether all sides tell the same of the first ticks: else there would be nothing to compare.
 fn agree(case: &Case) -> bool {
-    let (mut theirs, mut ours) = (bonsai(case), ours(case, Lent::new(&case.tree)));
-    (0..3).map(|_| (theirs(), ours())).all(|(theirs, ours)| {
+    let lent = || Lent::new(&case.tree);
+    let (mut theirs, mut ours, mut flat) = (bonsai(case), ours(case, lent()), flat(case, lent()));
+    (0..3).map(|_| (theirs(), ours(), flat())).all(|(theirs, ours, flat)| {
         let theirs = theirs.map(|(status, left)| (0, number(status), left));
-        theirs == Some((ours.no, ours.status, ours.time))
+        theirs == Some((ours.no, ours.status, ours.time)) && ours == flat
     })
 }
 

@@ -10,6 +10,7 @@ mod exchange;
 mod exchanges;
 mod expect;
 mod figures;
+mod levels;
 mod ours;
 mod random;
 mod sample;
@@ -46,6 +47,8 @@ pub struct Count {
     fuel: u64,
     refused: u64,
     restarts: u64,
+    flat: u64,
+    few_levels: u64,
     bounds: u64,
     exchanged: u64,
     held: u64,
@@ -79,6 +82,8 @@ impl Count {
         self.fuel += other.fuel;
         self.refused += other.refused;
         self.restarts += other.restarts;
+        self.flat += other.flat;
+        self.few_levels += other.few_levels;
         self.bounds += other.bounds;
         self.exchanged += other.exchanged;
         self.held += other.held;
@@ -176,13 +181,16 @@ fn compare(full: bool, seed: u64) -> bool {
         }
     }
     println!(
-        "all the same: {} ticks done, {} stopped to ask, {} out of fuel, {} refused ({} of all these were restarts), {} bounds, \
+        "all the same: {} ticks done, {} stopped to ask, {} out of fuel, {} refused ({} of all these were restarts); \
+         {} calls the same without recursion, {} more refused for too few levels; {} bounds, \
          {} branches exchanged, {} not, for state held, {} not, for something else",
         total.done,
         total.asked,
         total.fuel,
         total.refused,
         total.restarts,
+        total.flat,
+        total.few_levels,
         total.bounds,
         total.exchanged,
         total.held,

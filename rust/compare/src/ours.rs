@@ -1,7 +1,10 @@
 //! This library, with all the memory that it is lent, and what each call must leave there.
 
+use crate::levels::Levels;
+use crate::random::Random;
 use crate::theirs::{Ev, Left, Theirs};
 use crate::tree::Tree;
+use crate::Count;
 use lemboraw::raw::{self, Record, Said, Table};
 use std::ops::Range;
 
@@ -118,6 +121,68 @@ impl Memory {
             () => None,
         }
     }
+
+    /// Lends it to a call; with levels, to one without recursion.
+    fn carry_out(&mut self, call: &Call, levels: Option<raw::Levels>) -> Said {
+        let Memory { record, cells, spare, board } = self;
+        let cut = |i: usize| call.lent[i].min(board.len());
+        let cells = raw::Cells {
+            times: &mut cells.times[..cut(0)],
+            places: &mut cells.places[..cut(1)],
+            marks: &mut cells.marks[..cut(2)],
+            sinces: &mut cells.sinces[..cut(3)],
+        };
+        let spare = raw::Cells {
+            times: &mut spare.times[..cut(4)],
+            places: &mut spare.places[..cut(5)],
+            marks: &mut spare.marks[..cut(6)],
+            sinces: &mut spare.sinces[..cut(7)],
+        };
+        let lent = cut(8);
+        let board = &mut board[..lent];
+        let Call { table, fuel, statuses, leftovers, .. } = *call;
+        let dt = call.ev.dt();
+        match levels {
+            None => {
+                let carry_out = if call.restart { raw::restart } else { raw::tick };
+                carry_out(record, table, cells, spare, board, dt, fuel, statuses, leftovers)
+            }
+            Some(levels) => {
+                let carry_out = if call.restart { raw::restart_flat } else { raw::tick_flat };
+                carry_out(record, table, cells, spare, board, dt, fuel, statuses, leftovers, levels)
+            }
+        }
+    }
+
+    /// Compares what a call has said and left; `more` is what else differs.
+    fn verdict(
+        &self,
+        must: &Memory,
+        got: Said,
+        said: Said,
+        call: &Call,
+        more: Option<&'static str>,
+    ) -> Result<(), String> {
+        let differs = self.differs(must).or(more);
+        if got == said && got.time.to_bits() == said.time.to_bits() && differs.is_none() {
+            return Ok(());
+        }
+        let answers: Vec<_> = call.statuses.iter().zip(call.leftovers).collect();
+        Err(format!(
+            "{} {:?}, fuel {}, lent {:?}, answers {answers:?}\nsaid {got:?}\nmust {said:?}\ndiffers in {}\nnow {:?} {:?} board {:?}\nmust {:?} {:?} board {:?}\n",
+            if call.restart { "restart" } else { "tick" },
+            call.ev,
+            call.fuel,
+            call.lent,
+            differs.unwrap_or("the answer"),
+            self.record,
+            self.cells,
+            self.board,
+            must.record,
+            must.cells,
+            must.board,
+        ))
+    }
 }
 
 /// A tree in this library.
@@ -127,6 +192,9 @@ pub struct Ours {
     now: Memory,
     /// What the memory must be after a call.
     must: Memory,
+    /// A copy of it, for the same call without recursion, and where the levels of that come from.
+    flat: Memory,
+    random: Random,
 }
 
 impl Ours {
@@ -141,7 +209,10 @@ impl Ours {
             spare: Cells::rubbish(len + more),
             board: vec![0xab; len + more],
         };
-        Ours { len, must: now.clone(), now }
+        // Other levels for each tree, and the same on every run.
+        let rows = tree.kinds.iter().zip(&tree.ns);
+        let seed = rows.fold(0u64, |seed, (&kind, &n)| seed.wrapping_mul(31) ^ u64::from(kind) << 16 ^ u64::from(n));
+        Ours { len, must: now.clone(), flat: now.clone(), now, random: Random::new(seed, 0) }
     }
 
     /// The tree that an exchange led to, over the cells that it left.
@@ -155,7 +226,7 @@ impl Ours {
             board: vec![0xab; room],
         };
         now.cells.copy(&cells, room);
-        Ours { len: tree.len(), must: now.clone(), now }
+        Ours { len: tree.len(), must: now.clone(), flat: now.clone(), now, random: self.random.clone() }
     }
 
     pub fn record(&self) -> Record {
@@ -171,10 +242,25 @@ impl Ours {
         &mut self.now.cells
     }
 
-    /// Calls the library and compares what it says and leaves. `then` is bonsai after the call,
+    /// Calls the library, with recursion and without, and compares what it says and leaves. `then` is bonsai after the call,
     /// with what that left; it is looked at for answer 0 alone.
-    pub fn call(&mut self, call: &Call, said: Said, then: Option<(&Theirs, &Left)>) -> Result<(), String> {
+    pub fn call(
+        &mut self,
+        call: &Call,
+        said: Said,
+        then: Option<(&Theirs, &Left)>,
+        count: &mut Count,
+    ) -> Result<(), String> {
+        count.said(call.restart, said.no);
         self.must.copy_all(&self.now);
+        self.flat.copy_all(&self.now);
+        if self.random.one_in(4) {
+            // Too few levels are refused behind 3 and 4, and everything is as it was.
+            let said = if matches!(said.no, 3 | 4) { said } else { Said { no: 13, ..Said::default() } };
+            count.few_levels += u64::from(said.no == 13);
+            let few = Levels::too_few(&mut self.random);
+            self.without_recursion(call, said, few)?;
+        }
         match (said.no, then) {
             (0, Some((theirs, left))) => {
                 self.must.spare.copy(&self.now.cells, self.len);
@@ -185,53 +271,22 @@ impl Ours {
             (1 | 7, _) => self.must.spare.copy(&self.now.cells, self.len),
             _ => {}
         }
-        let now = &mut self.now;
-        let cut = |i: usize, len: usize| call.lent[i].min(len);
-        let all = now.board.len();
-        let carry_out = if call.restart { raw::restart } else { raw::tick };
-        let got = carry_out(
-            &mut now.record,
-            call.table,
-            raw::Cells {
-                times: &mut now.cells.times[..cut(0, all)],
-                places: &mut now.cells.places[..cut(1, all)],
-                marks: &mut now.cells.marks[..cut(2, all)],
-                sinces: &mut now.cells.sinces[..cut(3, all)],
-            },
-            raw::Cells {
-                times: &mut now.spare.times[..cut(4, all)],
-                places: &mut now.spare.places[..cut(5, all)],
-                marks: &mut now.spare.marks[..cut(6, all)],
-                sinces: &mut now.spare.sinces[..cut(7, all)],
-            },
-            &mut now.board[..cut(8, all)],
-            call.ev.dt(),
-            call.fuel,
-            call.statuses,
-            call.leftovers,
-        );
-        self.verdict(got, said, call)
+        let got = self.now.carry_out(call, None);
+        self.now.verdict(&self.must, got, said, call, None)?;
+        count.flat += 1;
+        let enough = Levels::enough(&mut self.random);
+        self.without_recursion(call, said, enough)
     }
 
-    fn verdict(&self, got: Said, said: Said, call: &Call) -> Result<(), String> {
-        let differs = self.now.differs(&self.must);
-        if got == said && got.time.to_bits() == said.time.to_bits() && differs.is_none() {
-            return Ok(());
+    /// The same call without recursion, on the copy: its levels are zero behind a walk, and else as they were.
+    fn without_recursion(&mut self, call: &Call, said: Said, levels: Levels) -> Result<(), String> {
+        let (mut now, mut must) = (levels.clone(), levels);
+        if matches!(said.no, 0 | 1 | 7) {
+            must.clear();
         }
-        let answers: Vec<_> = call.statuses.iter().zip(call.leftovers).collect();
-        Err(format!(
-            "{} {:?}, fuel {}, lent {:?}, answers {answers:?}\nsaid {got:?}\nmust {said:?}\ndiffers in {}\nnow {:?} {:?} board {:?}\nmust {:?} {:?} board {:?}\n",
-            if call.restart { "restart" } else { "tick" },
-            call.ev,
-            call.fuel,
-            call.lent,
-            differs.unwrap_or("the answer"),
-            self.now.record,
-            self.now.cells,
-            self.now.board,
-            self.must.record,
-            self.must.cells,
-            self.must.board,
-        ))
+        let got = self.flat.carry_out(call, Some(now.lend()));
+        let levels = (!now.same(&must)).then_some("levels");
+        let told = self.flat.verdict(&self.must, got, said, call, levels);
+        told.map_err(|wrong| format!("without recursion: {wrong}{now:?}\nmust {must:?}\n"))
     }
 }

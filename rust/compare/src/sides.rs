@@ -1,6 +1,7 @@
-//! Both sides of a measurement: trees of one case, each with memory of its own, ticked in turn.
+//! The sides of a measurement: trees of one case, each with memory of its own, ticked in turn.
 
 use crate::cases::Case;
+use crate::levels::Levels;
 use crate::ours::Cells;
 use crate::small::split;
 use crate::theirs::{Answer, Ev};
@@ -63,9 +64,23 @@ pub fn ours(case: &Case, lent: Lent) -> Tick<'_, Said> {
     }
 }
 
-fn calling<'a, F>(case: &'a Case, mut lent: Lent, call: F) -> Tick<'a, Said>
+/// The same without recursion, with levels of its own.
+pub fn flat(case: &Case, lent: Lent) -> Tick<'_, Said> {
+    let mut levels = Levels::new();
+    if case.restart {
+        calling(case, lent, move |record, table, cells, spare, board, dt, fuel, statuses, leftovers| {
+            raw::restart_flat(record, table, cells, spare, board, dt, fuel, statuses, leftovers, levels.lend())
+        })
+    } else {
+        calling(case, lent, move |record, table, cells, spare, board, dt, fuel, statuses, leftovers| {
+            raw::tick_flat(record, table, cells, spare, board, dt, fuel, statuses, leftovers, levels.lend())
+        })
+    }
+}
+
+fn calling<'a, F>(case: &'a Case, mut lent: Lent, mut call: F) -> Tick<'a, Said>
 where
-    F: Fn(&mut Record, Table, raw::Cells, raw::Cells, &mut [u8], Option<f64>, u32, &[u8], &[f64]) -> Said + 'a,
+    F: FnMut(&mut Record, Table, raw::Cells, raw::Cells, &mut [u8], Option<f64>, u32, &[u8], &[f64]) -> Said + 'a,
 {
     let (statuses, leftovers) = split(&case.answers);
     Box::new(move || {

@@ -200,8 +200,7 @@ fn finished(tree: &Tree, point: &mut Point, ev: Ev, trace: &Trace, count: &mut C
         leftovers: &leftovers,
         lent: ALL,
     };
-    count.said(false, 2);
-    point.ours.call(&call, Said { no: 2, ..Said::default() }, None)
+    point.ours.call(&call, Said { no: 2, ..Said::default() }, None, count)
 }
 
 /// A restart is the Rust's reset and tick, wherever the tree stands and whatever its cells hold: with each
@@ -250,9 +249,7 @@ fn call(
 ) -> Result<(), String> {
     let (statuses, leftovers) = split(&trace.answers[..given]);
     let call = Call { restart, table: tree.table(), ev, fuel, statuses: &statuses, leftovers: &leftovers, lent: ALL };
-    let said = trace.said(fuel, given);
-    count.said(restart, said.no);
-    ours.call(&call, said, then)
+    ours.call(&call, trace.said(fuel, given), then, count)
 }
 
 /// Answers as the library takes them.

@@ -1,7 +1,7 @@
-//! What a tick takes of the stack, here and in bonsai.
+//! What a tick takes of the stack, here, with recursion and without, and in bonsai.
 
 use crate::cases::one_kind;
-use crate::sides::{bonsai, ours, Lent};
+use crate::sides::{bonsai, flat, ours, Lent};
 use std::arch::asm;
 use std::hint::black_box;
 
@@ -11,15 +11,17 @@ const ROOM: usize = 1 << 18;
 /// Prints the stack that a tick takes.
 pub fn print() {
     println!("Stack of one tick at depth 16 in bytes, for 15 nodes of one kind above a Wait.\n");
-    println!("| kind | bonsai | ours |");
-    println!("|---|---|---|");
+    println!("| kind | bonsai | ours | without recursion |");
+    println!("|---|---|---|---|");
     for kind in 3..=16 {
         let name = lemboraw::Kind::ALL[usize::from(kind)];
         let case = one_kind("", kind);
-        let (mut bonsai, mut ours) = (bonsai(&case), ours(&case, Lent::new(&case.tree)));
+        let lent = || Lent::new(&case.tree);
+        let (mut bonsai, mut ours, mut flat) = (bonsai(&case), ours(&case, lent()), flat(&case, lent()));
         let bonsai = stack(&mut || _ = black_box(bonsai()));
         let ours = stack(&mut || _ = black_box(ours()));
-        println!("| {name} | {bonsai} | {ours} |");
+        let flat = stack(&mut || _ = black_box(flat()));
+        println!("| {name} | {bonsai} | {ours} | {flat} |");
     }
 }
 

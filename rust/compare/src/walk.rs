@@ -99,8 +99,7 @@ fn walk(tree: &mut Tree, source: Source, random: &mut Random, count: &mut Count)
         if theirs.bt.finished {
             let call =
                 Call { restart: false, table: tree.table(), ev, fuel: most, statuses: &[], leftovers: &[], lent: ALL };
-            count.said(false, 2);
-            ours.call(&call, Said { no: 2, ..Said::default() }, None)?;
+            ours.call(&call, Said { no: 2, ..Said::default() }, None, count)?;
         }
         let restart = theirs.bt.finished || random.one_in(20);
         let before = restart.then(|| (theirs.clone(), ours.clone()));
@@ -187,9 +186,7 @@ fn call(
     statuses.resize(given + unused, 3);
     leftovers.resize(given + unused, -0.0);
     let call = Call { restart, table: tree.table(), ev, fuel, statuses: &statuses, leftovers: &leftovers, lent: ALL };
-    let said = trace.said(fuel, given);
-    count.said(restart, said.no);
-    ours.call(&call, said, then)
+    ours.call(&call, trace.said(fuel, given), then, count)
 }
 
 /// A call with one or two things wrong in it, which must leave everything as it was.
@@ -231,8 +228,7 @@ fn spoiled(
     for restart in [false, true] {
         let call = Call { restart, table, ev, fuel: 9, statuses: &statuses, leftovers: &leftovers, lent };
         if let Some(said) = expect::refusal(&call, ours.cells(), theirs.bt.finished) {
-            count.said(restart, said.no);
-            ours.call(&call, said, None)?;
+            ours.call(&call, said, None, count)?;
         }
     }
     Ok(())

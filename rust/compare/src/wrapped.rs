@@ -18,11 +18,12 @@ pub enum How {
 }
 
 impl Wrapped {
-    /// A tree as new as bonsai's.
+    /// A tree as new as bonsai's; every other one is walked without recursion.
     pub fn new(tree: &Tree, theirs: &Theirs) -> Result<Self, String> {
         let cells = theirs.since.numbers.iter().map(|&since| Cell { since, ..Cell::default() }).collect();
         let state = State { ticks: theirs.bt.tick_count, cells, ..State::default() };
         let bt = BT::new(behavior(tree, 0), ()).and_then(|mut bt| bt.restore(&state).map(|()| bt));
+        let bt = bt.map(|bt| if tree.len() % 2 == 1 { bt } else { bt.without_recursion() });
         bt.map(Wrapped).map_err(|refusal| refusal.to_string())
     }
 

@@ -1,7 +1,7 @@
 //! A tree with its state.
 
 use crate::behavior::Behavior;
-use crate::raw::{self, Cells, CellsRef, Record, Said};
+use crate::raw::{self, Cells, CellsRef, Record, Said, LEVELS};
 use crate::state::{Cell, State};
 use crate::tree::Tree;
 use crate::{Refusal, Status, UpdateEvent};
@@ -45,10 +45,32 @@ pub struct BT<A, B> {
     /// The answers of the tick under way; kept so that their memory is used again.
     statuses: Vec<u8>,
     leftovers: Vec<f64>,
+    /// There for walks without recursion.
+    levels: Option<Levels>,
     /// What was set; none for that of the tree's size.
     fuel: Option<u32>,
     visits: u32,
     bb: B,
+}
+
+/// Memory for the open behaviors of a walk without recursion.
+#[derive(Clone, Debug, Default)]
+struct Levels {
+    opens: [u64; LEVELS],
+    counts: [u32; LEVELS],
+    wholes: [f64; LEVELS],
+    rests: [f64; LEVELS],
+}
+
+impl Levels {
+    fn lend(&mut self) -> raw::Levels<'_> {
+        raw::Levels {
+            opens: &mut self.opens,
+            counts: &mut self.counts,
+            wholes: &mut self.wholes,
+            rests: &mut self.rests,
+        }
+    }
 }
 
 /// Memory for the cells of a tree.
@@ -105,6 +127,7 @@ impl<A, B> BT<A, B> {
             board: vec![0; len],
             statuses: vec![],
             leftovers: vec![],
+            levels: None,
             fuel: None,
             visits: 0,
             bb: blackboard,
@@ -298,6 +321,28 @@ impl<A, B> BT<A, B> {
         self.fuel = Some(fuel);
     }
 
+    /// From here on the tree is walked without recursion, for a thread with little stack: the evaluator then takes less
+    /// than 4 KiB of it, however deep the tree is, and up to 8 KiB otherwise. What the closure takes does not add to
+    /// that: it runs between two walks.
+    ///
+    /// Nothing else changes, in answers, questions, visits or state. The behaviors that are open stand in memory of the
+    /// tree's own.
+    ///
+    /// ```
+    /// use lemboraw::{Action, ActionArgs, Event, Invert, Refusal, Sequence, Success, UpdateArgs, Wait, BT};
+    ///
+    /// let behavior = Sequence(vec![Wait(2.0), Invert(Box::new(Invert(Box::new(Action("send")))))]);
+    /// let mut bt = BT::new(behavior, ())?.without_recursion();
+    /// let e: Event = UpdateArgs { dt: 3.0 }.into();
+    /// let mut act = |args: ActionArgs<Event, &str>, _: &mut ()| (Success, args.dt);
+    /// assert_eq!(bt.tick(&e, &mut act), Ok((Success, 1.0)));
+    /// # Ok::<(), Refusal>(())
+    /// ```
+    pub fn without_recursion(mut self) -> Self {
+        self.levels = Some(Levels::default());
+        self
+    }
+
     /// The tree's state, to keep; also whether a [`reset_bt`](BT::reset_bt) waits for its tick.
     pub fn state(&self) -> State {
         let Room { times, places, marks, sinces } = &self.cells;
@@ -376,6 +421,7 @@ impl<A, B> BT<A, B> {
             fuel,
             &self.statuses,
             &self.leftovers,
+            self.levels.as_mut().map(Levels::lend),
         )
     }
 

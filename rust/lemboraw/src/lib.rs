@@ -10,6 +10,7 @@
 //! - A tree has at most 256 behaviors and is at most 16 deep. The evaluator is for x86-64 Linux.
 //! - [`BT::finish_bound`] says after how many ticks a tree has ended at the latest.
 //! - [`BT::restart`] starts a tree again and ticks it in one call; [`BT::reset_bt`] makes the next tick one.
+//! - [`BT::without_recursion`] walks a tree in less than 4 KiB of stack, however deep it is, and changes nothing else.
 //! - [`BT::exchange`] puts a new branch in place of one that has not been started, while the tree is under way.
 //! - [`BT::state`] and [`BT::restore`] carry a tree over a halt of the host; `println!("{bt}")`, [`BT::nodes`]
 //!   and [`BT::dot`] show a tick, and for how many ticks each branch has stood ([`BT::age`]);

@@ -1,4 +1,4 @@
-//! The six functions of the archive on slices, without allocation.
+//! The eight functions of the archive on slices, without allocation.
 //!
 //! Each is proved to return for every argument and to touch only what is lent to it, so these are
 //! safe to call with anything. What the numbers mean, and what each answer leaves behind, is in
@@ -8,6 +8,9 @@
 //! where they are others, and puts them back.
 
 use crate::floats::usual;
+
+/// The entries that [`tick_flat`] and [`restart_flat`] ask for in their [`Levels`].
+pub const LEVELS: usize = 16;
 
 /// The standing record of one tree; the default is that of a new one.
 #[repr(C)]
@@ -89,6 +92,19 @@ pub struct Cells<'a> {
     pub sinces: &'a mut [u64],
 }
 
+/// Room for the open nodes of a call without recursion, an entry for each level. It is as long as the shortest of them.
+#[derive(Debug)]
+pub struct Levels<'a> {
+    /// Which node is open, and where it stands.
+    pub opens: &'a mut [u64],
+    /// A count of its own.
+    pub counts: &'a mut [u32],
+    /// The time that it was ticked with.
+    pub wholes: &'a mut [f64],
+    /// The time that is left, or the least leftover.
+    pub rests: &'a mut [f64],
+}
+
 /// Room for a table.
 #[derive(Debug)]
 pub struct TableMut<'a> {
@@ -127,7 +143,7 @@ pub fn tick(
     statuses: &[u8],
     leftovers: &[f64],
 ) -> Said {
-    carry_out(false, record, table, cells, spare, board, dt, fuel, statuses, leftovers)
+    carry_out(false, record, table, cells, spare, board, dt, fuel, statuses, leftovers, None)
 }
 
 /// A restart and its first tick in one call: it ticks as from a fresh tree. The cells are not checked
@@ -145,10 +161,82 @@ pub fn restart(
     statuses: &[u8],
     leftovers: &[f64],
 ) -> Said {
-    carry_out(true, record, table, cells, spare, board, dt, fuel, statuses, leftovers)
+    carry_out(true, record, table, cells, spare, board, dt, fuel, statuses, leftovers, None)
 }
 
-/// Lends everything to a tick, or to a restart.
+/// A tick without recursion, for a thread with little stack: [`tick`] in all else, whatever the input. It keeps its open
+/// nodes in the levels, and says 13, after 4 and before 9, where these have fewer than [`LEVELS`] entries, also for a tree
+/// that is less deep.
+///
+/// What is in them does not matter. After 0, 7 and 1 the first [`LEVELS`] entries are zero, every bit of them; after
+/// anything else, and behind those, all is as it was.
+///
+/// ```
+/// use lemboraw::raw::{self, Cells, Levels, Record, Table, LEVELS};
+///
+/// // A Wait of 2 below an Invert.
+/// let table = Table { kinds: &[3, 0], ns: &[1, 0], limits: &[0.0, 2.0] };
+/// let (mut times, mut places, mut marks, mut sinces) = ([0.0; 2], [0; 2], [0; 2], [0; 2]);
+/// let (mut spare_times, mut spare_places, mut spare_marks, mut spare_sinces) = ([0.0; 2], [0; 2], [0; 2], [0; 2]);
+/// let (mut opens, mut counts) = ([1; LEVELS], [1; LEVELS]);
+/// let (mut wholes, mut rests) = ([1.0; LEVELS], [1.0; LEVELS]);
+///
+/// let said = raw::tick_flat(
+///     &mut Record::default(),
+///     table,
+///     Cells { times: &mut times, places: &mut places, marks: &mut marks, sinces: &mut sinces },
+///     Cells {
+///         times: &mut spare_times,
+///         places: &mut spare_places,
+///         marks: &mut spare_marks,
+///         sinces: &mut spare_sinces,
+///     },
+///     &mut [0; 2],
+///     Some(1.5),
+///     2,
+///     &[],
+///     &[],
+///     Levels { opens: &mut opens, counts: &mut counts, wholes: &mut wholes, rests: &mut rests },
+/// );
+/// assert_eq!((said.no, said.status, said.visits, times), (0, 1, 2, [0.0, 1.5]));
+/// assert_eq!((opens, counts, wholes, rests), ([0; LEVELS], [0; LEVELS], [0.0; LEVELS], [0.0; LEVELS]));
+/// ```
+#[allow(clippy::too_many_arguments)]
+#[inline]
+pub fn tick_flat(
+    record: &mut Record,
+    table: Table,
+    cells: Cells,
+    spare: Cells,
+    board: &mut [u8],
+    dt: Option<f64>,
+    fuel: u32,
+    statuses: &[u8],
+    leftovers: &[f64],
+    levels: Levels,
+) -> Said {
+    carry_out(false, record, table, cells, spare, board, dt, fuel, statuses, leftovers, Some(levels))
+}
+
+/// A restart without recursion: [`restart`] in all else, with levels as in [`tick_flat`].
+#[allow(clippy::too_many_arguments)]
+#[inline]
+pub fn restart_flat(
+    record: &mut Record,
+    table: Table,
+    cells: Cells,
+    spare: Cells,
+    board: &mut [u8],
+    dt: Option<f64>,
+    fuel: u32,
+    statuses: &[u8],
+    leftovers: &[f64],
+    levels: Levels,
+) -> Said {
+    carry_out(true, record, table, cells, spare, board, dt, fuel, statuses, leftovers, Some(levels))
+}
+
+/// Lends everything to a tick, or to a restart; where there are levels, to one without recursion.
 #[allow(clippy::too_many_arguments)]
 #[inline]
 pub(crate) fn carry_out(
@@ -162,46 +250,71 @@ pub(crate) fn carry_out(
     fuel: u32,
     statuses: &[u8],
     leftovers: &[f64],
+    levels: Option<Levels>,
 ) -> Said {
-    let call = if restart { lemboraw_restart } else { lemboraw_tick };
     // SAFETY: every pointer goes with the length of its slice, the borrows keep the slices apart,
-    // and both functions are proved to stay within them.
-    usual(|| unsafe {
-        call(
-            record,
-            table.kinds.as_ptr(),
-            table.kinds.len(),
-            table.ns.as_ptr(),
-            table.ns.len(),
-            table.limits.as_ptr(),
-            table.limits.len(),
-            cells.times.as_mut_ptr(),
-            cells.times.len(),
-            cells.places.as_mut_ptr(),
-            cells.places.len(),
-            cells.marks.as_mut_ptr(),
-            cells.marks.len(),
-            cells.sinces.as_mut_ptr(),
-            cells.sinces.len(),
-            spare.times.as_mut_ptr(),
-            spare.times.len(),
-            spare.places.as_mut_ptr(),
-            spare.places.len(),
-            spare.marks.as_mut_ptr(),
-            spare.marks.len(),
-            spare.sinces.as_mut_ptr(),
-            spare.sinces.len(),
-            board.as_mut_ptr(),
-            board.len(),
-            dt.is_some(),
-            dt.unwrap_or(0.0),
-            fuel,
-            statuses.as_ptr(),
-            statuses.len(),
-            leftovers.as_ptr(),
-            leftovers.len(),
-        )
-    })
+    // and all four functions are proved to stay within them.
+    macro_rules! lend {
+        ($call:expr $(, $more:expr)*) => {
+            usual(|| unsafe {
+                $call(
+                    record,
+                    table.kinds.as_ptr(),
+                    table.kinds.len(),
+                    table.ns.as_ptr(),
+                    table.ns.len(),
+                    table.limits.as_ptr(),
+                    table.limits.len(),
+                    cells.times.as_mut_ptr(),
+                    cells.times.len(),
+                    cells.places.as_mut_ptr(),
+                    cells.places.len(),
+                    cells.marks.as_mut_ptr(),
+                    cells.marks.len(),
+                    cells.sinces.as_mut_ptr(),
+                    cells.sinces.len(),
+                    spare.times.as_mut_ptr(),
+                    spare.times.len(),
+                    spare.places.as_mut_ptr(),
+                    spare.places.len(),
+                    spare.marks.as_mut_ptr(),
+                    spare.marks.len(),
+                    spare.sinces.as_mut_ptr(),
+                    spare.sinces.len(),
+                    board.as_mut_ptr(),
+                    board.len(),
+                    dt.is_some(),
+                    dt.unwrap_or(0.0),
+                    fuel,
+                    statuses.as_ptr(),
+                    statuses.len(),
+                    leftovers.as_ptr(),
+                    leftovers.len(),
+                    $($more,)*
+                )
+            })
+        };
+    }
+    match levels {
+        None => {
+            let call = if restart { lemboraw_restart } else { lemboraw_tick };
+            lend!(call)
+        }
+        Some(levels) => {
+            let call = if restart { lemboraw_restart_flat } else { lemboraw_tick_flat };
+            lend!(
+                call,
+                levels.opens.as_mut_ptr(),
+                levels.opens.len(),
+                levels.counts.as_mut_ptr(),
+                levels.counts.len(),
+                levels.wholes.as_mut_ptr(),
+                levels.wholes.len(),
+                levels.rests.as_mut_ptr(),
+                levels.rests.len()
+            )
+        }
+    }
 }
 
 /// The exchange of a branch that has not been started: writes the tree in which `branch` stands in place of
@@ -358,6 +471,92 @@ extern "C" {
         statuses_len: usize,
         leftovers: *const f64,
         leftovers_len: usize,
+    ) -> Said;
+
+    fn lemboraw_tick_flat(
+        record: *mut Record,
+        kinds: *const u8,
+        kinds_len: usize,
+        ns: *const u16,
+        ns_len: usize,
+        limits: *const f64,
+        limits_len: usize,
+        times: *mut f64,
+        times_len: usize,
+        places: *mut u16,
+        places_len: usize,
+        marks: *mut u8,
+        marks_len: usize,
+        sinces: *mut u64,
+        sinces_len: usize,
+        spare_times: *mut f64,
+        spare_times_len: usize,
+        spare_places: *mut u16,
+        spare_places_len: usize,
+        spare_marks: *mut u8,
+        spare_marks_len: usize,
+        spare_sinces: *mut u64,
+        spare_sinces_len: usize,
+        board: *mut u8,
+        board_len: usize,
+        update: bool,
+        dt: f64,
+        fuel: u32,
+        statuses: *const u8,
+        statuses_len: usize,
+        leftovers: *const f64,
+        leftovers_len: usize,
+        opens: *mut u64,
+        opens_len: usize,
+        counts: *mut u32,
+        counts_len: usize,
+        wholes: *mut f64,
+        wholes_len: usize,
+        rests: *mut f64,
+        rests_len: usize,
+    ) -> Said;
+
+    fn lemboraw_restart_flat(
+        record: *mut Record,
+        kinds: *const u8,
+        kinds_len: usize,
+        ns: *const u16,
+        ns_len: usize,
+        limits: *const f64,
+        limits_len: usize,
+        times: *mut f64,
+        times_len: usize,
+        places: *mut u16,
+        places_len: usize,
+        marks: *mut u8,
+        marks_len: usize,
+        sinces: *mut u64,
+        sinces_len: usize,
+        spare_times: *mut f64,
+        spare_times_len: usize,
+        spare_places: *mut u16,
+        spare_places_len: usize,
+        spare_marks: *mut u8,
+        spare_marks_len: usize,
+        spare_sinces: *mut u64,
+        spare_sinces_len: usize,
+        board: *mut u8,
+        board_len: usize,
+        update: bool,
+        dt: f64,
+        fuel: u32,
+        statuses: *const u8,
+        statuses_len: usize,
+        leftovers: *const f64,
+        leftovers_len: usize,
+        opens: *mut u64,
+        opens_len: usize,
+        counts: *mut u32,
+        counts_len: usize,
+        wholes: *mut f64,
+        wholes_len: usize,
+        rests: *mut f64,
+        rests_len: usize,
     ) -> Said;
 
     fn lemboraw_exchange(

@@ -5,15 +5,18 @@ use native.Mathlib.Omega.{arith}
 use lib.ListN.{length}
 use borrow.Author.Needs.{needs}
 use Rattle.rules.specs.Call.{run}
-use Rattle.call.proofs.Walks.{Begun, begun-fresh, begun-held, goes-told, carried, put-back}
+use Rattle.steps.proofs.Walks.{Begun, begun-fresh, begun-held, goes-told, carried, put-back}
 use Rattle.call.proofs.carry_out.Statement.{statement}
 use Rattle.call.proofs.carry_out.Tie as tie
 
 -- ---- the way up to the walk
-abbrev start : tie.After-copy-cells → tie.Start
-start c = c .before .before .before .before .before .before .before .before .before .before .before .before .before .before .before .before .before .before .before .before .before .before .before .before
+abbrev known : tie.After-copy-cells → tie.After-slice-known13
+known c = c .before .before .before .before .before .before .before .before .before
 
-abbrev copied : tie.After-slice-known13 → tie.After-copy-cells
+abbrev start : tie.After-copy-cells → tie.Start
+start c = known c .before .before .before .before .before .before .before .before .before .before .before .before .before .before .before .before .before .before .before
+
+abbrev copied : tie.After-slice-known17 → tie.After-copy-cells
 copied c = c .before .before .before .before .before .before .before .before
 
 -- what the walk begins with, by either arm
@@ -21,35 +24,43 @@ begun : (c : tie.Joined1) → let a = start (copied (c .before)) .args in
     Begun (a .fresh) (a .kinds .now) (a .ends .now) (run (a .times .now) (a .places .now) (a .marks .now) (a .sinces .now)) (a .n) (c .if1 .work) (c .if1 .times)
 begun c = ⊎-elim
     (λ w. begun-fresh _ _ _ _ _ _ _ (w .0 .taken) (w .7 ∙ w .3 .ensures .0) (w .6 ∙ w .3 .ensures .1))
-    (λ w. begun-held _ _ _ _ _ _ _ (w .0 .left) (start (copied (c .before)) .pre .cells-long) (w .6 ∙ w .4 .ensures) (w .5))
+    (λ w. begun-held _ _ _ _ _ _ _ (w .0 .left) (start (copied (c .before)) .pre .0 .cells-long) (w .6 ∙ w .4 .ensures) (w .5))
     (c .if1 .came)
 
 -- the walk
 abbrev joined : tie.After-enter → tie.Joined1
-joined c = c .before .before .before
+joined c = c .before .before .before .before .before .before .before
 
 abbrev at-start : tie.After-enter → tie.Start
 at-start c = start (copied (joined c .before))
 
+-- behind the walk, its room has come back
+abbrev walked : tie.After-slice-known23 → tie.After-enter
+walked c = c .before .before .before .before .before .before .before .before .before .before
+
 abbrev stopped : tie.After-copy-times-arg2 → tie.After-enter
-stopped c = c .before .before .before .before .before .before
+stopped c = walked (c .before .before .before .before)
 
 -- what is shown behind it, and the walk to its end
 abbrev shown : tie.After-put-back-arg4 → tie.After-show-ended
 shown c = c .before .before .before .before .before .before
 
 abbrev ended : tie.After-put-back-arg4 → tie.After-enter
-ended c = shown c .before .before .before .before .before
+ended c = walked (shown c .before .before .before)
+
+-- what came before either walk's end
+abbrev spared : tie.After-enter → tie.After-copy-cells
+spared c = copied (joined c .before)
 
 -- ---- the needs
 load-fresh-requires : tie.Need-load-fresh-requires
 load-fresh-requires c κs =
-    let pre = start (copied (c .before .before .before)) .pre in
+    let pre = start (copied (c .before .before .before)) .pre .0 in
     (pre .few, pre .in-kinds, omega (arith, pre .few, pre .ends-long), pre .cells-long .times)
 
 load-requires : tie.Need-load-requires
 load-requires c κs =
-    let pre = start (copied (c .before .before .before .before)) .pre in
+    let pre = start (copied (c .before .before .before .before)) .pre .0 in
     record {
       nodes = pre .few;
       kinds-long = pre .in-kinds;
@@ -63,12 +74,15 @@ times-long : (c : tie.Joined1) → let a = start (copied (c .before)) .args in l
 times-long c = ⊎-elim (λ w. ap length (w .6) ∙ w .3 .kept .1 .1 .1 .0) (λ w. ap length (w .5)) (c .if1 .came)
 
 enter-requires : tie.Need-enter-requires
-enter-requires c κs = let at = c .before .before in omega (arith, times-long at, start (copied (at .before)) .pre .cells-long .times)
+enter-requires c κs =
+    let at = c .before .before .before .before .before .before in
+    let pre = start (copied (at .before)) .pre in
+    (omega (arith, times-long at, pre .0 .cells-long .times), pre .1)
 
 copy-times-requires : tie.Need-copy-times-requires
 copy-times-requires c κs =
     let enter = stopped c in
-    let pre = at-start enter .pre in
+    let pre = at-start enter .pre .0 in
     let copy-cells = copied (joined enter .before) .copy-cells in (
       omega (arith, copy-cells .kept .1 .1 .1 .1 .0, pre .spare-long .times),
       omega (arith, enter .enter .kept .1 .1 .1 .1 .0, times-long (joined enter), pre .cells-long .times),
@@ -77,58 +91,50 @@ copy-times-requires c κs =
 abbrev back : tie.After-told-stopped → tie.After-copy-times
 back c = c .before .before .before .before
 
+abbrev stopping : tie.After-told-stopped → tie.After-enter
+stopping c = stopped (back c .before)
+
 same-length : tie.Need-same-length
-same-length c = let walk = stopped (back c .before) in back c .copy-times .kept .1 .0 ∙ walk .enter .kept .1 .1 .1 .1 .0 ∙ times-long (joined walk)
+same-length c = let walk = stopping c in back c .copy-times .kept .1 .0 ∙ walk .enter .kept .1 .1 .1 .1 .0 ∙ times-long (joined walk)
 
 returns : tie.Need-returns
 returns c =
-    let walk = stopped (back c .before) in
+    let walk = stopping c in
     let enter = walk .enter in
-    put-back (at-start walk .pre) (enter .result) _ (enter .last .0) _ (enter .last .1 .1 .1 .1 .0) (begun (joined walk)) (enter .ensures .0) (enter .ensures .1)
-    (omega (arith, at-start walk .fits .fuel)) _ (copied (joined walk .before) .copy-cells .ensures) (back c .before .before .before .enum-told .given .1) _ (c .told-stopped .ensures) _
-    (back c .copy-times .ensures)
+    let restored = put-back (at-start walk .pre .0) (enter .result) _ (enter .last .0) _ (enter .last .1 .1 .1 .1 .0) (begun (joined walk)) (enter .ensures .0) (enter .ensures .1 .0)
+    (omega (arith, at-start walk .fits .fuel)) _ (spared walk .copy-cells .ensures) (back c .before .before .before .enum-told .given .1) _ (c .told-stopped .ensures) _
+    (back c .copy-times .ensures) in
+    (restored, enter .ensures .1 .1)
 
 show-ended-requires : tie.Need-show-ended-requires
-show-ended-requires c κs = at-start (c .before .before .before .before) .pre .few
+show-ended-requires c κs = at-start (walked (c .before .before)) .pre .0 .few
 
 put-back-requires : tie.Need-put-back-requires
 put-back-requires c κs =
-    let pre = at-start (ended c) .pre in
+    let pre = at-start (ended c) .pre .0 in
     (omega (arith, pre .few), omega (arith, pre .cells-long .places), omega (arith, pre .cells-long .marks), omega (arith, pre .cells-long .sinces), omega (arith, pre .board-long))
 
 -- the place at which what is put back has come back
 abbrev put : tie.After-told-done → tie.After-put-back
 put c = c .before .before .before .before .before .before .before .before .before .before .before
 
-same-length-9 : tie.Need-same-length-9
-same-length-9 c = let walk = ended (put c .before) in walk .enter .kept .1 .1 .1 .1 .0 ∙ times-long (joined walk)
-
-module _ (c : tie.After-told-done) where
-  abbrev spared : tie.After-copy-cells
-  spared = copied (joined (ended (put c .before)) .before)
+abbrev ending : tie.After-told-done → tie.After-enter
+ending c = ended (put c .before)
 
 same-length-13 : tie.Need-same-length-13
-same-length-13 c = spared c .copy-cells .kept .1 .1 .1 .1 .0
-
-same-length-14 : tie.Need-same-length-14
-same-length-14 c = spared c .copy-cells .kept .1 .1 .1 .1 .1 .0
-
-same-length-15 : tie.Need-same-length-15
-same-length-15 c = spared c .copy-cells .kept .1 .1 .1 .1 .1 .1 .0
-
-same-length-16 : tie.Need-same-length-16
-same-length-16 c = spared c .copy-cells .kept .1 .1 .1 .1 .1 .1 .1 .0
+same-length-13 c = let walk = ending c in walk .enter .kept .1 .1 .1 .1 .0 ∙ times-long (joined walk)
 
 returns-2 : tie.Need-returns-2
 returns-2 c =
-    let walk = ended (put c .before) in
+    let walk = ending c in
     let enter = walk .enter in
     let back = put c .put-back in
     let counts = put c .before .before .before .before .before .before in
-    carried (at-start walk .pre) (enter .result) _ (enter .last .0) _ (enter .last .1 .1 .1 .1 .0) (begun (joined walk)) (enter .ensures .0) (enter .ensures .1)
-    (omega (arith, at-start walk .fits .fuel)) _ (spared c .copy-cells .ensures) (goes-told _ (shown (put c .before) .before .before .match .keys2)) _
+    let whole = carried (at-start walk .pre .0) (enter .result) _ (enter .last .0) _ (enter .last .1 .1 .1 .1 .0) (begun (joined walk)) (enter .ensures .0) (enter .ensures .1 .0)
+    (omega (arith, at-start walk .fits .fuel)) _ (spared walk .copy-cells .ensures) (goes-told _ (shown (put c .before) .before .before .match .keys2)) _
     (shown (put c .before) .show-ended .ensures) _ _ (c .before .lent .ensures)
-    (c .told-done .ensures) _ (counts .counted .ensures) _ _ _ _ (back .ensures .0) (back .ensures .1 .0) (back .ensures .1 .1 .0) (back .ensures .1 .1 .1)
+    (c .told-done .ensures) _ (counts .counted .ensures) _ _ _ _ (back .ensures .0) (back .ensures .1 .0) (back .ensures .1 .1 .0) (back .ensures .1 .1 .1) in
+    (whole, enter .ensures .1 .1)
 
 pub carry-out-spec : {M : Type 1} → statement M
 carry-out-spec =
@@ -145,23 +151,31 @@ carry-out-spec =
     (λ c. search needs)
     (λ c. search needs)
     (λ c. search needs)
-    (λ c. search needs)
-    (λ c. search needs)
-    (λ c. search needs)
-    (λ c. search needs)
+    (λ c. spared (stopping c) .copy-cells .kept .1 .1 .1 .1 .0)
+    (λ c. spared (stopping c) .copy-cells .kept .1 .1 .1 .1 .1 .0)
+    (λ c. spared (stopping c) .copy-cells .kept .1 .1 .1 .1 .1 .1 .0)
+    (λ c. spared (stopping c) .copy-cells .kept .1 .1 .1 .1 .1 .1 .1 .0)
+    (λ c. stopping c .enter .kept .1 .1 .1 .1 .1 .0)
+    (λ c. stopping c .enter .kept .1 .1 .1 .1 .1 .1 .0)
+    (λ c. stopping c .enter .kept .1 .1 .1 .1 .1 .1 .1 .0)
+    (λ c. stopping c .enter .kept .1 .1 .1 .1 .1 .1 .1 .1 .0)
     returns
     show-ended-requires
     (λ c κs. search needs)
     put-back-requires
     (λ c κs. search needs)
     (λ c κs. search needs)
-    same-length-9
-    (λ c. search needs)
-    (λ c. search needs)
-    (λ c. search needs)
     same-length-13
-    same-length-14
-    same-length-15
-    same-length-16
     (λ c. search needs)
+    (λ c. search needs)
+    (λ c. search needs)
+    (λ c. spared (ending c) .copy-cells .kept .1 .1 .1 .1 .0)
+    (λ c. spared (ending c) .copy-cells .kept .1 .1 .1 .1 .1 .0)
+    (λ c. spared (ending c) .copy-cells .kept .1 .1 .1 .1 .1 .1 .0)
+    (λ c. spared (ending c) .copy-cells .kept .1 .1 .1 .1 .1 .1 .1 .0)
+    (λ c. search needs)
+    (λ c. ending c .enter .kept .1 .1 .1 .1 .1 .0)
+    (λ c. ending c .enter .kept .1 .1 .1 .1 .1 .1 .0)
+    (λ c. ending c .enter .kept .1 .1 .1 .1 .1 .1 .1 .0)
+    (λ c. ending c .enter .kept .1 .1 .1 .1 .1 .1 .1 .1 .0)
     returns-2)

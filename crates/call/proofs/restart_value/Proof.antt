@@ -1,17 +1,24 @@
--- What the call by a flag ensures.
+-- What the call by two flags ensures, but for the room.
 use borrow.Author.Needs.{needs}
-use Rattle.call.specs.Due.{callOf}
+use Rattle.steps.specs.Due.{callOf}
 use Rattle.call.proofs.restart_value.Statement.{statement}
 use Rattle.call.proofs.restart_value.Tie as tie
 
 returns : tie.Need-returns
 unfolding callOf
-returns c = search needs
+returns c =
+    let board = c .before .before .before .before in
+    let called = board .before .before .before .before .before .before .before .before .before .before .before .before .before .before .before .before .before .before in
+    λ i. called .value .ensures i .left'
 
 pub restart-value-spec : {M : Type 1} → statement M
 restart-value-spec =
     tie.close
     (tie.spec
+    (λ c. search needs)
+    (λ c. search needs)
+    (λ c. search needs)
+    (λ c. search needs)
     (λ c κs. search needs)
     (λ c. search needs)
     (λ c. search needs)

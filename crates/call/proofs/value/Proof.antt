@@ -1,35 +1,64 @@
 -- A refusal, or the walk.
 use mathlib.Core.Path.{sym}
+use native.Mathlib.Omega.{arith}
 use borrow.Author.Needs.{needs}
-use Rattle.call.proofs.Gates.{passed-refused, passed-open, passed-on}
+use Rattle.rules.specs.Call.{Given, given, run}
+use Rattle.rules.specs.Levels.{Levels, levels}
+use Rattle.steps.proofs.Gates.{passed-refused, passed-open, passed-on}
 use Rattle.call.proofs.value.Statement.{statement}
 use Rattle.call.proofs.value.Tie as tie
 
+abbrev room : tie.After-checks → tie.After-entries-of
+room c = c .before .before .before .before .before .before .before .before .before .before .before
+
 abbrev start : tie.After-checks → tie.Start
-start c = c .before .before .before .before .before .before .before .before .before .before .before .before .before .before .before .before .before .before .before .before .before .before .before .before .before
+start c = room c .before .before .before .before .before .before .before .before .before .before .before .before .before .before .before .before .before .before .before .before .before .before .before
+
+abbrev call : tie.Start → Given
+call c =
+    let a = c .args in
+    given (a .«record») (a .kinds .now) (a .ns .now) (a .limits .now) (run (a .times .now) (a .places .now) (a .marks .now) (a .sinces .now))
+    (run (a .spare-times .now) (a .spare-places .now) (a .spare-marks .now) (a .spare-sinces .now)) (a .board .now) (a .event) (a .fuel) (a .statuses .now) (a .leftovers .now)
+
+abbrev lent : tie.Start → Levels
+lent c = let a = c .args in levels (a .opens .now) (a .counts .now) (a .wholes .now) (a .rests .now)
 
 slice-aggregate-carry-out : tie.Need-slice-aggregate-carry-out
-slice-aggregate-carry-out c = sym (passed-open _ _ _ _ (c .before .before .before .before .checks .ensures 0) _ _ (c .before .before .n .given .1) .1 .ends-long)
+slice-aggregate-carry-out c = sym (passed-open _ _ _ _ _ (c .before .before .before .before .checks .ensures 0) _ _ (c .before .before .n .given .1) .2 .ends-long)
 
 carry-out-requires : tie.Need-carry-out-requires
 carry-out-requires c κs =
-    let checks = c .before .before .before .before .before .before .before .before .before .before .before .before .before in
-    passed-open _ _ _ _ (checks .checks .ensures (start checks .args .fuel)) _ _ (c .before .before .before .before .before .before .before .before .before .before .before .n .given .1) .1
+    let opened = c .before .before .before .before .before .before .before .before .before .before .before .before .before .before .before in
+    let checks = opened .before .before in
+    let passed = passed-open _ _ _ _ _ (checks .checks .ensures (start checks .args .fuel)) _ _ (opened .n .given .1) in
+    (passed .2, omega (arith, room checks .entries-of .ensures, passed .0))
 
 returns : tie.Need-returns
-returns c = let checks = c .before .before .before in passed-refused _ _ _ _ (checks .checks .ensures (start checks .args .fuel)) _ (c .before .answer .given .1)
+returns c =
+    let checks = c .before .before .before in
+    let s = start checks in
+    passed-refused _ _ (call s) _ _ (checks .checks .ensures (s .args .fuel)) _ (c .before .answer .given .1) (s .args .flat) (lent s) (sym (room checks .entries-of .ensures))
+
+-- the slices come back in their order
+abbrev carried : tie.After-slice-known26 → tie.After-carry-out
+carried c =
+    let board = c .before .before .before .before .before .before .before .before in
+    board .before .before .before .before .before .before .before .before .before .before .before .before .before .before .before .before .before .before
 
 returns-2 : tie.Need-returns-2
 returns-2 c =
-    let carried = c .before .before .before .before .before .before .before .before .before .before .before .before .before .before .before .before .before .before in
-    let opened = carried .before .before .before .before .before .before .before .before .before .before .before .before in
+    let carry-out = carried c .carry-out in
+    let opened = carried c .before .before .before .before .before .before .before .before .before .before .before .before .before .before .before .before in
     let checks = opened .before .before in
-    passed-on _ _ _ _ (checks .checks .ensures (start checks .args .fuel)) _ _ _ (opened .n .given .1) (carried .carry-out .ensures)
+    let s = start checks in
+    passed-on _ _ (call s) _ _ (checks .checks .ensures (s .args .fuel)) _ _ _ (opened .n .given .1) (carry-out .ensures .0) (s .args .flat) (lent s) _ (sym (room checks .entries-of .ensures))
+    (carry-out .ensures .1)
 
 pub value-spec : {M : Type 1} → statement M
 value-spec =
     tie.close
     (tie.spec
+    (λ c κs. search needs)
     (λ c κs. search needs)
     (λ c. search needs)
     (λ c. search needs)
@@ -44,14 +73,22 @@ value-spec =
     (λ c. search needs)
     (λ c. search needs)
     (λ c. search needs)
+    (λ c. search needs)
+    (λ c. search needs)
+    (λ c. search needs)
+    (λ c. search needs)
     returns
-    (λ c. search needs)
-    (λ c. search needs)
-    (λ c. search needs)
-    (λ c. search needs)
-    (λ c. search needs)
-    (λ c. search needs)
-    (λ c. search needs)
-    (λ c. search needs)
-    (λ c. search needs)
+    (λ c. carried c .carry-out .kept .1 .1 .1 .1 .1 .0)
+    (λ c. carried c .carry-out .kept .1 .1 .1 .1 .1 .1 .0)
+    (λ c. carried c .carry-out .kept .1 .1 .1 .1 .1 .1 .1 .0)
+    (λ c. carried c .carry-out .kept .1 .1 .1 .1 .1 .1 .1 .1 .0)
+    (λ c. carried c .carry-out .kept .1 .1 .1 .1 .1 .1 .1 .1 .1 .0)
+    (λ c. carried c .carry-out .kept .1 .1 .1 .1 .1 .1 .1 .1 .1 .1 .0)
+    (λ c. carried c .carry-out .kept .1 .1 .1 .1 .1 .1 .1 .1 .1 .1 .1 .0)
+    (λ c. carried c .carry-out .kept .1 .1 .1 .1 .1 .1 .1 .1 .1 .1 .1 .1 .0)
+    (λ c. carried c .carry-out .kept .1 .1 .1 .1 .1 .1 .1 .1 .1 .1 .1 .1 .1 .0)
+    (λ c. carried c .carry-out .kept .1 .1 .1 .1 .1 .1 .1 .1 .1 .1 .1 .1 .1 .1 .1 .1 .1 .1 .0)
+    (λ c. carried c .carry-out .kept .1 .1 .1 .1 .1 .1 .1 .1 .1 .1 .1 .1 .1 .1 .1 .1 .1 .1 .1 .0)
+    (λ c. carried c .carry-out .kept .1 .1 .1 .1 .1 .1 .1 .1 .1 .1 .1 .1 .1 .1 .1 .1 .1 .1 .1 .1 .0)
+    (λ c. carried c .carry-out .kept .1 .1 .1 .1 .1 .1 .1 .1 .1 .1 .1 .1 .1 .1 .1 .1 .1 .1 .1 .1 .1 .0)
     returns-2)

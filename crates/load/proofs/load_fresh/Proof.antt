@@ -8,7 +8,8 @@ use lib.Ieee.{ofBits}
 use lib.ListN.{replicate, getD-replicate}
 use Rattle.rules.specs.Tree.{zeroTime}
 use Rattle.load.specs.Load.{loadWords}
-use Rattle.load.proofs.Laws.{load-one, load-none, Filling, filling-start, filling-more, filling-end}
+use Rattle.load.proofs.Laws.{load-one, load-none}
+use Rattle.work.proofs.Filling.{Filling, filling-start, filling-more, filling-end}
 use borrow.Author.Needs.{needs}
 use Rattle.load.proofs.load_fresh.Statement.{statement}
 use Rattle.load.proofs.load_fresh.Tie as tie

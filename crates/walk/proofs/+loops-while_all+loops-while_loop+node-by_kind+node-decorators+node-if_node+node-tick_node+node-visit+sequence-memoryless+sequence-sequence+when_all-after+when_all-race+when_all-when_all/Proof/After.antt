@@ -8,7 +8,7 @@ use denote.Ref.{now}
 use lib.Ieee.{binary64, ofBits}
 use lib.ListN.{length}
 use Rattle.work.specs.Flat.{Out, lent, afterGo, visit, tick}
-use Rattle.walk.proofs.VisitLaws.{told-as}
+use Rattle.work.proofs.VisitLaws.{told-as}
 use Rattle.walk.proofs.WhenAllLaws as when-law
 use Prim.Native.Nat.{ℕ}
 use Rattle.walk.proofs.node.visit.Reads as node·visit

@@ -2,7 +2,7 @@
 use Prim.Native.Nat.{_-_}
 use native.Mathlib.Omega.{arith}
 use borrow.Author.Needs.{needs}
-use Rattle.walk.proofs.NodeLaws as node-law
+use Rattle.work.proofs.KindLaws as kind-law
 use Prim.Native.Nat.{ℕ}
 use Rattle.walk.proofs.loops.while_all.Reads as loops·while-all
 use Rattle.walk.proofs.loops.while_loop.Reads as loops·while-loop
@@ -135,7 +135,7 @@ met-node·by-kind t = node·by-kind-lts.spec (
     (λ c.
     let leaf = c .before .before in
     let arms = leaf .before .before .before in
-    node-law.by-leaf _ _ _ _ _ _ _ _ _ (arms .match .keys1) (leaf .leaf .ensures))
+    kind-law.by-leaf _ _ _ _ _ _ _ _ _ (arms .match .keys1) (leaf .leaf .ensures))
     -- same-length-2
     (λ c.
     let decorators = c .before .before in
@@ -144,7 +144,7 @@ met-node·by-kind t = node·by-kind-lts.spec (
     (λ c.
     let decorators = c .before .before in
     let arms = decorators .before .before .before in
-    node-law.by-decorator _ _ _ _ _ _ _ _ _ (arms .match .keys2) (decorators .decorators .ensures))
+    kind-law.by-decorator _ _ _ _ _ _ _ _ _ (arms .match .keys2) (decorators .decorators .ensures))
     -- same-length-3
     (λ c.
     let if-node = c .before .before in
@@ -153,7 +153,7 @@ met-node·by-kind t = node·by-kind-lts.spec (
     (λ c.
     let if-node = c .before .before in
     let enum-told = if-node .before .before .before in
-    node-law.by-if _ _ _ _ _ _ _ _ _ (enum-told .enum-told .given .1) (if-node .if-node .ensures))
+    kind-law.by-if _ _ _ _ _ _ _ _ _ (enum-told .enum-told .given .1) (if-node .if-node .ensures))
     -- same-length-4
     (λ c.
     let sequence = c .before .before in
@@ -163,7 +163,7 @@ met-node·by-kind t = node·by-kind-lts.spec (
     let sequence = c .before .before in
     let exchanges = sequence .before in
     let arms = exchanges .before .before .before in
-    node-law.by-sequence _ _ _ _ _ _ _ _ _ _ (exchanges .exchanges .ensures) (arms .match .keys4) (sequence .sequence .ensures))
+    kind-law.by-sequence _ _ _ _ _ _ _ _ _ _ (exchanges .exchanges .ensures) (arms .match .keys4) (sequence .sequence .ensures))
     -- same-length-5
     (λ c.
     let memoryless = c .before .before in
@@ -173,7 +173,7 @@ met-node·by-kind t = node·by-kind-lts.spec (
     let memoryless = c .before .before in
     let exchanges2 = memoryless .before in
     let arms = exchanges2 .before .before .before in
-    node-law.by-memoryless _ _ _ _ _ _ _ _ _ _ (exchanges2 .exchanges2 .ensures) (arms .match .keys5) (memoryless .memoryless .ensures))
+    kind-law.by-memoryless _ _ _ _ _ _ _ _ _ _ (exchanges2 .exchanges2 .ensures) (arms .match .keys5) (memoryless .memoryless .ensures))
     -- same-length-6
     (λ c.
     let while-loop = c .before .before in
@@ -182,7 +182,7 @@ met-node·by-kind t = node·by-kind-lts.spec (
     (λ c.
     let while-loop = c .before .before in
     let enum-told2 = while-loop .before .before .before in
-    node-law.by-while _ _ _ _ _ _ _ _ _ (enum-told2 .enum-told2 .given .1) (while-loop .while-loop .ensures))
+    kind-law.by-while _ _ _ _ _ _ _ _ _ (enum-told2 .enum-told2 .given .1) (while-loop .while-loop .ensures))
     -- same-length-7
     (λ c.
     let while-all = c .before .before in
@@ -191,7 +191,7 @@ met-node·by-kind t = node·by-kind-lts.spec (
     (λ c.
     let while-all = c .before .before in
     let enum-told3 = while-all .before .before .before in
-    node-law.by-while-all _ _ _ _ _ _ _ _ _ (enum-told3 .enum-told3 .given .1) (while-all .while-all .ensures))
+    kind-law.by-while-all _ _ _ _ _ _ _ _ _ (enum-told3 .enum-told3 .given .1) (while-all .while-all .ensures))
     -- same-length-8
     (λ c.
     let when-all = c .before .before in
@@ -201,7 +201,7 @@ met-node·by-kind t = node·by-kind-lts.spec (
     let when-all = c .before .before in
     let exchanges3 = when-all .before in
     let arms = exchanges3 .before .before .before in
-    node-law.by-when-all _ _ _ _ _ _ _ _ _ _ (exchanges3 .exchanges3 .ensures) (arms .match .keys8) (when-all .when-all .ensures))
+    kind-law.by-when-all _ _ _ _ _ _ _ _ _ _ (exchanges3 .exchanges3 .ensures) (arms .match .keys8) (when-all .when-all .ensures))
     -- same-length-9
     (λ c.
     let after = c .before .before in
@@ -210,7 +210,7 @@ met-node·by-kind t = node·by-kind-lts.spec (
     (λ c.
     let after = c .before .before in
     let enum-told4 = after .before .before .before in
-    node-law.by-after _ _ _ _ _ _ _ _ _ (enum-told4 .enum-told4 .given .1) (after .after .ensures))
+    kind-law.by-after _ _ _ _ _ _ _ _ _ (enum-told4 .enum-told4 .given .1) (after .after .ensures))
     -- same-length-10
     (λ c.
     let race = c .before .before in
@@ -219,4 +219,4 @@ met-node·by-kind t = node·by-kind-lts.spec (
     (λ c.
     let race = c .before .before in
     let enum-told5 = race .before .before .before in
-    node-law.by-race _ _ _ _ _ _ _ _ _ (enum-told5 .enum-told5 .given .1) (race .race .ensures))
+    kind-law.by-race _ _ _ _ _ _ _ _ _ (enum-told5 .enum-told5 .given .1) (race .race .ensures))

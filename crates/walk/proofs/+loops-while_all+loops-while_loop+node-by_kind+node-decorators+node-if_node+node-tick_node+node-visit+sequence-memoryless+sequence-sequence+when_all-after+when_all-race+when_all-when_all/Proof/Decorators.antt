@@ -7,7 +7,7 @@ use denote.Ref.{now}
 use lib.Ieee.{binary64}
 use lib.ListN.{length}
 use Rattle.work.specs.Flat.{out, lent, visit, tick}
-use Rattle.walk.proofs.VisitLaws.{Gave, gave-told}
+use Rattle.work.proofs.VisitLaws.{Gave, gave-told}
 use Rattle.walk.proofs.NodeLaws.{up}
 use Rattle.walk.proofs.NodeLaws as node-law
 use Prim.Native.Nat.{ℕ, _<_}

@@ -7,7 +7,7 @@ use denote.Ref.{now}
 use lib.Ieee.{binary64}
 use lib.ListN.{length}
 use Rattle.work.specs.Flat.{Out, lent, raceGo, visit, tick}
-use Rattle.walk.proofs.VisitLaws.{told-as, not-running-told}
+use Rattle.work.proofs.VisitLaws.{told-as, not-running-told}
 use Rattle.walk.proofs.WhenAllLaws as when-law
 use Prim.Native.Nat.{ℕ}
 use Rattle.walk.proofs.node.visit.Reads as node·visit

@@ -8,7 +8,7 @@ use denote.Ref.{now}
 use lib.Ieee.{binary64}
 use lib.ListN.{length}
 use Rattle.work.specs.Flat.{Out, lent, turned, turning, sequenceGo, visit, tick}
-use Rattle.walk.proofs.VisitLaws.{turn-out, turn-visit}
+use Rattle.work.proofs.VisitLaws.{turn-out, turn-visit}
 use Rattle.walk.proofs.SequenceLaws as seq-law
 use Prim.Native.Nat.{ℕ, _<_}
 use Rattle.walk.proofs.node.visit.Reads as node·visit

@@ -2,8 +2,8 @@
 use Prim.Native.Nat.{_-_}
 use native.Mathlib.Omega.{arith}
 use borrow.Author.Needs.{needs}
-use Rattle.walk.proofs.VisitLaws.{gave-told}
-use Rattle.walk.proofs.VisitLaws as law
+use Rattle.work.proofs.VisitLaws.{gave-told}
+use Rattle.work.proofs.VisitLaws as law
 use Prim.Native.Nat.{ℕ}
 use Rattle.walk.proofs.node.by_kind.Reads as node·by-kind
 use Rattle.walk.proofs.node.tick_node.Reads as node·tick-node

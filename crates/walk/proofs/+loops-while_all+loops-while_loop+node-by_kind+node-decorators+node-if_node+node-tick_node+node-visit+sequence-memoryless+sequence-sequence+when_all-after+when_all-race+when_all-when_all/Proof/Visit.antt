@@ -3,7 +3,7 @@ use mathlib.Core.Path.{sym, _∙_}
 use Prim.Native.Nat.{_-_}
 use native.Mathlib.Omega.{arith}
 use borrow.Author.Needs.{needs}
-use Rattle.walk.proofs.VisitLaws as law
+use Rattle.work.proofs.VisitLaws as law
 use Prim.Native.Nat.{ℕ}
 use Rattle.walk.proofs.node.tick_node.Reads as node·tick-node
 use Rattle.walk.proofs.node.visit.Reads as node·visit

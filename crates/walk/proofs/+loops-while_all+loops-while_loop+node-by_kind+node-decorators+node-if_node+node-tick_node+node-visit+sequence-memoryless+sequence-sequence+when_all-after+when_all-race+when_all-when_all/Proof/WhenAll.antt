@@ -7,8 +7,8 @@ use denote.Ref.{now}
 use lib.Ieee.{binary64, ofBits}
 use lib.ListN.{length}
 use Rattle.work.specs.Flat.{Out, lent, turned, turning, whenAllGo, visit, tick}
-use Rattle.walk.proofs.VisitLaws.{turn-out, turn-visit}
-use Rattle.walk.proofs.VisitLaws as law
+use Rattle.work.proofs.VisitLaws.{turn-out, turn-visit}
+use Rattle.work.proofs.VisitLaws as law
 use Rattle.walk.proofs.WhenAllLaws as when-law
 use Prim.Native.Nat.{ℕ}
 use Rattle.walk.proofs.node.visit.Reads as node·visit

@@ -7,7 +7,7 @@ use denote.Ref.{now}
 use lib.Ieee.{binary64}
 use lib.ListN.{length}
 use Rattle.work.specs.Flat.{lent, whileAllGo, visit, tick}
-use Rattle.walk.proofs.VisitLaws.{told-as, gave-ended, ended-told}
+use Rattle.work.proofs.VisitLaws.{told-as, gave-ended, ended-told}
 use Rattle.walk.proofs.LoopLaws as loop-law
 use Prim.Native.Nat.{ℕ}
 use Rattle.walk.proofs.loops.while_all.Reads as loops·while-all

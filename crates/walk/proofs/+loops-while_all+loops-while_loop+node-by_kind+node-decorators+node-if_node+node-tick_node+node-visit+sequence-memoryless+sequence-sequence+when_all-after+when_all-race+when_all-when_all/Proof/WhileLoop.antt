@@ -8,7 +8,7 @@ use denote.Ref.{now}
 use lib.Ieee.{binary64}
 use lib.ListN.{length}
 use Rattle.work.specs.Flat.{lent, whileGo, visit, tick}
-use Rattle.walk.proofs.VisitLaws.{told-as, not-running-told}
+use Rattle.work.proofs.VisitLaws.{told-as, not-running-told}
 use Rattle.walk.proofs.LoopLaws as loop-law
 use Prim.Native.Nat.{ℕ}
 use Rattle.walk.proofs.loops.while_loop.Reads as loops·while-loop

@@ -1,0 +1,184 @@
+-- One law for each step down and up.
+use mathlib.Core.Path.{_≡_, refl, sym, ap, _∙_}
+use mathlib.Core.Bool.{Bool, true, false, cond, not, _&&_}
+use mathlib.Core.List.{List}
+use Prim.Native.Nat.{ℕ, zero, suc, _+_, _-_, _≤_, _<_}
+use native.Mathlib.Decide.{decLt}
+use native.Mathlib.Omega.{arith}
+use lib.Dec.{ltb, eqb}
+use lib.Ieee.{Float, Format, add, sub, le, binary64}
+use lib.ListN.{length, getD, set, List·getD-eq-default}
+use lib.Seq.{getD-set-same, getD-set-other}
+use borrow.Author.Tests.{eq-eqb, ne-eqb}
+use Rattle.rules.specs.declared.behavior.Kind.{Kind}
+use Rattle.rules.specs.declared.behavior.Kind.the-variants.{Wait, WaitForever, Action, Invert, AlwaysSucceed, Timeout, Select, If, Sequence}
+use Rattle.rules.specs.declared.behavior.Kind.the-variants.{MemorylessSequence, MemorylessSelector, While, WhileAll, WhenAll, WhenAny, After, Race}
+use Rattle.rules.specs.declared.status.Status.{Status}
+use Rattle.rules.specs.declared.status.Status.the-variants as status
+use Rattle.rules.specs.Kinds.{is}
+use Rattle.rules.specs.Tree.{zeroTime}
+use Rattle.rules.specs.Outcome.{byte, statusOf}
+use Rattle.rules.specs.Levels.{Levels, levels, entries, cleared}
+use Rattle.work.specs.declared.result.Seen.{Seen}
+use Rattle.work.specs.declared.result.Seen.the-variants.{Stopped, Running, Success, Failure}
+use Rattle.work.specs.Word.{kindIn}
+use Rattle.work.specs.Array.{wordAt, timeAt, numberAt, fuelOf, usedOf, updates, setSeen}
+use Rattle.work.specs.Flat.{Out, out, Lent, Step, Visitor, seenAs, andThen, seen, isLeaf, wait, action, leaf, visitLeaf, visit, byKind, tick, visiting}
+use Rattle.work.proofs.VisitLaws.{visit-leaf, visit-node, tick-zero, tick-spent, tick-on}
+use Rattle.turns.specs.declared.level.Level.{Level}
+use Rattle.turns.specs.declared.level.Turn.{Turn}
+use Rattle.turns.specs.Levels.{Sound, goes, resumedBy}
+use Rattle.engine.specs.Stands.{levelAt, putAt, above, through, around, Held}
+use Rattle.engine.proofs.StandLaws.{put-long, put-same, put-other, put-cleared, around-stopped, around-deeper, around-done}
+
+stopped-as : {s : Seen} {l l' : Float} {ws ws' : List ℕ} {ts ts' : List Float} → out s l ws ts ≡ out Stopped l' ws' ts' → s ≡ Stopped
+stopped-as e = cc
+
+not-so : _≡_ {A = Bool} false true → ⊥
+not-so e = let z : _≡_ {A = ℕ} 0 1 = cc in omega arith
+
+-- ---- the fuel
+long-fuel : (ws : List ℕ) → (fuelOf ws ≡ 0 → ⊥) → 256 < length ws
+long-fuel ws h = elim (decLt 256 (length ws)) [
+  | yes l ↦ l
+  | no l ↦ absurd (h (List·getD-eq-default ws 0 (omega arith)))
+]
+
+-- one is used
+pub fuel-used : (ws : List ℕ) → (fuelOf ws ≡ 0 → ⊥) → fuelOf (set ws 256 (fuelOf ws - 1)) < fuelOf ws
+fuel-used ws h = omega (arith, h, getD-set-same ws 256 (fuelOf ws - 1) 0 (long-fuel ws h))
+
+-- what a walk that has not stopped has left
+abbrev Leaves : ℕ → Out → Type 0
+Leaves n (out s l ws ts) = (s ≡ Stopped → ⊥) → fuelOf ws ≡ n
+
+leaves-if : (n : ℕ) (b : Bool) (x y : Out) → Leaves n x → Leaves n y → Leaves n (cond b x y)
+leaves-if n true x y f g = f
+leaves-if n false x y f g = g
+
+module _ (F : Format) (T : Lent) (k : Kind) (p : ℕ) (dt : Float) (ts : List Float) where
+  leaf-leaves : (ws : List ℕ) → Leaves (fuelOf ws) (leaf F T k p dt ws ts)
+  unfolding leaf wait action
+  leaf-leaves ws =
+      leaves-if (fuelOf ws) (is k Wait) _ _
+      (leaves-if (fuelOf ws) (updates ws) _ _
+      (leaves-if (fuelOf ws) (le (numberAt (T .limits) p) (add F (timeAt ts p) dt)) _ _ (λ z. refl) (λ z. refl))
+      (λ z. refl))
+      (leaves-if (fuelOf ws) (is k Action) _ _
+      (leaves-if (fuelOf ws) (ltb (usedOf ws) (length (T .statuses)) && (ltb (usedOf ws) (length (T .leftovers)) && ltb (usedOf ws) 4294967295)) _ _
+      (λ z. getD-set-other ws 257 256 (usedOf ws + 1) 0 (λ e. omega arith))
+      (λ z. absurd (z refl)))
+      (λ z. refl))
+
+seen-leaves : (n p : ℕ) (o : Out) → p < 256 → Leaves n o → Leaves n (seen p o)
+seen-leaves n p (out Stopped l ws ts) h f = λ z. absurd (z refl)
+seen-leaves n p (out Running l ws ts) h f = λ z. getD-set-other ws p 256 _ 0 (λ e. omega arith) ∙ f z
+seen-leaves n p (out Success l ws ts) h f = λ z. getD-set-other ws p 256 _ 0 (λ e. omega arith) ∙ f z
+seen-leaves n p (out Failure l ws ts) h f = λ z. getD-set-other ws p 256 _ 0 (λ e. omega arith) ∙ f z
+
+module _ (F : Format) (T : Lent) (k : Kind) (p : ℕ) (dt : Float) (ws : List ℕ) (ts : List Float) (h : p < 256) where
+  spent-leaf : fuelOf ws ≡ 0 → visitLeaf F T k p dt ws ts ≡ out Stopped zeroTime ws ts
+  unfolding visitLeaf
+  spent-leaf z = rw (eq-eqb (fuelOf ws) 0 z)
+
+  fuelled-leaf : (fuelOf ws ≡ 0 → ⊥) → visitLeaf F T k p dt ws ts ≡ seen p (leaf F T k p dt (set ws 256 (fuelOf ws - 1)) ts)
+  unfolding visitLeaf
+  fuelled-leaf z = rw (ne-eqb (fuelOf ws) 0 z)
+
+  -- a leaf that was visited has used one
+  pub leaf-less : (s : Seen) (l : Float) (ws' : List ℕ) (ts' : List Float) → visitLeaf F T k p dt ws ts ≡ out s l ws' ts' → (s ≡ Stopped → ⊥) → fuelOf ws' < fuelOf ws
+  leaf-less s l ws' ts' e g = elim (decLt 0 (fuelOf ws)) [
+    | yes d ↦
+        let n : fuelOf ws ≡ 0 → ⊥ = (λ z. omega arith) in
+        let w : List ℕ = set ws 256 (fuelOf ws - 1) in
+        let o : Leaves (fuelOf w) (out s l ws' ts') = rw (sym (fuelled-leaf n) ∙ e) at (seen-leaves (fuelOf w) p (leaf F T k p dt w ts) h (leaf-leaves F T k p dt ts w)) in
+        omega (arith, o g, fuel-used ws n)
+    | no d ↦
+        let z : s ≡ Stopped = stopped-as (sym e ∙ spent-leaf (omega arith)) in
+        absurd (g z)
+  ]
+
+-- a visit to the root is its tick, of a leaf too
+leaf-kind : (T : Lent) (v : Visitor) (k : Kind) → isLeaf k ≡ true → (p : ℕ) (dt : Float) (ws : List ℕ) (ts : List Float) → byKind binary64 T v k p dt ws ts ≡ leaf binary64 T k p dt ws ts
+unfolding byKind
+leaf-kind T v Wait h p dt ws ts = refl
+leaf-kind T v WaitForever h p dt ws ts = refl
+leaf-kind T v Action h p dt ws ts = refl
+leaf-kind T v Invert h p dt ws ts = absurd (not-so h)
+leaf-kind T v AlwaysSucceed h p dt ws ts = absurd (not-so h)
+leaf-kind T v Timeout h p dt ws ts = absurd (not-so h)
+leaf-kind T v Select h p dt ws ts = absurd (not-so h)
+leaf-kind T v If h p dt ws ts = absurd (not-so h)
+leaf-kind T v Sequence h p dt ws ts = absurd (not-so h)
+leaf-kind T v MemorylessSequence h p dt ws ts = absurd (not-so h)
+leaf-kind T v MemorylessSelector h p dt ws ts = absurd (not-so h)
+leaf-kind T v While h p dt ws ts = absurd (not-so h)
+leaf-kind T v WhileAll h p dt ws ts = absurd (not-so h)
+leaf-kind T v WhenAll h p dt ws ts = absurd (not-so h)
+leaf-kind T v WhenAny h p dt ws ts = absurd (not-so h)
+leaf-kind T v After h p dt ws ts = absurd (not-so h)
+leaf-kind T v Race h p dt ws ts = absurd (not-so h)
+
+module _ (T : Lent) (x : Float) (ws : List ℕ) (ts : List Float) where
+  abbrev root : Kind
+  root = kindIn (wordAt ws 0)
+
+  root-leaf : isLeaf root ≡ true → tick binary64 T 16 0 x ws ts ≡ visiting binary64 T 16 0 x ws ts
+  unfolding visit visitLeaf tick
+  root-leaf h = rw (h, leaf-kind T (visiting binary64 T 15) root h 0 x (set ws 256 (fuelOf ws - 1)) ts)
+
+  root-node : isLeaf root ≡ false → tick binary64 T 16 0 x ws ts ≡ visiting binary64 T 16 0 x ws ts
+  root-node h = sym (visit-node binary64 T 0 x ws ts (tick binary64 T 16) root _ refl h refl)
+
+  either : (b : Bool) → isLeaf root ≡ b → tick binary64 T 16 0 x ws ts ≡ visiting binary64 T 16 0 x ws ts
+  either true h = root-leaf h
+  either false h = root-node h
+
+  pub visit-root : tick binary64 T 16 0 x ws ts ≡ visiting binary64 T 16 0 x ws ts
+  visit-root = either (isLeaf root) refl
+
+-- ---- down
+module _ (T : Lent) (n : ℕ) (x : Float) (q : ℕ) (ws : List ℕ) (ts : List Float) (k : Kind) (c : k ≡ kindIn (wordAt ws q)) where
+  abbrev due-now : Out
+  due-now = visiting binary64 T (16 - n) q x ws ts
+
+  pub down-leaf : (o : Out) → isLeaf k ≡ true → visitLeaf binary64 T k q x ws ts ≡ o → due-now ≡ o
+  down-leaf o h e = visit-leaf binary64 T q x ws ts (tick binary64 T (16 - n)) k o c h e
+
+  module _ (h : isLeaf k ≡ false) where
+    pub down-spent : fuelOf ws ≡ 0 → due-now ≡ out Stopped zeroTime ws ts
+    down-spent z = visit-node binary64 T q x ws ts (tick binary64 T (16 - n)) k _ c h (tick-spent binary64 T q x ws ts (16 - n) z)
+
+    pub down-deep : 16 ≤ n → due-now ≡ out Stopped zeroTime ws ts
+    down-deep d = visit-node binary64 T q x ws ts (tick binary64 T (16 - n)) k _ c h (tick-zero binary64 T q x ws ts (16 - n) (omega arith))
+
+    module _ (d : n < 16) (f : fuelOf ws ≡ 0 → ⊥) (ws₁ : List ℕ) (a : ws₁ ≡ set ws 256 (fuelOf ws - 1)) where
+      abbrev v : Visitor
+      v = visiting binary64 T (15 - n)
+
+      down-on : (o : Out) → byKind binary64 T v k q x ws₁ ts ≡ o → due-now ≡ seen q o
+      down-on o e =
+          let m : 16 - n - 1 ≡ 15 - n = omega arith in
+          let some : 16 - n ≡ 0 → ⊥ = (λ z. omega arith) in
+          visit-node binary64 T q x ws ts (tick binary64 T (16 - n)) k (seen q o) c h (tick-on binary64 T q x ws ts (16 - n) k o (seen q o) some f c (rw (m, ← a) e) refl)
+
+      module _ (t : Turn) (ws₂ : List ℕ) (ts₂ : List Float) (e : byKind binary64 T v k q x ws₁ ts ≡ goes (resumedBy binary64 T) v t ws₂ ts₂) where
+        pub down-done : t .due ≡ false → (ws₃ : List ℕ) → seen q (out (t .seen) (t .left) ws₂ ts₂) ≡ out (t .seen) (t .left) ws₃ ts₂ → due-now ≡ out (t .seen) (t .left) ws₃ ts₂
+        down-done z ws₃ s = down-on (out (t .seen) (t .left) ws₂ ts₂) (e ∙ rw z) ∙ s
+
+        pub down-due : t .due ≡ true → t .level .node ≡ q
+            → due-now ≡ above binary64 T n (t .level) (visiting binary64 T (16 - suc n) (t .level .child) (t .left) ws₂ ts₂)
+        down-due z p =
+            let m : 16 - suc n ≡ 15 - n = omega arith in
+            rw m (down-on (resumedBy binary64 T v (t .level) (v (t .level .child) (t .left) ws₂ ts₂)) (e ∙ rw z)
+            ∙ ap (λ (j : ℕ). seen j (resumedBy binary64 T v (t .level) (v (t .level .child) (t .left) ws₂ ts₂))) (sym p))
+
+-- ---- up
+module _ (T : Lent) (m : ℕ) (e : Level) (r : Levels) (o : Out) (t : Turn) (ws : List ℕ) (ts : List Float)
+    (a : resumedBy binary64 T (visiting binary64 T (15 - m)) e o ≡ goes (resumedBy binary64 T) (visiting binary64 T (15 - m)) t ws ts) (p : t .level .node ≡ e .node) where
+  pub up-due : t .due ≡ true → around binary64 T (suc m) e r o ≡ around binary64 T (suc m) (t .level) r (visiting binary64 T (16 - suc m) (t .level .child) (t .left) ws ts)
+  up-due z = let k : 16 - suc m ≡ 15 - m = omega arith in rw (k, a, z, p)
+
+  pub up-done : t .due ≡ false → (ws₁ : List ℕ) → seen (e .node) (out (t .seen) (t .left) ws ts) ≡ out (t .seen) (t .left) ws₁ ts
+      → (e' : Level) → ((j : ℕ) → m ≡ suc j → e' ≡ levelAt r j) → around binary64 T (suc m) e r o ≡ around binary64 T m e' r (out (t .seen) (t .left) ws₁ ts)
+  up-done z ws₁ s e' q = around-done binary64 T m e e' r o _ (rw (a, z) s) q

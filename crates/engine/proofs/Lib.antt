@@ -1,0 +1,3 @@
+mod StandLaws
+mod ClimbLaws
+mod Ways

@@ -1,0 +1,29 @@
+-- Each number goes into its slice.
+use borrow.Author.Needs.{needs}
+use native.Mathlib.Omega.{arith}
+use Rattle.engine.specs.Stands.{putAt}
+use Rattle.engine.proofs.room.keep.Statement.{statement}
+use Rattle.engine.proofs.room.keep.Tie as tie
+
+returns : tie.Need-returns
+unfolding putAt
+returns c = rw (c .packed .ensures)
+
+pub keep-spec : {M : Type 1} → statement M
+keep-spec =
+    tie.close
+    (tie.spec
+    (λ c κs. search needs)
+    (λ c. search needs)
+    (λ c. search needs)
+    (λ c. search needs)
+    (λ c. search needs)
+    (λ c. search needs)
+    (λ c. search needs)
+    (λ c. search needs)
+    (λ c. search needs)
+    (λ c. search needs)
+    (λ c. search needs)
+    (λ c. search needs)
+    (λ c. search needs)
+    returns)

@@ -1,0 +1,127 @@
+// The lent room: an entry for each level, in four slices. The places of an open node, its index and its kind
+// stand in one number, nine bits each.
+use rules::Kind;
+use turns::Level;
+ghost use mathlib.Core.Path.{_≡_};
+ghost use mathlib.Core.List.{_++_};
+ghost use Prim.Native.Nat.{_≤_, _<_};
+ghost use lib.ListN.{length, drop, replicate};
+ghost use Rattle.rules.specs.Tree.{zeroTime};
+ghost use Rattle.rules.specs.Levels.{levels, entries, cleared};
+ghost use Rattle.turns.specs.Levels.{Fine};
+ghost use Rattle.engine.specs.Stands.{packedIn, unpackedFrom, levelAt, putAt};
+
+fn clear_opens(opens: &mut [u64])
+    requires { ⌜ 16 ≤ length (now opens) ⌝ }
+    ensures { λ _. ⌜ now (opens .exit) ≡ replicate 16 0 ++ drop 16 (now (opens .entry)) ⌝ }
+{
+    let mut i = 0;
+    while i < 16 {
+        opens[i] = 0;
+        i += 1;
+    }
+}
+
+fn clear_counts(counts: &mut [u32])
+    requires { ⌜ 16 ≤ length (now counts) ⌝ }
+    ensures { λ _. ⌜ now (counts .exit) ≡ replicate 16 0 ++ drop 16 (now (counts .entry)) ⌝ }
+{
+    let mut i = 0;
+    while i < 16 {
+        counts[i] = 0;
+        i += 1;
+    }
+}
+
+fn clear_numbers(numbers: &mut [f64])
+    requires { ⌜ 16 ≤ length (now numbers) ⌝ }
+    ensures { λ _. ⌜ now (numbers .exit) ≡ replicate 16 zeroTime ++ drop 16 (now (numbers .entry)) ⌝ }
+{
+    let mut i = 0;
+    while i < 16 {
+        numbers[i] = 0.0;
+        i += 1;
+    }
+}
+
+// All sixteen entries are made zero.
+pub fn clear(opens: &mut [u64], counts: &mut [u32], wholes: &mut [f64], rests: &mut [f64])
+    requires { ⌜ 16 ≤ entries (levels (now opens) (now counts) (now wholes) (now rests)) ⌝ }
+    ensures { λ _. ⌜
+        levels (now (opens .exit)) (now (counts .exit)) (now (wholes .exit)) (now (rests .exit))
+        ≡ cleared (levels (now (opens .entry)) (now (counts .entry)) (now (wholes .entry)) (now (rests .entry)))
+        ⌝ }
+{
+    clear_opens(opens);
+    clear_counts(counts);
+    clear_numbers(wholes);
+    clear_numbers(rests);
+}
+
+fn wide(x: usize) -> u64
+    ensures { λ r. ⌜ r ≡ x ⌝ }
+{
+    x as u64
+}
+
+fn packed(level: Level) -> u64
+    requires { ⌜ Fine level ⌝ }
+    ensures { λ r. ⌜ r ≡ packedIn level ⌝ }
+{
+    let kind = level.kind;
+    let index = level.index as u64 + 512 * kind.number() as u64;
+    let stop = wide(level.stop) + 512 * index;
+    let next = wide(level.next) + 512 * stop;
+    let child = wide(level.child) + 512 * next;
+    wide(level.node) + 512 * child
+}
+
+// The level that was packed into x, with its count and times.
+fn unpacked(x: u64, count: u32, whole: f64, rest: f64) -> Level
+    ensures { λ r. ⌜ r ≡ unpackedFrom x count whole rest ⌝ }
+{
+    let child = x / 512;
+    let next = child / 512;
+    let stop = next / 512;
+    let index = stop / 512;
+    let kind = index / 512;
+    Level {
+        kind: Kind::of((kind % 256) as u8),
+        node: (x % 512) as usize,
+        child: (child % 512) as usize,
+        next: (next % 512) as usize,
+        stop: (stop % 512) as usize,
+        index: (index % 512) as u32,
+        count,
+        whole,
+        rest,
+    }
+}
+
+pub fn keep(
+    opens: &mut [u64],
+    counts: &mut [u32],
+    wholes: &mut [f64],
+    rests: &mut [f64],
+    at: usize,
+    level: Level,
+)
+    requires { ⌜ at < entries (levels (now opens) (now counts) (now wholes) (now rests)) ⌝ }
+    requires { ⌜ Fine level ⌝ }
+    ensures { λ _. ⌜
+        levels (now (opens .exit)) (now (counts .exit)) (now (wholes .exit)) (now (rests .exit))
+        ≡ putAt (levels (now (opens .entry)) (now (counts .entry)) (now (wholes .entry)) (now (rests .entry))) at level
+        ⌝ }
+{
+    opens[at] = packed(level);
+    counts[at] = level.count;
+    wholes[at] = level.whole;
+    rests[at] = level.rest;
+}
+
+pub fn kept(opens: &[u64], counts: &[u32], wholes: &[f64], rests: &[f64], at: usize) -> Level
+    requires { ⌜ at < entries (levels (now opens) (now counts) (now wholes) (now rests)) ⌝ }
+    ensures { λ r. ⌜ r ≡ levelAt (levels (now (opens .entry)) (now (counts .entry)) (now (wholes .entry)) (now (rests .entry))) at ⌝ }
+{
+    unpacked(opens[at], counts[at], wholes[at], rests[at])
+}

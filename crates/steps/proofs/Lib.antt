@@ -1,0 +1,6 @@
+pub mod Arms
+pub mod Copies
+pub mod Lengths
+pub mod Gates
+pub mod Columns
+pub mod Walks

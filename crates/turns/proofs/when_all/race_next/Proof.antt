@@ -1,0 +1,32 @@
+-- The child that is due, or none.
+use mathlib.Core.Path.{_≡_, refl}
+use native.Mathlib.Omega.{arith}
+use borrow.Author.Needs.{needs}
+use Rattle.turns.proofs.TurnLaws.{done-not, done-keeps}
+use Rattle.turns.proofs.WhenAllLaws.{race-over, race-due}
+use Rattle.turns.proofs.when_all.race_next.Statement.{statement}
+use Rattle.turns.proofs.when_all.race_next.Tie as tie
+
+returns : tie.Need-returns
+returns c =
+    let wait = c .before in
+    let d = c .done .ensures in
+    ((λ v ts. rw (d, wait .waiting .ensures) (race-over v _ _ 256 _ _ ts (wait .before .if1 .taken))), (done-keeps _ _ _ d, (λ h. absurd (done-not _ _ _ d h))))
+
+returns-2 : tie.Need-returns-2
+returns-2 c =
+    let end-of = c .before in
+    let p = end-of .before .before .before .pre in
+    let e = end-of .end-of .ensures in
+    let l = end-of .before .if1 .left in (
+      (λ v ts. rw (c .due .ensures) (race-due v _ _ (p .1 .1 .0) _ _ _ ts l (e .0))),
+      (
+        rw (c .due .ensures) (record { kind = refl; node = refl; fine = λ h. search needs }),
+        rw (c .due .ensures) (λ h. e .2 (omega arith)),
+      ),
+    )
+
+pub race-next-spec : {M : Type 1} → statement M
+race-next-spec =
+    tie.close
+    (tie.spec (λ c κs. search needs) (λ c κs. search needs) returns (λ c κs. search needs) (λ c κs. search needs) returns-2)
