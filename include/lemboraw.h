@@ -50,7 +50,7 @@ extern "C" {
 #define LEMBORAW_MOST_NODES 256
 #define LEMBORAW_MOST_DEPTH 16
 
-/* More stack than any call takes, in bytes: a tick of a tree 16 deep takes about 6,200. */
+/* More stack than any call takes, in bytes: a tick of a tree 16 deep takes about 6,300. */
 #define LEMBORAW_STACK 8192
 
 /* The same for a tick or restart without recursion, whatever the tree. */
