@@ -1,5 +1,4 @@
 pub mod Shape
-pub mod Post
 pub mod Memory
 pub mod Tables
 pub mod Tests

@@ -48,10 +48,10 @@ mark-marked (node k n l c b ts) = refl
 
 -- ---- how many nodes, how many children, how deep
 abbrev mutual
-  sizeOf : Shape → ℕ
+  pub sizeOf : Shape → ℕ
   sizeOf (shp k n l ss) = suc (sizesOf ss)
 
-  sizesOf : Shapes → ℕ
+  pub sizesOf : Shapes → ℕ
   sizesOf [] = 0
   sizesOf (s ∷ ss) = sizeOf s + sizesOf ss
 
@@ -70,7 +70,7 @@ countOf (s ∷ ss) = suc (countOf ss)
 mutual
   unfolding size
 
-  size-of : (t : Tree) → size t ≡ sizeOf (shape t)
+  pub size-of : (t : Tree) → size t ≡ sizeOf (shape t)
   size-of (node k n l c b ts) = ap (λ (z : ℕ). suc z) (sizes-of ts)
 
   sizes-of : (ts : Forest) → sizes ts ≡ sizesOf (shapes ts)

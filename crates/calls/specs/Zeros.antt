@@ -15,7 +15,8 @@ use Rattle.rules.specs.State.{tick}
 use Rattle.rules.specs.Table.{mostDeep, cleaned, Row, row, rows, good, bad, whole, readTree, table}
 use Rattle.rules.specs.Cells.{Found, faulty, none, badCell}
 use Rattle.rules.specs.Board.{shown}
-use Rattle.rules.specs.Call.{Given, Left, left, answers, answerAllowed, badAnswer, cleanedEvent, timeAllowed, counted, ontoRun, ontoBoard, sinceIn, spared, refused, walked, tooShort, onTable, onInputs, atEntry, walkFrom, tickCall, restartCall}
+use Rattle.rules.specs.Call.{Given, Left, left, answers, answerAllowed, badAnswer, cleanedEvent, timeAllowed, counted, ontoRun, ontoBoard, sinceIn, spared, refused, walked}
+use Rattle.rules.specs.Call.{tooShort, onTable, onInputs, atEntry, walkFrom, tickCall, restartCall}
 use Rattle.rules.specs.Bound.{boundCall}
 
 -- the call with another event, and with other numbers

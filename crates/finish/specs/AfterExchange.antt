@@ -1,7 +1,7 @@
 -- Demand 3 from an exchange on, with the new tree's bound: the first tree started fresh, each tick, restart and exchange since took up what the last one
 -- left, the ticks before were of demand 3's kind, and no tree before is refused with 8.
-use mathlib.Core.Path.{_≡_, refl, sym, ap, subst, _∙_}
-use mathlib.Core.Bool.{true, false}
+use mathlib.Core.Path.{_≡_, sym, subst, _∙_}
+use mathlib.Core.Bool.{false}
 use mathlib.Core.List.{List}
 use Prim.Native.Nat.{ℕ}
 use lib.Dec.{T}

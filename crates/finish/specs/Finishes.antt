@@ -1,7 +1,8 @@
 -- Demand 3, one tick of a tree: a state of the tree stays one, and a tick of d or more takes one from the number of ticks that are still enough.
 -- The tick has a whole time, and the answers that it used have whole leftovers.
-use mathlib.Core.Path.{_≡_, _∙_, subst}
+use mathlib.Core.Path.{_≡_, _∙_}
 use mathlib.Core.List.{List}
+use mathlib.Core.List
 use Prim.Native.Nat.{ℕ, zero, suc, _+_, _-_, _≤_, _<_}
 use native.Mathlib.Nat.{le-refl}
 use native.Mathlib.Omega.{arith}
@@ -25,8 +26,8 @@ use Rattle.finish.specs.Valid.{Valid}
 use Rattle.finish.specs.Fresh.{fresh-valid}
 use Rattle.finish.specs.Ranks.{still-pos, valid-still}
 use Rattle.finish.specs.Boards.{valid-clear, still-clear}
-use Rattle.finish.specs.Post.{WAll, Post, TickQ}
-use Rattle.finish.specs.Ticks.{tick-good}
+use Rattle.finish.specs.Post.{WAll, TickQ}
+use Rattle.finish.specs.Ticks.{tick-told}
 use Rattle.finish.specs.Bounds.{enough}
 
 module _ (F : Format) where
@@ -46,8 +47,8 @@ module _ (F : Format) where
     pub whole-tick : (depth : ℕ) (t' : Tree) (x : Float) (fuel : ℕ) (ans left : List (Status × Float)) (s' : Status) (r : Float) (t'' : Tree) (f : ℕ) → State t t'
         → W F x → WAll F (take (length ans - length left) ans) → tick F depth t' (Update x) (world fuel ans) ≡ done s' r t'' (world f left) → TickQ F d (Update x) t' s' r t''
     whole-tick depth t' x fuel ans left s' r t'' f st wx wa q =
-        subst (Post F (TickQ F d (Update x) t')) (used-alone F depth t' (Update x) fuel s' r t'' f ans left q)
-        (tick-good F d depth t' (Update x) (world fuel (take (length ans - length left) ans)) (rw (st .0) s) (st .1) wx wa) .1
+        tick-told F d depth t' (Update x) (world fuel (take (length ans - length left) ans)) s' r t'' (world f List.[]) (rw (st .0) s) (st .1) wx wa
+        (used-alone F depth t' (Update x) fuel s' r t'' f ans left q)
 
     -- ---- a state stays a state, with a bound or without
     abbrev pub Is : Tree → ℕ → Type 0

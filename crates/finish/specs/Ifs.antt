@@ -1,5 +1,5 @@
 -- A tick of If: the condition, then the chosen branch.
-use mathlib.Core.Path.{_≡_, _∙_}
+use mathlib.Core.Path.{_≡_, refl, _∙_}
 use Prim.Native.Nat.{ℕ, zero, suc, _+_, _≤_}
 use native.Mathlib.Omega.{arith}
 use lib.Ieee.{Float, Format}
@@ -7,17 +7,18 @@ use Rattle.rules.specs.declared.status.Status.the-variants.{Running, Success, F
 use Rattle.rules.specs.declared.event.Event.{Event}
 use Rattle.rules.specs.declared.event.Event.the-variants.{Update}
 use Rattle.rules.specs.Tree.{Tree, Forest, [], _∷_, fresh}
-use Rattle.rules.specs.Outcome.{World, Ticker}
+use Rattle.rules.specs.Outcome.{Ticker}
 use Rattle.rules.specs.State.{ifAt}
 use Rattle.whole.specs.Times.{W}
-use Rattle.calls.specs.Shape.{Shape, shape, shapes, fresh-shape}
+use Rattle.calls.specs.Shape.{shapes, fresh-shape}
 use Rattle.finish.specs.Shaped.{Shaped₃}
-use Rattle.calls.specs.Shape
+use Rattle.laws.specs.Pair.{Pairing, Known, stay, cut, after}
+use Rattle.laws.specs.PairDrivers.{join}
 use Rattle.finish.specs.Enough.{EnoughMax, Still, StillIf}
 use Rattle.finish.specs.Valid.{ValidAt}
 use Rattle.finish.specs.Fresh.{fresh-valid}
 use Rattle.finish.specs.Ranks.{still-pos, valid-at}
-use Rattle.finish.specs.Post.{WWorld, bind, Claim, Q, Holds, ticking, TickQ, Good}
+use Rattle.finish.specs.Post.{Claim, ticking, Holds, Good}
 
 module _ (F : Format) (d : ℕ) where
   abbrev pub IfC : Event → ℕ × Forest → Claim (ℕ × Forest)
@@ -45,48 +46,33 @@ module _ (F : Format) (d : ℕ) where
       pick zero h y = absurd (still-pos F d t y)
       pick (suc a) h y = (a, omega arith, f a y)
 
-  module _ (child : Ticker) (g : Good F d child) where
-    pub if-good : (p : ℕ) (ts : Forest) (y : Float) (w : World) → Shaped₃ F (shapes ts) → ValidAt F ts p → W F y → WWorld F w → Holds F (IfC (Update y) (p, ts)) (ifAt child p (Update y) ts w)
-    if-good p [] y w s v ev wv = absurd s
-    if-good p (c ∷ []) y w s v ev wv = absurd (s .1)
-    if-good p (c ∷ a ∷ []) y w s v ev wv = absurd (s .1 .1)
-    if-good zero (c ∷ a ∷ z ∷ ts) y w s v ev wv =
-        bind F (TickQ F d (Update y) c) (Q F (IfC (Update y) (0, c ∷ a ∷ z ∷ ts))) (child c (Update y) w) _ (g c (Update y) w (s .0) v ev wv) λ s'. elim s' [
-          | Running ↦ λ r c' w' wv' q. (wv', (q .1 .0, λ full j u. if-down c c' (a ∷ z ∷ ts) j (q .1 .1 full) u))
-          | Success ↦ λ r c' w' wv' q.
-              bind F (TickQ F d (Update r) (fresh a)) (Q F (IfC (Update y) (0, c ∷ a ∷ z ∷ ts))) (child (fresh a) (Update r) w') _
-              (g (fresh a) (Update r) w' (rw (fresh-shape a) (s .1 .0)) (fresh-valid F a (s .1 .0)) (q .1) wv') λ s''. elim s'' [
-                | Running ↦ λ r' a' w'' wv'' q'. (
-                  wv'',
-                  (q' .1 .0, λ full j u. if-over c (fresh c') (a ∷ z ∷ ts) (a' ∷ z ∷ ts) 0 j (λ i. Shape._∷_ ((q' .0 .0 ∙ fresh-shape a) i) (shapes (z ∷ ts))) (q' .1 .0) u),
-                )
-                | Success ↦ λ r' a' w'' wv'' q'. (wv'', q' .1)
-                | Failure ↦ λ r' a' w'' wv'' q'. (wv'', q' .1)
-              ]
-          | Failure ↦ λ r c' w' wv' q.
-              bind F (TickQ F d (Update r) (fresh z)) (Q F (IfC (Update y) (0, c ∷ a ∷ z ∷ ts))) (child (fresh z) (Update r) w') _
-              (g (fresh z) (Update r) w' (rw (fresh-shape z) (s .1 .1 .0)) (fresh-valid F z (s .1 .1 .0)) (q .1) wv') λ s''. elim s'' [
-                | Running ↦ λ r' a' w'' wv'' q'. (
-                  wv'',
-                  (
-                    q' .1 .0,
-                    λ full j u. if-over c (fresh c') (a ∷ z ∷ ts) (a ∷ a' ∷ ts) 1 j (λ i. Shape._∷_ (shape a) (Shape._∷_ ((q' .0 .0 ∙ fresh-shape z) i) (shapes ts))) (q' .1 .0) u,
-                  ),
-                )
-                | Success ↦ λ r' a' w'' wv'' q'. (wv'', q' .1)
-                | Failure ↦ λ r' a' w'' wv'' q'. (wv'', q' .1)
-              ]
-        ]
-    if-good (suc zero) (c ∷ a ∷ z ∷ ts) y w s v ev wv =
-        bind F (TickQ F d (Update y) a) (Q F (IfC (Update y) (1, c ∷ a ∷ z ∷ ts))) (child a (Update y) w) _ (g a (Update y) w (s .1 .0) v ev wv) λ s'. elim s' [
-          | Running ↦ λ r a' w' wv' q. (wv', (q .1 .0, λ full j u. branch-down a a' j (q .1 .1 full) u))
-          | Success ↦ λ r a' w' wv' q. (wv', q .1)
-          | Failure ↦ λ r a' w' wv' q. (wv', q .1)
-        ]
-    if-good (suc (suc zero)) (c ∷ a ∷ z ∷ ts) y w s v ev wv =
-        bind F (TickQ F d (Update y) z) (Q F (IfC (Update y) (2, c ∷ a ∷ z ∷ ts))) (child z (Update y) w) _ (g z (Update y) w (s .1 .1 .0) v ev wv) λ s'. elim s' [
-          | Running ↦ λ r a' w' wv' q. (wv', (q .1 .0, λ full j u. branch-down z a' j (q .1 .1 full) u))
-          | Success ↦ λ r a' w' wv' q. (wv', q .1)
-          | Failure ↦ λ r a' w' wv' q. (wv', q .1)
-        ]
-    if-good (suc (suc (suc p))) (c ∷ a ∷ z ∷ ts) y w s v ev wv = tt
+  -- `unasked`: a walk that is short is let be
+  module _ (R : Pairing F) (unasked : Known R ⊥) (child : Ticker) (g : Good R d child) where
+    pub if-good : (n : ℕ) (ts : Forest) (y : Float) (p : R .Worlds) → Shaped₃ F (shapes ts) → ValidAt F ts n → W F y → Holds R (IfC (Update y) (n, ts)) p (λ w. ifAt child n (Update y) ts w)
+    if-good n [] y p s v ev = absurd s
+    if-good n (c ∷ []) y p s v ev = absurd (s .1)
+    if-good n (c ∷ a ∷ []) y p s v ev = absurd (s .1 .1)
+    if-good zero (c ∷ a ∷ z ∷ ts) y p s v ev = after R (g c (Update y) p (s .0) v ev) λ s'. elim s' [
+      | Running ↦ λ r c' p' q. stay R (q .1 .0, λ full j u. if-down c c' (a ∷ z ∷ ts) j (q .1 .1 full) u)
+      | Success ↦ λ r c' p' q. after R (g (fresh a) (Update r) p' (rw (fresh-shape a) (s .1 .0)) (fresh-valid F a (s .1 .0)) (q .1)) λ s''. elim s'' [
+        | Running ↦ λ r' a' p'' q'. stay R (q' .1 .0, λ full j u. if-over c (fresh c') (a ∷ z ∷ ts) (a' ∷ z ∷ ts) 0 j (join (q' .0 .0 ∙ fresh-shape a) refl) (q' .1 .0) u)
+        | Success ↦ λ r' a' p'' q'. stay R (q' .1)
+        | Failure ↦ λ r' a' p'' q'. stay R (q' .1)
+      ]
+      | Failure ↦ λ r c' p' q. after R (g (fresh z) (Update r) p' (rw (fresh-shape z) (s .1 .1 .0)) (fresh-valid F z (s .1 .1 .0)) (q .1)) λ s''. elim s'' [
+        | Running ↦ λ r' a' p'' q'. stay R (q' .1 .0, λ full j u. if-over c (fresh c') (a ∷ z ∷ ts) (a ∷ a' ∷ ts) 1 j (join refl (join (q' .0 .0 ∙ fresh-shape z) refl)) (q' .1 .0) u)
+        | Success ↦ λ r' a' p'' q'. stay R (q' .1)
+        | Failure ↦ λ r' a' p'' q'. stay R (q' .1)
+      ]
+    ]
+    if-good (suc zero) (c ∷ a ∷ z ∷ ts) y p s v ev = after R (g a (Update y) p (s .1 .0) v ev) λ s'. elim s' [
+      | Running ↦ λ r a' p' q. stay R (q .1 .0, λ full j u. branch-down a a' j (q .1 .1 full) u)
+      | Success ↦ λ r a' p' q. stay R (q .1)
+      | Failure ↦ λ r a' p' q. stay R (q .1)
+    ]
+    if-good (suc (suc zero)) (c ∷ a ∷ z ∷ ts) y p s v ev = after R (g z (Update y) p (s .1 .1 .0) v ev) λ s'. elim s' [
+      | Running ↦ λ r a' p' q. stay R (q .1 .0, λ full j u. branch-down z a' j (q .1 .1 full) u)
+      | Success ↦ λ r a' p' q. stay R (q .1)
+      | Failure ↦ λ r a' p' q. stay R (q .1)
+    ]
+    if-good (suc (suc (suc n))) (c ∷ a ∷ z ∷ ts) y p s v ev = cut R unasked

@@ -1,11 +1,10 @@
 -- One tick, of every kind: it keeps a tree valid, and a tick of d or more lowers the number of ticks that are still enough.
-use mathlib.Core.Path.{_≡_}
+use mathlib.Core.Path.{_≡_, refl, subst}
 use mathlib.Core.Logic.{inr}
 use mathlib.Core.List.{List}
 use mathlib.Core.List
 use Prim.Native.Nat.{ℕ, zero, suc, _+_, _*_, _≤_}
 use native.Mathlib.Omega.{arith}
-use lib.Dec.{T}
 use lib.Ieee.{Float, Format}
 use Rattle.rules.specs.declared.behavior.Kind.{Kind}
 use Rattle.rules.specs.declared.behavior.Kind.the-variants.{Wait, WaitForever, Action, Invert, AlwaysSucceed, Timeout, Select, If, Sequence}
@@ -15,48 +14,29 @@ use Rattle.rules.specs.declared.status.Status.the-variants.{Running, Success, F
 use Rattle.rules.specs.declared.event.Event.{Event}
 use Rattle.rules.specs.declared.event.Event.the-variants.{Update, Other}
 use Rattle.rules.specs.Tree.{Cell, withPlace, Tree, node, Forest, [], _∷_}
-use Rattle.rules.specs.Outcome.{dt, World, world, Out, done, asks, short, Ticker, _▸_, exchange, exchanging, largest}
-use Rattle.rules.specs.Sequence.{sequenceAt, memoryless}
-use Rattle.rules.specs.WhenAll.{whenAll, raceFrom, afterAt}
-use Rattle.rules.specs.Loops.{budget, whileBody, whileAll}
-use Rattle.rules.specs.State.{atPlace, inCell, ifAt, rule, tick}
+use Rattle.rules.specs.Outcome.{dt, World, world, Out, done, asks, short, Ticker, _▸_, exchanging}
+use Rattle.rules.specs.State.{rule, tick}
 use Rattle.rules.specs.Bound.{num}
 use Rattle.whole.specs.Times.{W}
+use Rattle.laws.specs.Pair.{nothing, Pairing, Known, Sim, goes, ends, back, stay, after}
 use Rattle.laws.specs.PairDrivers.{Same}
-use Rattle.laws.specs.Alone.{AfterTick, tick-keeps}
-use Rattle.calls.specs.Shape.{Shape, shp, Shapes, shapes}
-use Rattle.finish.specs.Shaped.{Shaped, Shapeds, Shaped₁}
+use Rattle.laws.specs.PairRules.{ruleWith, rule-with, leave}
+use Rattle.laws.specs.Alone.{NotDone, stop-on, AfterTick, tick-keeps}
+use Rattle.calls.specs.Shape.{Shape, shp, Shapes, shape, shapes}
 use Rattle.calls.specs.Shape
-use Rattle.finish.specs.Enough.{EnoughEmpty, EnoughSum, Still, StillSum, StillIf, StillUnmarked, StillFrom, StillMin, StillLoop}
-use Rattle.finish.specs.Valid.{openOrNone, Valid, ValidAt, ValidAll, ValidFrom, ValidMarks}
+use Rattle.finish.specs.Shaped.{Shaped, Shapeds, Shaped₁}
+use Rattle.finish.specs.Enough.{EnoughSum, Still, StillSum, StillLoop}
+use Rattle.finish.specs.Valid.{Valid}
 use Rattle.finish.specs.Ranks.{still-pos, stillsum-pos}
-use Rattle.finish.specs.Post.{WWorld, Post, bind, Q, Holds, claim-map, ticking, TickC, TickQ, Good, exchange-post, exchanging-good, running, NodeC, NodeQ}
-use Rattle.finish.specs.Sequences.{SeqC, seq-good, MemC, mem-good}
-use Rattle.finish.specs.Whens.{WhenC, when-good, race-good}
+use Rattle.finish.specs.Post.{WWorld, WEvent, Q, TickC, TickQ, NodeC, Holds, claim-map, exchange-holds, Good, exchanging-good}
+use Rattle.finish.specs.Sequences.{seq-good, mem-good}
+use Rattle.finish.specs.Whens.{when-good, race-good}
 use Rattle.finish.specs.Afters.{after-good}
-use Rattle.finish.specs.Whiles.{BodyC, body-good, Turn, LoopC, loop-good}
+use Rattle.finish.specs.Whiles.{body-good, Turn, loop-good}
 use Rattle.finish.specs.Waits.{wait-good, timeout-good}
 use Rattle.finish.specs.Ifs.{if-good}
 
 module _ (F : Format) (d : ℕ) where
-  -- ---- from a driver to its node
-  module _ (k : Kind) (n : ℕ) (l : Float) (c : Cell) (b : ℕ) (ts : Forest) (e : Event) where
-    place-node : (K : ℕ × Forest → Type 0) (L : ℕ × Forest → ℕ → Type 0)
-        → ((y : ℕ × Forest) → K y → Valid F (running F d k n l (withPlace (y .0) c, y .1)))
-        → ((j : ℕ) → Still d (node k n l c b ts) j → L (c .place, ts) j)
-        → ((y : ℕ × Forest) (j : ℕ) → L y j → Still d (running F d k n l (withPlace (y .0) c, y .1)) j)
-        → (o : Out (ℕ × Forest)) → Holds F (ticking F d K L e (c .place, ts)) o → Holds F (NodeC F d k n l c b ts e) (atPlace c o)
-    place-node K L valid from to = claim-map F (ticking F d K L e (c .place, ts)) (NodeC F d k n l c b ts e) (λ y. (withPlace (y .0) c, y .1))
-        (λ y v dn. (valid y v, λ full j z. to y j (dn full j (from (suc j) z))))
-
-    cell-node : (K : Forest → Type 0) (L : Forest → ℕ → Type 0)
-        → ((us : Forest) → K us → Valid F (running F d k n l (c, us)))
-        → ((j : ℕ) → Still d (node k n l c b ts) j → L ts j)
-        → ((us : Forest) (j : ℕ) → L us j → Still d (running F d k n l (c, us)) j)
-        → (o : Out Forest) → Holds F (ticking F d K L e ts) o → Holds F (NodeC F d k n l c b ts e) (inCell c o)
-    cell-node K L valid from to =
-        claim-map F (ticking F d K L e ts) (NodeC F d k n l c b ts e) (λ us. (c, us)) (λ us v dn. (valid us v, λ full j z. to us j (dn full j (from (suc j) z))))
-
   shaped-all : (ss : Shapes) → Shaped₁ F ss → Shapeds F ss
   shaped-all Shape.[] h = absurd h
   shaped-all (Shape._∷_ s ss) h = h
@@ -73,112 +53,126 @@ module _ (F : Format) (d : ℕ) where
       pick a b zero h k y z u = absurd (stillsum-pos F d ts p u)
       pick a b (suc m) h k y z u = (a, b, m, omega arith, k, y, z, inr (full, u))
 
-  loop-node : (n : ℕ) (l : Float) (c : Cell) (b : ℕ) (t : Tree) (ts : Forest) (e : Event) (o : Out (ℕ × Forest))
-      → Holds F (LoopC F d e e t ts (c .place)) o → Holds F (NodeC F d WhileAll n l c b (t ∷ ts) e) (atPlace c o)
-  loop-node n l c b t ts e = claim-map F (LoopC F d e e t ts (c .place)) (NodeC F d WhileAll n l c b (t ∷ ts) e) (λ y. (withPlace (y .0) c, y .1))
-      (λ y v dn. (v, λ full j z. dn full j (loop-turn e t ts (c .place) j full z)))
+  -- ---- a rule, by its kind, in whichever worlds it walks. `unasked`: a walk that is short is let be; `acts`: what an action is answered is whole
+  module _ (R : Pairing F) (unasked : Known R ⊥) (child : Ticker) (g : Good R d child)
+      (acts : (n : ℕ) (l : Float) (c : Cell) (b : ℕ) (ts : Forest) (e : Event) (p : R .Worlds) → Holds R (NodeC F d Action n l c b ts e) p (λ w. rule F child Action n l c e ts w)) where
+    rule-good : (m : ℕ) (k : Kind) (n : ℕ) (l : Float) (c : Cell) (b : ℕ) (ts : Forest) (y : Float) (p : R .Worlds) → Shaped F (shp k n l (shapes ts)) → Valid F (node k n l c b ts) → W F y
+        → Holds R (NodeC F d k n l c b ts (Update y)) p (λ w. ruleWith m F child k n l c (Update y) ts w)
+    unfolding ruleWith
+    rule-good m Action n l c b ts y p s v ev = acts n l c b ts (Update y) p
+    rule-good m Invert n l c b [] y p s v ev = absurd s
+    rule-good m Invert n l c b (t ∷ ts) y p s v ev = after R (g t (Update y) p (s .0) v ev) λ s'. elim s' [
+      | Running ↦ λ r t' p' q. stay R (q .1)
+      | Success ↦ λ r t' p' q. stay R (q .1)
+      | Failure ↦ λ r t' p' q. stay R (q .1)
+    ]
+    rule-good m AlwaysSucceed n l c b [] y p s v ev = absurd s
+    rule-good m AlwaysSucceed n l c b (t ∷ ts) y p s v ev = after R (g t (Update y) p (s .0) v ev) λ s'. elim s' [
+      | Running ↦ λ r t' p' q. stay R (q .1)
+      | Success ↦ λ r t' p' q. stay R (q .1)
+      | Failure ↦ λ r t' p' q. stay R (q .1)
+    ]
+    rule-good m Wait n l c b ts y p s v ev = wait-good F d R child g n l c b ts (Update y) p s (v .0) (v .1) ev
+    rule-good m WaitForever n l c b ts y p s v ev = stay R (tt, λ full j z. absurd z)
+    rule-good m Timeout n l c b [] y p s v ev = absurd (s .1)
+    rule-good m Timeout n l c b (t ∷ ts) y p s v ev = timeout-good F d R child g n l c b t ts (Update y) p (s .0) (v .0) (v .1) (s .1 .0) (v .2) ev
+    rule-good m If n l c b ts y p s v ev = claim-map R (λ z. (withPlace (z .0) c, z .1)) (λ z k dn. (k, dn)) (if-good F d R unasked child g (c .place) ts y p s v ev)
+    rule-good m Sequence n l c b ts y p s v ev =
+        claim-map R (λ z. (withPlace (z .0) c, z .1)) (λ z k dn. (k .1, dn)) (seq-good F d R child g (Update y) ts (c .place) p (shaped-all (shapes ts) s) v ev)
+    rule-good m Select n l c b ts y p s v ev =
+        claim-map R (λ z. (withPlace (z .0) c, z .1)) (λ z k dn. (k .1, dn))
+        (exchange-holds R (seq-good F d R (exchanging child) (exchanging-good R d child g) (Update y) ts (c .place) p (shaped-all (shapes ts) s) v ev))
+    rule-good m MemorylessSequence n l c b ts y p s v ev = claim-map R (λ us. (c, us)) (λ us k dn. (k, dn)) (mem-good F d R child g y ts p s ev)
+    rule-good m MemorylessSelector n l c b ts y p s v ev = claim-map R (λ us. (c, us)) (λ us k dn. (k, dn))
+        (exchange-holds R (mem-good F d R (exchanging child) (exchanging-good R d child g) y ts p s ev))
+    rule-good m While n l c b [] y p s v ev = absurd s
+    rule-good m While n l c b (t ∷ ts) y p s v ev = after R (g t (Update y) p (s .0) (v .0) ev) λ s'. elim s' [
+      | Running ↦ λ r t' p' q. claim-map R (λ z. (withPlace (z .0) c, t' ∷ z .1))
+          (λ z k dn. ((q .1 .0, k), λ full j x. q .1 .1 full j x)) (body-good F d R unasked child g m y ts (c .place) p' (shaped-all (shapes ts) (s .1)) (v .1) ev)
+      | Success ↦ λ r t' p' q. stay R (q .1)
+      | Failure ↦ λ r t' p' q. stay R (q .1)
+    ]
+    rule-good m WhileAll n l c b [] y p s v ev = absurd s
+    rule-good m WhileAll n l c b (t ∷ ts) y p s v ev = claim-map R (λ z. (withPlace (z .0) c, z .1)) (λ z k dn. (k, λ full j x. dn full j (loop-turn (Update y) t ts (c .place) j full x)))
+        (loop-good F d R unasked child g m y y t ts (c .place) p (s .0) (shaped-all (shapes ts) (s .1)) v ev ev)
+    rule-good m WhenAll n l c b ts y p s v ev = claim-map R (λ us. (c, us)) (λ us k dn. (k, dn)) (when-good F d R child g (Update y) ts p s (v .0) (v .1) ev)
+    rule-good m WhenAny n l c b ts y p s v ev = claim-map R (λ us. (c, us)) (λ us k dn. (k, dn))
+        (exchange-holds R (when-good F d R (exchanging child) (exchanging-good R d child g) (Update y) ts p s (v .0) (v .1) ev))
+    rule-good m After n l c b ts y p s v ev =
+        claim-map R (λ z. (withPlace (z .0) c, z .1)) (λ z k dn. (k, dn)) (after-good F d R child g (Update y) ts (c .place) p (shaped-all (shapes ts) s) v ev)
+    rule-good m Race n l c b ts y p s v ev = claim-map R (λ us. (c, us)) (λ us k dn. (k, dn)) (race-good F d R child g (Update y) ts p s v ev)
 
-  while-node : (n : ℕ) (l : Float) (c : Cell) (b : ℕ) (t t' : Tree) (ts : Forest) (e : Event) (r : Float) → TickQ F d e t Running r t'
-      → (o : Out (ℕ × Forest)) → Holds F (BodyC F d e (c .place, ts)) o
-      → Holds F (NodeC F d While n l c b (t ∷ ts) e) (o ▸ λ s'' r'' y w''. done s'' r'' (withPlace (y .0) c, t' ∷ y .1) w'')
-  while-node n l c b t t' ts e r q =
-      claim-map F (BodyC F d e (c .place, ts)) (NodeC F d While n l c b (t ∷ ts) e) (λ y. (withPlace (y .0) c, t' ∷ y .1)) (λ y v dn. ((q .1 .0, v), λ full j z. q .1 .1 full j z))
+    visit-good : (m : ℕ) (k : Kind) (n : ℕ) (l : Float) (c : Cell) (b : ℕ) (ts : Forest) (y : Float) (p : R .Worlds) → Shaped F (shp k n l (shapes ts)) → Valid F (node k n l c b ts) → W F y
+        → Holds R (TickC F d (Update y) (node k n l c b ts)) p (λ w. ruleWith m F child k n l c (Update y) ts w ▸ leave k n l)
+    visit-good m k n l c b ts y p s v ev = after R (rule-good m k n l c b ts y p s v ev) λ s'. elim s' [
+      | Running ↦ λ r x q z. stay R z
+      | Success ↦ λ r x q z. stay R z
+      | Failure ↦ λ r x q z. stay R z
+    ]
 
-  -- ---- a rule, by its kind
-  rule-good : (child : Ticker) → Good F d child → (k : Kind) (n : ℕ) (l : Float) (c : Cell) (b : ℕ) (ts : Forest) (y : Float) (w : World) → Shaped F (shp k n l (shapes ts))
-      → Valid F (node k n l c b ts) → W F y → WWorld F w
-      → Post F (NodeQ F d k n l c b ts (Update y)) (rule F child k n l c (Update y) ts w)
+  -- ---- one walk, whose answers are whole
+  abbrev watching : Pairing F
+  watching = record {
+    terms = nothing F;
+    Worlds = (w : World) × WWorld F w;
+    first = λ p m. m (p .0);
+    second = λ p m. m (p .0);
+    fuel = λ p. 0;
+    Reach = λ n p q. Unit {0};
+    stays = λ n p. tt;
+    onward = λ m n p q r h i. tt;
+    spends = λ n p q h. tt;
+    Stop = λ n p o o'. (o ≡ o') × NotDone o;
+    stop-then = λ n p o o' k k' h. stop-on o o' k k' h;
+    stop-back = λ m n p q o o' h i. i;
+    stop-short = λ n p h. (refl, tt);
+    Upto = λ m n. Unit {0};
+    upto = λ m n h. tt;
+    reach-upto = λ m n p q u h. tt;
+    stop-upto = λ m n p o o' u h. h;
+    first-then = λ p m k. refl;
+    second-then = λ p m k. refl;
+  }
+
+  acts : (child : Ticker) (n : ℕ) (l : Float) (c : Cell) (b : ℕ) (ts : Forest) (e : Event) (p : watching .Worlds) → Holds watching (NodeC F d Action n l c b ts e) p (λ w. rule F child Action n l c e ts w)
   unfolding rule
-  rule-good child g Action n l c b ts y (world f List.[]) s v ev wv = tt
-  rule-good child g Action n l c b ts y (world f (List._∷_ a ans)) s v ev wv = act (a .0)
+  acts child n l c b ts e (world f List.[], wv) = ends (asks n (dt e)) (asks n (dt e)) (refl, tt)
+  acts child n l c b ts e (world f (List._∷_ a ans), wv) = goes (a .0) (a .1) (c, ts) (world f ans, wv .1) tt (on (a .0))
     where
-      act : (st : Status) → Post F (NodeQ F d Action n l c b ts (Update y)) (done st (a .1) (c, ts) (world f ans))
-      act Running = (wv .1, (tt, λ full j z. absurd z))
-      act Success = (wv .1, wv .0)
-      act Failure = (wv .1, wv .0)
-  rule-good child g Invert n l c b [] y w s v ev wv = absurd s
-  rule-good child g Invert n l c b (t ∷ ts) y w s v ev wv =
-      bind F (TickQ F d (Update y) t) (NodeQ F d Invert n l c b (t ∷ ts) (Update y)) (child t (Update y) w) _ (g t (Update y) w (s .0) v ev wv) λ s'. elim s' [
-        | Running ↦ λ r t' w' wv' q. (wv', q .1)
-        | Success ↦ λ r t' w' wv' q. (wv', q .1)
-        | Failure ↦ λ r t' w' wv' q. (wv', q .1)
-      ]
-  rule-good child g AlwaysSucceed n l c b [] y w s v ev wv = absurd s
-  rule-good child g AlwaysSucceed n l c b (t ∷ ts) y w s v ev wv =
-      bind F (TickQ F d (Update y) t) (NodeQ F d AlwaysSucceed n l c b (t ∷ ts) (Update y)) (child t (Update y) w) _ (g t (Update y) w (s .0) v ev wv) λ s'. elim s' [
-        | Running ↦ λ r t' w' wv' q. (wv', q .1)
-        | Success ↦ λ r t' w' wv' q. (wv', q .1)
-        | Failure ↦ λ r t' w' wv' q. (wv', q .1)
-      ]
-  rule-good child g Wait n l c b ts y w s v ev wv = wait-good F d child g n l c b ts (Update y) w s (v .0) (v .1) ev wv
-  rule-good child g WaitForever n l c b ts y w s v ev wv = (wv, (tt, λ full j z. absurd z))
-  rule-good child g Timeout n l c b [] y w s v ev wv = absurd (s .1)
-  rule-good child g Timeout n l c b (t ∷ ts) y w s v ev wv = timeout-good F d child g n l c b t ts (Update y) w (s .0) (v .0) (v .1) (s .1 .0) (v .2) ev wv
-  rule-good child g If n l c b ts y w s v ev wv =
-      place-node If n l c b ts (Update y) (λ (z : ℕ × Forest). (ValidAt F) (z .1) (z .0)) (λ (z : ℕ × Forest). StillIf d (z .1) (z .0)) (λ z h. h) (λ j h. h) (λ z j h. h)
-      (ifAt child (c .place) (Update y) ts w) (if-good F d child g (c .place) ts y w s v ev wv)
-  rule-good child g Sequence n l c b ts y w s v ev wv =
-      place-node Sequence n l c b ts (Update y) (λ (z : ℕ × Forest). (shapes (z .1) ≡ shapes ts) × (ValidAt F) (z .1) (z .0)) (λ (z : ℕ × Forest). StillSum d (z .1) (z .0)) (λ z h. h .1)
-      (λ j h. h) (λ z j h. h)
-      (sequenceAt child (c .place) (Update y) ts w) (seq-good F d child g (Update y) ts (c .place) w (shaped-all (shapes ts) s) v ev wv)
-  rule-good child g Select n l c b ts y w s v ev wv =
-      let o : Out (ℕ × Forest) = sequenceAt (exchanging child) (c .place) (Update y) ts w in
-      place-node Select n l c b ts (Update y) (λ (z : ℕ × Forest). (shapes (z .1) ≡ shapes ts) × (ValidAt F) (z .1) (z .0)) (λ (z : ℕ × Forest). StillSum d (z .1) (z .0)) (λ z h. h .1)
-      (λ j h. h) (λ z j h. h)
-      (exchange o) (exchange-post F (SeqC F d (Update y) (c .place, ts)) o
-      (seq-good F d (exchanging child) (exchanging-good F d child g) (Update y) ts (c .place) w (shaped-all (shapes ts) s) v ev wv))
-  rule-good child g MemorylessSequence n l c b ts y w s v ev wv =
-      cell-node MemorylessSequence n l c b ts (Update y) (λ us. Unit {0}) (λ us k. EnoughEmpty d (shapes us) k) (λ us h. tt) (λ j h. h) (λ us j h. h) (memoryless child (Update y) ts w)
-      (mem-good F d child g y ts w s ev wv)
-  rule-good child g MemorylessSelector n l c b ts y w s v ev wv =
-      cell-node MemorylessSelector n l c b ts (Update y) (λ us. Unit {0}) (λ us k. EnoughEmpty d (shapes us) k) (λ us h. tt) (λ j h. h) (λ us j h. h)
-      (exchange (memoryless (exchanging child) (Update y) ts w))
-      (exchange-post F (MemC F d (Update y) ts) (memoryless (exchanging child) (Update y) ts w) (mem-good F d (exchanging child) (exchanging-good F d child g) y ts w s ev wv))
-  rule-good child g While n l c b [] y w s v ev wv = absurd s
-  rule-good child g While n l c b (t ∷ ts) y w s v ev wv =
-      bind F (TickQ F d (Update y) t) (NodeQ F d While n l c b (t ∷ ts) (Update y)) (child t (Update y) w) _ (g t (Update y) w (s .0) (v .0) ev wv) λ s'. elim s' [
-        | Running ↦ λ r t' w' wv' q. while-node n l c b t t' ts (Update y) r q (whileBody child (budget w) (c .place) (Update y) ts w')
-            (body-good F d child g (budget w) y ts (c .place) w' (shaped-all (shapes ts) (s .1)) (v .1) ev wv')
-        | Success ↦ λ r t' w' wv' q. (wv', q .1)
-        | Failure ↦ λ r t' w' wv' q. (wv', q .1)
-      ]
-  rule-good child g WhileAll n l c b [] y w s v ev wv = absurd s
-  rule-good child g WhileAll n l c b (t ∷ ts) y w s v ev wv =
-      loop-node n l c b t ts (Update y) (whileAll child (budget w) (Update y) (c .place) (Update y) t ts w)
-      (loop-good F d child g (budget w) y y t ts (c .place) w (s .0) (shaped-all (shapes ts) (s .1)) v ev ev wv)
-  rule-good child g WhenAll n l c b ts y w s v ev wv =
-      cell-node WhenAll n l c b ts (Update y) (λ us. (ValidMarks F) us × T (openOrNone us)) (StillUnmarked d) (λ us h. h) (λ j h. h) (λ us j h. h) (whenAll child (largest F) (Update y) ts w)
-      (when-good F d child g (Update y) ts w s (v .0) (v .1) ev wv)
-  rule-good child g WhenAny n l c b ts y w s v ev wv =
-      cell-node WhenAny n l c b ts (Update y) (λ us. (ValidMarks F) us × T (openOrNone us)) (StillUnmarked d) (λ us h. h) (λ j h. h) (λ us j h. h)
-      (exchange (whenAll (exchanging child) (largest F) (Update y) ts w))
-      (exchange-post F (WhenC F d (Update y) ts) (whenAll (exchanging child) (largest F) (Update y) ts w)
-      (when-good F d (exchanging child) (exchanging-good F d child g) (Update y) ts w s (v .0) (v .1) ev wv))
-  rule-good child g After n l c b ts y w s v ev wv =
-      place-node After n l c b ts (Update y) (λ (z : ℕ × Forest). (ValidFrom F) (z .1) (z .0)) (λ (z : ℕ × Forest). StillFrom d (z .1) (z .0)) (λ z h. h) (λ j h. h) (λ z j h. h)
-      (afterAt child (largest F) (c .place) (Update y) ts w) (after-good F d child g (Update y) ts (c .place) w (shaped-all (shapes ts) s) v ev wv)
-  rule-good child g Race n l c b ts y w s v ev wv =
-      cell-node Race n l c b ts (Update y) (ValidAll F) (StillMin d) (λ us h. h) (λ j h. h) (λ us j h. h) (raceFrom child (Update y) ts w) (race-good F d child g (Update y) ts w s v ev wv)
+      on : (s : Status) → Q F (NodeC F d Action n l c b ts e) s (a .1) (c, ts)
+      on Running = (tt, λ full j z. absurd z)
+      on Success = wv .0
+      on Failure = wv .0
 
-  -- ---- every depth
   -- shape and mark stay, as they do in every tick
-  same-too : (e : Event) (t : Tree) (w : World) (o : Out Tree) → Holds F (TickC F d e t) o → AfterTick w (Same t) o → Post F (TickQ F d e t) o
-  same-too e t w (done s r t' w') h k = (h .0, (k .1, h .1))
-  same-too e t w (asks n x) h k = tt
-  same-too e t w short h k = tt
+  same-too : (e : Event) (t : Tree) (w : World) (p : watching .Worlds) (o o' : Out Tree) → Sim watching 0 p (λ s r t' q. Q F (TickC F d e t) s r t') o o' → AfterTick w (Same t) o
+      → Sim watching 0 p (λ s r t' q. TickQ F d e t s r t') o o'
+  same-too e t w p o o' (goes s r t' q h x) k = goes s r t' q h (k .1, x)
+  same-too e t w p o o' (ends u u' h) k = ends u u' h
 
-  pub tick-good : (depth : ℕ) → Good F d (tick F depth)
+  tick-good : (depth : ℕ) → Good watching d (tick F depth)
   unfolding tick
-  tick-good zero t e w s v ev wv = tt
-  tick-good (suc depth) t e (world zero ans) s v ev wv = tt
-  tick-good (suc depth) (node k n l c b ts) Other (world (suc f) ans) s v ev wv = absurd ev
-  tick-good (suc depth) (node k n l c b ts) (Update y) (world (suc f) ans) s v ev wv =
-      let t : Tree = node k n l c b ts in
-      same-too (Update y) t (world (suc f) ans) (tick F (suc depth) t (Update y) (world (suc f) ans))
-      (bind F (NodeQ F d k n l c b ts (Update y)) (Q F (TickC F d (Update y) t)) (rule F (tick F depth) k n l c (Update y) ts (world f ans)) _
-      (rule-good (tick F depth) (tick-good depth) k n l c b ts y (world f ans) s v ev wv) λ s'. elim s' [
-        | Running ↦ λ r z w' wv' q. (wv', q)
-        | Success ↦ λ r z w' wv' q. (wv', q)
-        | Failure ↦ λ r z w' wv' q. (wv', q)
-      ])
-      (tick-keeps F (suc depth) t (Update y) (world (suc f) ans))
+  tick-good zero t e p s v ev = ends short short (refl, tt)
+  tick-good (suc depth) t e (world zero ans, wv) s v ev = ends short short (refl, tt)
+  tick-good (suc depth) (node k n l c b ts) Other (world (suc f) ans, wv) s v ev = absurd ev
+  tick-good (suc depth) (node k n l c b ts) (Update y) (world (suc f) ans, wv) s v ev =
+      same-too (Update y) (node k n l c b ts) (world (suc f) ans) (world (suc f) ans, wv) _ _
+      (rw (rule-with F (tick F depth) k n l c (Update y) ts f ans)
+      (back watching {m = 0} {q = (world f ans, wv)} tt (visit-good watching tt (tick F depth) (tick-good depth) (acts (tick F depth)) (suc f) k n l c b ts y (world f ans, wv) s v ev)))
+      (tick-keeps F (suc depth) (node k n l c b ts) (Update y) (world (suc f) ans))
+
+  -- what is told of a tick that is done
+  abbrev Told : Event → Tree → Out Tree → Type 0
+  Told e t (done s r t' w) = TickQ F d e t s r t'
+  Told e t (asks n x) = Unit {0}
+  Told e t short = Unit {0}
+
+  pub tick-told : (depth : ℕ) (t : Tree) (e : Event) (w : World) (s : Status) (r : Float) (t' : Tree) (w' : World) → Shaped F (shape t) → Valid F t → WEvent F e → WWorld F w
+      → tick F depth t e w ≡ done s r t' w' → TickQ F d e t s r t'
+  tick-told depth t e w s r t' w' sh v ev wv q = subst (Told e t) q (on (tick F depth t e w) (tick F depth t e w) (tick-good depth t e (w, wv) sh v ev))
+    where
+      on : (o o' : Out Tree) → Sim watching 0 (w, wv) (λ s r t' q. TickQ F d e t s r t') o o' → Told e t o
+      on o o' (goes s r t' q h x) = x
+      on o o' (ends (done s r t' w') u' h) = absurd (h .1)
+      on o o' (ends (asks n x) u' h) = tt
+      on o o' (ends short u' h) = tt

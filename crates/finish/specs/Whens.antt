@@ -10,18 +10,19 @@ use Rattle.rules.specs.declared.status.Status.the-variants.{Running, Success, F
 use Rattle.rules.specs.declared.event.Event.{Event}
 use Rattle.rules.specs.declared.event.Event.the-variants.{Update, Other}
 use Rattle.rules.specs.Tree.{Tree, Forest, [], _∷_, fresh, marked, mark}
-use Rattle.rules.specs.Outcome.{dt, World, Out, done, Ticker, _▸_, largest, smaller}
+use Rattle.rules.specs.Outcome.{dt, World, Out, Ticker, largest, smaller}
 use Rattle.rules.specs.Sequence.{keep}
 use Rattle.rules.specs.WhenAll.{whenAllFrom, whenAll, raceFrom}
 use Rattle.rules.specs.Bound.{num}
 use Rattle.whole.specs.Times.{W, smaller-W}
-use Rattle.calls.specs.Shape.{shape, shapes, mark-marked}
-use Rattle.finish.specs.Shaped.{Shaped, Shapeds}
+use Rattle.calls.specs.Shape.{shapes, mark-marked}
+use Rattle.laws.specs.Pair.{Pairing, stay, after, either}
+use Rattle.finish.specs.Shaped.{Shapeds}
 use Rattle.finish.specs.Enough.{unless, Still, StillUnmarked, StillMin}
 use Rattle.finish.specs.Valid.{someOpen, openOrNone, Valid, ValidAll, ValidMarks}
 use Rattle.finish.specs.Fresh.{use-all}
 use Rattle.finish.specs.Ranks.{still-pos}
-use Rattle.finish.specs.Post.{WWorld, WEvent, bind, Claim, Q, Holds, claim-map, claim-weak, ticking, TickQ, Good}
+use Rattle.finish.specs.Post.{WEvent, Claim, ticking, TickQ, Holds, claim-map, claim-weak, Good}
 
 module _ (F : Format) (d : ℕ) where
   -- ---- WhenAll: `all`, each child so far is marked
@@ -72,13 +73,13 @@ module _ (F : Format) (d : ℕ) where
   abbrev pub RaceC : Event → Forest → Claim Forest
   RaceC e ts = ticking F d (ValidAll F) (StillMin d) e ts
 
-  module _ (child : Ticker) (g : Good F d child) where
-    all-run : (e : Event) (all : Bool) (t t' : Tree) (ts : Forest) (r : Float) → marked t ≡ false → TickQ F d e t Running r t' → (o : Out Forest) → Holds F (AllC e false ts) o
-        → Holds F (AllC e all (t ∷ ts)) (keep t' o)
-    all-run e all t t' ts r m q = claim-map F (AllC e false ts) (AllC e all (t ∷ ts)) (λ us. t' ∷ us) λ us v dn. (
+  module _ (R : Pairing F) (child : Ticker) (g : Good R d child) where
+    all-run : {p : R .Worlds} {o : World → Out Forest} (e : Event) (all : Bool) (t t' : Tree) (ts : Forest) (r : Float) → marked t ≡ false → TickQ F d e t Running r t'
+        → Holds R (AllC e false ts) p o → Holds R (AllC e all (t ∷ ts)) p (λ w. keep t' (o w))
+    all-run e all t t' ts r m q h = claim-map R (λ us. t' ∷ us) (λ us v dn. (
       ((use-all F (marked t') (q .1 .0), v .0), all-true all t' us (q .0 .1 ∙ m)),
       λ full j p x. let y : Still d t' j = q .1 .1 full j (rw m at (x .0)) in (use-all F (marked t') y, dn full j (pos-of t' j y) (x .1)),
-    )
+    )) h
 
     skip-open : (b : Bool) (t : Tree) (ts : Forest) → marked t ≡ true → OpenIf b ts → OpenIf b (t ∷ ts)
     skip-open true t ts e h = rw e h
@@ -88,68 +89,47 @@ module _ (F : Format) (d : ℕ) where
     skip-unless b X e = rw e tt
 
     -- a child with a mark, old or new
-    all-skip : (e : Event) (all : Bool) (t t' : Tree) (ts : Forest) → marked t' ≡ true → (o : Out Forest) → Holds F (AllC e all ts) o → Holds F (AllC e all (t ∷ ts)) (keep t' o)
-    all-skip e all t t' ts m = claim-map F (AllC e all ts) (AllC e all (t ∷ ts)) (λ us. t' ∷ us) λ us v dn. (
+    all-skip : {p : R .Worlds} {o : World → Out Forest} (e : Event) (all : Bool) (t t' : Tree) (ts : Forest) → marked t' ≡ true → Holds R (AllC e all ts) p o
+        → Holds R (AllC e all (t ∷ ts)) p (λ w. keep t' (o w))
+    all-skip e all t t' ts m h = claim-map R (λ us. t' ∷ us) (λ us v dn. (
       ((skip-unless (marked t') (Valid F t') m, v .0), skip-open all t' us m (v .1)),
       λ full j p x. (skip-unless (marked t') (Still d t' j) m, dn full j p (x .1)),
-    )
+    )) h
 
-    all-end : (e : Event) (all : Bool) (least : Float) (w : World) → LeastIf all least [] → WWorld F w → Holds F (AllC e all []) (whenAllFrom child e all least [] w)
+    all-good : (e : Event) (all : Bool) (least : Float) (ts : Forest) (p : R .Worlds) → Shapeds F (shapes ts) → ValidMarks F ts → LeastIf all least ts → WEvent F e
+        → Holds R (AllC e all ts) p (λ w. whenAllFrom child e all least ts w)
     unfolding whenAllFrom
-    all-end e true least w (inl v) wv = (wv, v)
-    all-end e true least w (inr v) wv = absurd (v .1)
-    all-end e false least w h wv = (wv, ((tt, tt), λ full j p x. p))
-
-    -- the child t, with its mark or without; `later`: the same of the children behind it
-    all-step : (e : Event) (all : Bool) (least : Float) (t : Tree) (ts : Forest) (w : World) → Shaped F (shape t) → unless (marked t) (Valid F t) → LeastIf all least (t ∷ ts) → WEvent F e → WWorld F w
-        → ((all' : Bool) (least' : Float) (w' : World) → LeastIf all' least' ts → WWorld F w' → Holds F (AllC e all' ts) (whenAllFrom child e all' least' ts w'))
-        → (b : Bool) → marked t ≡ b
-        → Holds F (AllC e all (t ∷ ts)) (elim b [
-          | true ↦ keep t (whenAllFrom child e all least ts w)
-          | false ↦ child t e w ▸ λ s r t' w'. elim s [
-            | Running ↦ keep t' (whenAllFrom child e false least ts w')
-            | Failure ↦ done Failure r (t' ∷ ts) w'
-            | Success ↦ keep (mark (fresh t')) (whenAllFrom child e all (smaller least r) ts w')
-          ]
+    all-good e true least [] p s v (inl lo) ev = stay R lo
+    all-good e true least [] p s v (inr lo) ev = absurd (lo .1)
+    all-good e false least [] p s v lo ev = stay R ((tt, tt), λ full j z x. z)
+    all-good e all least (t ∷ ts) p s v lo ev = either R (marked t)
+        (λ m. all-skip e all t t ts m (all-good e all least ts p (s .1) (v .1) (skip-least all t ts least m lo) ev))
+        (λ m. after R (g t e p (s .0) (rw m at (v .0)) ev) λ s'. elim s' [
+          | Running ↦ λ r t' p' q. all-run e all t t' ts r m q (all-good e false least ts p' (s .1) (v .1) tt ev)
+          | Success ↦ λ r t' p' q. all-skip e all t (mark (fresh t')) ts (mark-marked (fresh t'))
+              (all-good e all (smaller least r) ts p' (s .1) (v .1) (least-next all least r (t ∷ ts) ts (q .1) lo) ev)
+          | Failure ↦ λ r t' p' q. stay R (q .1)
         ])
-    all-step e all least t ts w s v lo ev wv later true m = all-skip e all t t ts m (whenAllFrom child e all least ts w) (later all least w (skip-least all t ts least m lo) wv)
-    all-step e all least t ts w s v lo ev wv later false m = bind F (TickQ F d e t) (Q F (AllC e all (t ∷ ts))) (child t e w) _ (g t e w s (rw m at v) ev wv) λ s'. elim s' [
-      | Running ↦ λ r t' w' wv' q. all-run e all t t' ts r m q (whenAllFrom child e false least ts w') (later false least w' tt wv')
-      | Success ↦ λ r t' w' wv' q. all-skip e all t (mark (fresh t')) ts (mark-marked (fresh t')) (whenAllFrom child e all (smaller least r) ts w')
-          (later all (smaller least r) w' (least-next all least r (t ∷ ts) ts (q .1) lo) wv')
-      | Failure ↦ λ r t' w' wv' q. (wv', q .1)
-    ]
-
-    all-good : (e : Event) (all : Bool) (least : Float) (ts : Forest) (w : World) → Shapeds F (shapes ts) → ValidMarks F ts → LeastIf all least ts → WEvent F e → WWorld F w
-        → Holds F (AllC e all ts) (whenAllFrom child e all least ts w)
-    unfolding whenAllFrom
-    all-good e all least [] w s v lo ev wv = all-end e all least w lo wv
-    all-good e all least (t ∷ ts) w s v lo ev wv = all-step e all least t ts w (s .0) (v .0) lo ev wv (λ all' least' w' lo' wv'. all-good e all' least' ts w' (s .1) (v .1) lo' ev wv') (marked t) refl
 
     some-none : (ts : Forest) → T (someOpen ts) → T (openOrNone ts)
     some-none [] h = tt
     some-none (t ∷ ts) h = h
 
-    when-of : (e : Event) (ts : Forest) (o : Out Forest) → Holds F (AllC e true ts) o → Holds F (WhenC e ts) o
-    when-of e ts = claim-weak F (AllC e true ts) (WhenC e ts) (λ us v dn. ((v .0, some-none us (v .1)), λ full j x. dn full j tt x))
-
-    pub when-good : (e : Event) (ts : Forest) (w : World) → Shapeds F (shapes ts) → ValidMarks F ts → T (openOrNone ts) → WEvent F e → WWorld F w
-        → Holds F (WhenC e ts) (whenAll child (largest F) e ts w)
+    pub when-good : (e : Event) (ts : Forest) (p : R .Worlds) → Shapeds F (shapes ts) → ValidMarks F ts → T (openOrNone ts) → WEvent F e
+        → Holds R (WhenC e ts) p (λ w. whenAll child (largest F) e ts w)
     unfolding whenAll
-    when-good (Update y) [] w s v o ev wv = (wv, ev)
-    when-good Other [] w s v o ev wv = absurd ev
-    when-good e (t ∷ ts) w s v o ev wv = when-of e (t ∷ ts) (whenAllFrom child e true (largest F) (t ∷ ts) w) (all-good e true (largest F) (t ∷ ts) w s v (inr (refl, o)) ev wv)
+    when-good (Update y) [] p s v o ev = stay R ev
+    when-good Other [] p s v o ev = absurd ev
+    when-good e (t ∷ ts) p s v o ev = claim-weak R (λ us u dn. ((u .0, some-none us (u .1)), λ full j x. dn full j tt x))
+        (all-good e true (largest F) (t ∷ ts) p s v (inr (refl, o)) ev)
 
     -- ---- Race
-    race-keep : (e : Event) (t t' : Tree) (ts : Forest) (r : Float) → TickQ F d e t Running r t' → (o : Out Forest) → Holds F (RaceC e ts) o → Holds F (RaceC e (t ∷ ts)) (keep t' o)
-    race-keep e t t' ts r q = claim-map F (RaceC e ts) (RaceC e (t ∷ ts)) (λ us. t' ∷ us)
-        (λ us v dn. ((q .1 .0, v), λ full j x. elim x [ inl y ↦ inl (q .1 .1 full j y) | inr y ↦ inr (dn full j y) ]))
-
-    pub race-good : (e : Event) (ts : Forest) (w : World) → Shapeds F (shapes ts) → ValidAll F ts → WEvent F e → WWorld F w → Holds F (RaceC e ts) (raceFrom child e ts w)
+    pub race-good : (e : Event) (ts : Forest) (p : R .Worlds) → Shapeds F (shapes ts) → ValidAll F ts → WEvent F e → Holds R (RaceC e ts) p (λ w. raceFrom child e ts w)
     unfolding raceFrom
-    race-good e [] w s v ev wv = (wv, (tt, λ full j x. x))
-    race-good e (t ∷ ts) w s v ev wv = bind F (TickQ F d e t) (Q F (RaceC e (t ∷ ts))) (child t e w) _ (g t e w (s .0) (v .0) ev wv) λ s'. elim s' [
-      | Running ↦ λ r t' w' wv' q. race-keep e t t' ts r q (raceFrom child e ts w') (race-good e ts w' (s .1) (v .1) ev wv')
-      | Success ↦ λ r t' w' wv' q. (wv', q .1)
-      | Failure ↦ λ r t' w' wv' q. (wv', q .1)
+    race-good e [] p s v ev = stay R (tt, λ full j x. x)
+    race-good e (t ∷ ts) p s v ev = after R (g t e p (s .0) (v .0) ev) λ s'. elim s' [
+      | Running ↦ λ r t' p' q. claim-map R (λ us. t' ∷ us)
+          (λ us u dn. ((q .1 .0, u), λ full j x. elim x [ inl y ↦ inl (q .1 .1 full j y) | inr y ↦ inr (dn full j y) ])) (race-good e ts p' (s .1) (v .1) ev)
+      | Success ↦ λ r t' p' q. stay R (q .1)
+      | Failure ↦ λ r t' p' q. stay R (q .1)
     ]

@@ -2,7 +2,7 @@
 use mathlib.Core.Path.{_≡_, refl}
 use mathlib.Core.Bool.{Bool, true, false, cond}
 use mathlib.Core.Logic.{_⊎_, inl, inr}
-use Prim.Native.Nat.{ℕ, zero, suc, _+_, _*_, _≤_}
+use Prim.Native.Nat.{ℕ, zero, suc, _+_, _*_, _≤_, _<_}
 use native.Mathlib.Omega.{arith}
 use lib.Dec.{ltb}
 use lib.Ieee.{Float, Format}
@@ -11,17 +11,18 @@ use Rattle.rules.specs.declared.event.Event.{Event}
 use Rattle.rules.specs.declared.event.Event.the-variants.{Update}
 use Rattle.rules.specs.Tree.{Tree, Forest, [], _∷_, count}
 use Rattle.rules.specs.Outcome.{dt, World, Out, Ticker}
-use Rattle.rules.specs.Loops.{budget, put, freshAt, next, moved, childAt, whileBody, whileAll}
+use Rattle.rules.specs.Loops.{budget, put, freshAt, next, moved, whileBody, whileAll}
 use Rattle.rules.specs.Bound.{num}
 use Rattle.whole.specs.Times.{W}
 use Rattle.calls.specs.Shape.{Shape, Shapes, shape, shapes, moved-shapes}
+use Rattle.laws.specs.Pair.{Pairing, Known, stay, cut, after}
 use Rattle.finish.specs.Shaped.{Shaped, Shapeds}
 use Rattle.calls.specs.Shape
 use Rattle.finish.specs.Enough.{EnoughSum, Still, StillSum, StillLoop}
 use Rattle.finish.specs.Valid.{inBody, Valid, ValidAt, ValidLoop}
 use Rattle.finish.specs.Ranks.{still-pos, valid-sum}
-use Rattle.finish.specs.Post.{WWorld, bind, Claim, Q, Holds, claim-weak, ticking, TickQ, Good}
-use Rattle.finish.specs.Places.{Within, within-valid, moved-valid, next-in, PutQ, child-at}
+use Rattle.finish.specs.Post.{Claim, ticking, Holds, claim-weak, Good}
+use Rattle.finish.specs.Places.{within, moved-valid, next-in, child-at}
 
 module _ (F : Format) (d : ℕ) where
   -- ---- While's body
@@ -67,11 +68,6 @@ module _ (F : Format) (d : ℕ) where
     down = λ x. d ≤ num (dt whole) → (j : ℕ) → Turn e c ts p j → StillLoop d (x .1) (x .0) j;
   }
 
-  -- a turn of the loop, then the turns behind it
-  loop-of : (whole e e' : Event) (c c' : Tree) (ts us : Forest) (p q : ℕ) → (d ≤ num (dt whole) → (j : ℕ) → Turn e c ts p j → Turn e' c' us q j)
-      → (o : Out (ℕ × Forest)) → Holds F (LoopC whole e' c' us q) o → Holds F (LoopC whole e c ts p) o
-  loop-of whole e e' c c' ts us p q f = claim-weak F (LoopC whole e' c' us q) (LoopC whole e c ts p) (λ x v dn. (v, λ full j y. dn full j (f full j y)))
-
   -- the condition was looked at and goes on
   checked : (e : Event) (c c' : Tree) (ts : Forest) (j : ℕ) → ((i : ℕ) → Still d c (suc i) → Still d c' i) → Turn e c ts 0 j → Turn e c' ts 1 j
   checked e c c' ts j f x = pick (x .0) (x .1) (x .2) (x .3) (f (x .0) (x .4)) (x .5)
@@ -89,77 +85,74 @@ module _ (F : Format) (d : ℕ) where
       let k : y .0 ≤ x .2 = y .1 in
       (x .0, x .1, y .0, omega arith, x .4, x .5, x .6, y .2)
 
-  module _ (child : Ticker) (g : Good F d child) where
-    pub body-good : (budget : ℕ) (y : Float) (ts : Forest) (p : ℕ) (w : World) → Shapeds F (shapes ts) → ValidAt F ts p → W F y → WWorld F w
-        → Holds F (BodyC (Update y) (p, ts)) (whileBody child budget p (Update y) ts w)
-    unfolding whileBody
-    body-good zero y ts p w s v ev wv = tt
-    body-good (suc budget) y ts p w s v ev wv =
-        bind F (PutQ F d (Update y) p ts) (Q F (BodyC (Update y) (p, ts))) (childAt child p (Update y) ts w) _ (child-at F d child g (Update y) ts p w s v ev wv) λ s'. elim s' [
-          | Running ↦ λ r t' w' wv' q. (wv', (q .1 .0, λ full j x. x))
-          | Success ↦ λ r t' w' wv' q.
-              let inside : Within F d ts (next p ts) = next-in F d ts p (ltb (suc p) (count ts)) refl (within-valid F d ts p v) in
-              let sh : shapes (moved p t' ts) ≡ shapes ts = moved-shapes ts p (next p ts) t' (q .0) in
-              claim-weak F (BodyC (Update r) (next p ts, moved p t' ts)) (BodyC (Update y) (p, ts)) (λ x k dn. (k, λ full j z. z)) (whileBody child budget (next p ts) (Update r) (moved p t' ts) w')
-              (body-good budget r (moved p t' ts) (next p ts) w' (rw sh s) (moved-valid F d ts p (next p ts) t' s (q .0) inside) (q .1) wv')
-          | Failure ↦ λ r t' w' wv' q. (wv', q .1)
-        ]
+  -- `unasked`: a walk that is short is let be
+  module _ (R : Pairing F) (unasked : Known R ⊥) (child : Ticker) (g : Good R d child) where
+    -- a turn of the loop, then the turns behind it
+    loop-of : {w : R .Worlds} {o : World → Out (ℕ × Forest)} (whole e e' : Event) (c c' : Tree) (ts us : Forest) (p q : ℕ)
+        → (d ≤ num (dt whole) → (j : ℕ) → Turn e c ts p j → Turn e' c' us q j) → Holds R (LoopC whole e' c' us q) w o → Holds R (LoopC whole e c ts p) w o
+    loop-of whole e e' c c' ts us p q f h = claim-weak R (λ x v dn. (v, λ full j y. dn full j (f full j y))) h
 
-    loop-next : (budget : ℕ) (y z r : Float) (c t' : Tree) (ts : Forest) (p : ℕ) (w : World) → Shapeds F (shapes ts) → Valid F c → Within F d ts p → shapes (put p t' ts) ≡ shapes ts
+    pub body-good : (budget : ℕ) (y : Float) (ts : Forest) (p : ℕ) (w : R .Worlds) → Shapeds F (shapes ts) → ValidAt F ts p → W F y
+        → Holds R (BodyC (Update y) (p, ts)) w (λ v. whileBody child budget p (Update y) ts v)
+    unfolding whileBody
+    body-good zero y ts p w s v ev = cut R unasked
+    body-good (suc budget) y ts p w s v ev = after R (child-at F d R child g (Update y) ts p w s v ev) λ s'. elim s' [
+      | Running ↦ λ r t' w' q. stay R (q .1 .0, λ full j x. x)
+      | Success ↦ λ r t' w' q.
+          let inside : next p ts < count ts = next-in F d ts p (ltb (suc p) (count ts)) refl (within F d ts p v) in
+          let sh : shapes (moved p t' ts) ≡ shapes ts = moved-shapes ts p (next p ts) t' (q .0) in
+          claim-weak R (λ x k dn. (k, λ full j z. z))
+          (body-good budget r (moved p t' ts) (next p ts) w' (rw sh s) (moved-valid F d ts p (next p ts) t' s (q .0) inside) (q .1))
+      | Failure ↦ λ r t' w' q. stay R (q .1)
+    ]
+
+    loop-next : (budget : ℕ) (y z r : Float) (c t' : Tree) (ts : Forest) (p : ℕ) (w : R .Worlds) → Shapeds F (shapes ts) → Valid F c → p < count ts → shapes (put p t' ts) ≡ shapes ts
         → (b : Bool) → ltb (suc p) (count ts) ≡ b
-        → ((i : ℕ) (us : Forest) → Shapeds F (shapes us) → ValidLoop F (c ∷ us) (inBody i) → Holds F (LoopC (Update y) (Update r) c us i) (whileAll child budget (Update y) i (Update r) c us w))
-        → Holds F (LoopC (Update y) (Update z) c ts (suc p)) (whileAll child budget (Update y) (cond b (suc (suc p)) 0) (Update r) c (freshAt (cond b (suc p) 0) (freshAt p (put p t' ts))) w)
+        → ((i : ℕ) (us : Forest) → Shapeds F (shapes us) → ValidLoop F (c ∷ us) (inBody i) → Holds R (LoopC (Update y) (Update r) c us i) w (λ v. whileAll child budget (Update y) i (Update r) c us v))
+        → Holds R (LoopC (Update y) (Update z) c ts (suc p)) w (λ v. whileAll child budget (Update y) (cond b (suc (suc p)) 0) (Update r) c (freshAt (cond b (suc p) 0) (freshAt p (put p t' ts))) v)
     loop-next budget y z r c t' ts p w ss v inside sh true e rec =
         let us : Forest = freshAt (suc p) (freshAt p (put p t' ts)) in
-        let n : Within F d ts (suc p) = next-in F d ts p true e inside in
+        let n : suc p < count ts = next-in F d ts p true e inside in
         let ush : shapes us ≡ shapes ts = moved-shapes ts p (suc p) t' sh in
         loop-of (Update y) (Update z) (Update r) c c ts us (suc p) (suc (suc p))
         (λ full j x. let a = after-body (Update z) c ts p j x in (a .0, a .1, a .2, a .3, a .4, a .5, rw ush (a .6), inl (rw ush (a .7))))
-        (whileAll child budget (Update y) (suc (suc p)) (Update r) c us w)
         (rec (suc (suc p)) us (rw ush ss) (v, moved-valid F d ts p (suc p) t' ss sh n))
     loop-next budget y z r c t' ts p w ss v inside sh false e rec =
         let us : Forest = freshAt 0 (freshAt p (put p t' ts)) in
-        let n : Within F d ts 0 = next-in F d ts p false e inside in
+        let n : 0 < count ts = next-in F d ts p false e inside in
         let ush : shapes us ≡ shapes ts = moved-shapes ts p 0 t' sh in
         loop-of (Update y) (Update z) (Update r) c c ts us (suc p) 0
         (λ full j x. let a = after-body (Update z) c ts p j x in let h : a .0 * a .1 + a .2 ≤ j = a .3 in (a .0, a .1, omega arith, a .4, a .5, rw ush (a .6)))
-        (whileAll child budget (Update y) 0 (Update r) c us w)
         (rec 0 us (rw ush ss) (v, moved-valid F d ts p 0 t' ss sh n))
 
-    pub loop-good : (budget : ℕ) (y z : Float) (c : Tree) (ts : Forest) (p : ℕ) (w : World) → Shaped F (shape c) → Shapeds F (shapes ts) → ValidLoop F (c ∷ ts) (inBody p) → W F y → W F z → WWorld F w
-        → Holds F (LoopC (Update y) (Update z) c ts p) (whileAll child budget (Update y) p (Update z) c ts w)
+    pub loop-good : (budget : ℕ) (y z : Float) (c : Tree) (ts : Forest) (p : ℕ) (w : R .Worlds) → Shaped F (shape c) → Shapeds F (shapes ts) → ValidLoop F (c ∷ ts) (inBody p) → W F y → W F z
+        → Holds R (LoopC (Update y) (Update z) c ts p) w (λ v. whileAll child budget (Update y) p (Update z) c ts v)
     unfolding whileAll
-    loop-good zero y z c ts p w s ss v ey ez wv = tt
-    loop-good (suc budget) y z c ts zero w s ss v ey ez wv =
-        bind F (TickQ F d (Update y) c) (Q F (LoopC (Update y) (Update z) c ts 0)) (child c (Update y) w) _ (g c (Update y) w s (v .0) ey wv) λ s'. elim s' [
-          | Running ↦ λ r c' w' wv' q. loop-of (Update y) (Update z) (Update z) c c' ts ts 0 1 (λ full j x. checked (Update z) c c' ts j (q .1 .1 full) x)
-              (whileAll child budget (Update y) 1 (Update z) c' ts w') (loop-good budget y z c' ts 1 w' (rw (q .0 .0) s) ss (q .1 .0, v .1) ey ez wv')
-          | Success ↦ λ r c' w' wv' q. (wv', q .1)
-          | Failure ↦ λ r c' w' wv' q. (wv', q .1)
-        ]
-    loop-good (suc budget) y z c ts (suc p) w s ss v ey ez wv =
-        bind F (PutQ F d (Update z) p ts) (Q F (LoopC (Update y) (Update z) c ts (suc p))) (childAt child p (Update z) ts w) _ (child-at F d child g (Update z) ts p w ss (v .1) ez wv) λ s'.
-        elim s' [
-          | Running ↦ λ r t' w' wv' q. (
-            wv',
-            (
-              (v .0, q .1 .0),
-              λ full j x. (
-                x .0,
-                x .1,
-                x .2,
-                x .3,
-                x .4,
-                x .5,
-                rw (q .0) (x .6),
-                (elim (x .7) [
-                  | inl h ↦ from-valid (put p t' ts) p (x .2) (q .1 .0) (rw (q .0) h)
-                  | inr h ↦ q .1 .1 (h .0) (x .2) (h .1)
-                ]),
-              ),
-            ),
-          )
-          | Success ↦ λ r t' w' wv' q. loop-next budget y z r c t' ts p w' ss (v .0) (within-valid F d ts p (v .1)) (q .0) (ltb (suc p) (count ts)) refl
-              (λ i us ss' v'. loop-good budget y r c us i w' s ss' v' ey (q .1) wv')
-          | Failure ↦ λ r t' w' wv' q. (wv', q .1)
-        ]
+    loop-good zero y z c ts p w s ss v ey ez = cut R unasked
+    loop-good (suc budget) y z c ts zero w s ss v ey ez = after R (g c (Update y) w s (v .0) ey) λ s'. elim s' [
+      | Running ↦ λ r c' w' q. loop-of (Update y) (Update z) (Update z) c c' ts ts 0 1 (λ full j x. checked (Update z) c c' ts j (q .1 .1 full) x)
+          (loop-good budget y z c' ts 1 w' (rw (q .0 .0) s) ss (q .1 .0, v .1) ey ez)
+      | Success ↦ λ r c' w' q. stay R (q .1)
+      | Failure ↦ λ r c' w' q. stay R (q .1)
+    ]
+    loop-good (suc budget) y z c ts (suc p) w s ss v ey ez = after R (child-at F d R child g (Update z) ts p w ss (v .1) ez) λ s'. elim s' [
+      | Running ↦ λ r t' w' q. stay R (
+        (v .0, q .1 .0),
+        λ full j x. (
+          x .0,
+          x .1,
+          x .2,
+          x .3,
+          x .4,
+          x .5,
+          rw (q .0) (x .6),
+          (elim (x .7) [
+            | inl h ↦ from-valid (put p t' ts) p (x .2) (q .1 .0) (rw (q .0) h)
+            | inr h ↦ q .1 .1 (h .0) (x .2) (h .1)
+          ]),
+        ),
+      )
+      | Success ↦ λ r t' w' q. loop-next budget y z r c t' ts p w' ss (v .0) (within F d ts p (v .1)) (q .0) (ltb (suc p) (count ts)) refl
+          (λ i us ss' v'. loop-good budget y r c us i w' s ss' v' ey (q .1))
+      | Failure ↦ λ r t' w' q. stay R (q .1)
+    ]

@@ -5,19 +5,18 @@ use mathlib.Core.List.{List}
 use mathlib.Core.List
 use Prim.Native.Nat.{ℕ, zero, suc, _+_}
 use lib.Ieee.{Float, Format}
-use Rattle.rules.specs.declared.behavior.Kind.{Kind}
 use Rattle.rules.specs.declared.status.Status.{Status}
 use Rattle.rules.specs.declared.event.Event.{Event}
-use Rattle.rules.specs.Tree.{Cell, Tree, node, Forest, [], _∷_}
+use Rattle.rules.specs.Tree.{Tree, node, [], _∷_}
 use Rattle.rules.specs.Outcome.{dt, World, world, Out, done, asks, short, _▸_}
 use Rattle.rules.specs.State.{rule, tick}
-use Rattle.calls.specs.Shape.{shapes}
+use Rattle.calls.specs.Shape.{shape, shapes, sizeOf}
 use mathlib.Core.List.{_++_, append-assoc}
 use native.Mathlib.Omega.{arith}
 use lib.ListN.{length, length-append}
-use Rattle.laws.specs.Pair.{Pairing, Sim, goes, ends, Both, back}
-use Rattle.laws.specs.PairDrivers.{Same, Alike, Any, any-each}
-use Rattle.laws.specs.PairRules.{rule-with, KeptNext, Acts, rule-pair, leave, visit-pair}
+use Rattle.laws.specs.Pair.{nothing, Pairing, Of, Sim, goes, ends}
+use Rattle.laws.specs.PairDrivers.{Alike, Any, any-each}
+use Rattle.laws.specs.PairRules.{rule-with, Acts, visit-pair}
 use Rattle.laws.specs.Alone.{Answers, NotDone}
 
 -- `a` is the answer added, `more` what stands behind it
@@ -89,52 +88,50 @@ module _ (a : Status × Float) (more : Answers) where
   second-then (together f l) m c = refl
   second-then (asked n x f left used e) m c = refl
 
-  abbrev pub asking : Pairing
-  asking = record {
+  abbrev pub asking : (F : Format) → Pairing F
+  asking F = record {
+    terms = nothing F;
     Worlds = Worlds;
     first = λ p m. firstIn p m;
     second = λ p m. secondIn p m;
-    Reach = Reach;
-    stays = stays;
-    onward = onward;
-    Stop = λ p o o'. Stop p o o';
-    stop-then = λ p o o' c c' h. stop-then p o o' c c' h;
-    stop-back = λ p q o o' g h. stop-back p q o o' g h;
-    stop-short = λ {A} p. stop-short A p;
+    fuel = λ p. 0;
+    Reach = λ n p q. Reach p q;
+    stays = λ n p. stays p;
+    onward = λ m n p q r h g. onward p q r h g;
+    spends = λ n p q h. tt;
+    Stop = λ n p o o'. Stop p o o';
+    stop-then = λ n p o o' c c' h. stop-then p o o' c c' h;
+    stop-back = λ m n p q o o' g h. stop-back p q o o' g h;
+    stop-short = λ {A} n p h. stop-short A p;
+    Upto = λ m n. Unit {0};
+    upto = λ m n h. tt;
+    reach-upto = λ m n p q u h. h;
+    stop-upto = λ m n p o o' u h. h;
     first-then = λ p m c. first-then p m c;
     second-then = λ p m c. second-then p m c;
   }
 
   module _ (F : Format) where
     -- the action that asks in the first walk takes the answer in the second
-    acts : Acts asking F
+    acts : Acts (asking F)
     unfolding rule
-    acts child child' n l c e ts (together f List.[]) = goes (a .0) (a .1) (c, ts) (asked n (dt e) f more List.[] refl) tt (refl, refl)
-    acts child child' n l c e ts (together f (List._∷_ b ans)) = goes (b .0) (b .1) (c, ts) (together f ans) tt (refl, refl)
-    acts child child' n l c e ts (asked n' x f List.[] used q) = ends (asks n' x) (asks n (dt e)) (refl, tt)
-    acts child child' n l c e ts (asked n' x f (List._∷_ b left) used q) =
-        goes (b .0) (b .1) (c, ts) (asked n' x f left (used ++ List._∷_ b List.[]) (q ∙ sym (append-assoc used (List._∷_ b List.[]) left))) (refl, refl) (refl, refl)
+    acts child child' n l c e ts m (together f List.[]) P x = goes (a .0) (a .1) (c, ts) (asked n (dt e) f more List.[] refl) tt (x, tt)
+    acts child child' n l c e ts m (together f (List._∷_ b ans)) P x = goes (b .0) (b .1) (c, ts) (together f ans) tt (x, tt)
+    acts child child' n l c e ts m (asked n' x' f List.[] used q) P x = ends (asks n' x') (asks n (dt e)) (refl, tt)
+    acts child child' n l c e ts m (asked n' x' f (List._∷_ b left) used q) P x =
+        goes (b .0) (b .1) (c, ts) (asked n' x' f left (used ++ List._∷_ b List.[]) (q ∙ sym (append-assoc used (List._∷_ b List.[]) left))) (refl, refl) (x, tt)
 
-    module _ (d : ℕ) (g : Alike asking Any (tick F d) (tick F d)) (k : Kind) (n : ℕ) (l : Float) (c : Cell) (b : ℕ) (ts : Forest) (e : Event) where
-      rule-asks : (p : Worlds) → Both asking p (KeptNext c ts) (λ w. rule F (tick F d) k n l c e ts w) (λ w. rule F (tick F d) k n l c e ts w)
-      rule-asks (together f ans) =
-          rw (rule-with F (tick F d) k n l c e ts f ans, rule-with F (tick F d) k n l c e ts f (ans ++ List._∷_ a more))
-          (rule-pair asking F acts Any (tick F d) (tick F d) g (suc f) k n l c e ts (together f ans) (any-each (shapes ts)))
-      rule-asks (asked n' x f left used q) =
-          rw (rule-with F (tick F d) k n l c e ts f left) (rule-pair asking F acts Any (tick F d) (tick F d) g (suc f) k n l c e ts (asked n' x f left used q) (any-each (shapes ts)))
-
-      visit : (p : Worlds) → Both asking p (Same (node k n l c b ts)) (λ w. rule F (tick F d) k n l c e ts w ▸ leave k n l) (λ w. rule F (tick F d) k n l c e ts w ▸ leave k n l)
-      visit p = visit-pair asking F (tick F d) (tick F d) k n l c b ts e p (rule-asks p)
-
-    tick-asks : (d : ℕ) → Alike asking Any (tick F d) (tick F d)
+    tick-asks : (d : ℕ) → Alike (asking F) Any (tick F d) (tick F d)
     unfolding tick
-    tick-asks zero t e p u = ends (firstIn p (λ w. short)) (secondIn p (λ w. short)) (stop-short Tree p)
-    tick-asks (suc d) (node k n l c b ts) e (together zero ans) u = ends short short refl
-    tick-asks (suc d) (node k n l c b ts) e (together (suc f) ans) u =
-        back asking (together (suc f) ans) (together f ans) (Same (node k n l c b ts)) _ _ tt (visit d (tick-asks d) k n l c b ts e (together f ans))
-    tick-asks (suc d) (node k n l c b ts) e (asked n' x zero left used q) u = ends (asks n' x) short (refl, tt)
-    tick-asks (suc d) (node k n l c b ts) e (asked n' x (suc f) left used q) u =
-        back asking (asked n' x (suc f) left used q) (asked n' x f left used q) (Same (node k n l c b ts)) _ _ (refl, refl) (visit d (tick-asks d) k n l c b ts e (asked n' x f left used q))
+    tick-asks zero t e p u v ev = ends (firstIn p (λ w. short)) (secondIn p (λ w. short)) (stop-short Tree p)
+    tick-asks (suc d) (node k n l c b ts) e (together zero ans) u v ev = ends short short refl
+    tick-asks (suc d) (node k n l c b ts) e (together (suc f) ans) u v ev =
+        visit-pair (asking F) acts Any (tick F d) (tick F d) (tick-asks d) (suc f) k n l c b ts e (together (suc f) ans) (together f ans) (rule-with F (tick F d) k n l c e ts f ans)
+        (rule-with F (tick F d) k n l c e ts f (ans ++ List._∷_ a more)) tt tt (λ h i j. tt) (any-each (shapes ts)) tt tt
+    tick-asks (suc d) (node k n l c b ts) e (asked n' x zero left used q) u v ev = ends (asks n' x) short (refl, tt)
+    tick-asks (suc d) (node k n l c b ts) e (asked n' x (suc f) left used q) u v ev =
+        visit-pair (asking F) acts Any (tick F d) (tick F d) (tick-asks d) (suc f) k n l c b ts e (asked n' x (suc f) left used q) (asked n' x f left used q) refl
+        (rule-with F (tick F d) k n l c e ts f left) (refl, refl) tt (λ h i j. tt) (any-each (shapes ts)) tt tt
 
     -- ---- the theorem
     -- the answer added was taken, and behind it none but the first ones of `more`
@@ -154,15 +151,15 @@ module _ (a : Status × Float) (more : Answers) where
     took-of (asks n x) h = tt
     took-of short h = tt
 
-    answered : (f : ℕ) (ans : Answers) (P : Tree → Type 0) (o o' : Out Tree) → Sim asking (together f ans) P o o' → Answered o o'
-    answered f ans P o o' (goes s r t (together f' l) h x) = refl
-    answered f ans P o o' (goes s r t (asked n x' f' left used q) h x) = (used, q)
-    answered f ans P o o' (ends (done s r t w) u' h) = absurd h
-    answered f ans P o o' (ends (asks n x) u' h) = took-of u' h
-    answered f ans P o o' (ends short u' h) = h
+    answered : (m f : ℕ) (ans : Answers) (P : Of (asking F) Tree) (o o' : Out Tree) → Sim (asking F) m (together f ans) P o o' → Answered o o'
+    answered m f ans P o o' (goes s r t (together f' l) h x) = refl
+    answered m f ans P o o' (goes s r t (asked n x' f' left used q) h x) = (used, q)
+    answered m f ans P o o' (ends (done s r t w) u' h) = absurd h
+    answered m f ans P o o' (ends (asks n x) u' h) = took-of u' h
+    answered m f ans P o o' (ends short u' h) = h
 
     pub answer-taken : (d : ℕ) (t : Tree) (e : Event) (f : ℕ) (ans : Answers) → Answered (tick F d t e (world f ans)) (tick F d t e (world f (ans ++ List._∷_ a more)))
-    answer-taken d t e f ans = answered f ans (Same t) (tick F d t e (world f ans)) (tick F d t e (world f (ans ++ List._∷_ a more))) (tick-asks d t e (together f ans) tt)
+    answer-taken d t e f ans = answered (sizeOf (shape t)) f ans _ (tick F d t e (world f ans)) (tick F d t e (world f (ans ++ List._∷_ a more))) (tick-asks d t e (together f ans) tt tt tt)
 
     -- ---- and back: an answer that was used was asked for
     abbrev leftOf : Out Tree → Answers

@@ -5,12 +5,12 @@ use Prim.Native.Nat.{ℕ, zero, suc, _<_}
 use lib.Dec.{ltb}
 use lib.Ieee.{Float, Format}
 use Rattle.rules.specs.declared.behavior.Kind.{Kind}
-use Rattle.rules.specs.declared.behavior.Kind.the-variants.{Wait, WaitForever, Action, Invert, AlwaysSucceed, Timeout, Select, If, Sequence}
-use Rattle.rules.specs.declared.behavior.Kind.the-variants.{MemorylessSequence, MemorylessSelector, While, WhileAll, WhenAll, WhenAny, After, Race}
+use Rattle.rules.specs.declared.behavior.Kind.the-variants.{While, WhileAll}
 use Rattle.rules.specs.declared.status.Status.{Status}
 use Rattle.rules.specs.declared.status.Status.the-variants.{Running, Success, Failure}
 use Rattle.rules.specs.declared.event.Event.{Event}
 use Rattle.rules.specs.declared.event.Event.the-variants.{Update, Other}
+use Rattle.rules.specs.Kinds.{is}
 use Rattle.rules.specs.Tree.{Cell, withPlace, Tree, Forest, [], _∷_, count}
 use Rattle.rules.specs.Outcome.{rest, World, world, Out, done, asks, short, Ticker, _▸_}
 use Rattle.rules.specs.Loops.{next, moved, childAt, whileBody, whileAll}
@@ -81,23 +81,8 @@ module _ (F : Format) (child : Ticker) (g : Spends F child) where
   with-budget : (b b' : ℕ) (k : Kind) (n : ℕ) (l : Float) (c : Cell) (e : Event) (ts : Forest) (f : ℕ) (ans : Answers) → f < b → f < b'
       → ruleWith b F child k n l c e ts (world f ans) ≡ ruleWith b' F child k n l c e ts (world f ans)
   unfolding ruleWith
-  with-budget b b' While n l c e ts f ans h h' = while-budget b b' c e ts f ans h h'
-  with-budget b b' WhileAll n l c e ts f ans h h' = while-all-budget b b' c e ts f ans h h'
-  with-budget b b' Wait n l c e ts f ans h h' = refl
-  with-budget b b' WaitForever n l c e ts f ans h h' = refl
-  with-budget b b' Action n l c e ts f ans h h' = refl
-  with-budget b b' Invert n l c e ts f ans h h' = refl
-  with-budget b b' AlwaysSucceed n l c e ts f ans h h' = refl
-  with-budget b b' Timeout n l c e ts f ans h h' = refl
-  with-budget b b' Select n l c e ts f ans h h' = refl
-  with-budget b b' If n l c e ts f ans h h' = refl
-  with-budget b b' Sequence n l c e ts f ans h h' = refl
-  with-budget b b' MemorylessSequence n l c e ts f ans h h' = refl
-  with-budget b b' MemorylessSelector n l c e ts f ans h h' = refl
-  with-budget b b' WhenAll n l c e ts f ans h h' = refl
-  with-budget b b' WhenAny n l c e ts f ans h h' = refl
-  with-budget b b' After n l c e ts f ans h h' = refl
-  with-budget b b' Race n l c e ts f ans h h' = refl
+  with-budget b b' k n l c e ts f ans h h' = λ i. cond (is k While) (while-budget b b' c e ts f ans h h' i)
+      (cond (is k WhileAll) (while-all-budget b b' c e ts f ans h h' i) (rule F child k n l c e ts (world f ans)))
 
   pub rule-budget : (b : ℕ) (k : Kind) (n : ℕ) (l : Float) (c : Cell) (e : Event) (ts : Forest) (f : ℕ) (ans : Answers) → f < b
       → rule F child k n l c e ts (world f ans) ≡ ruleWith b F child k n l c e ts (world f ans)

@@ -6,12 +6,12 @@ use mathlib.Core.List.{List}
 use mathlib.Core.List
 use Prim.Native.Nat.{ℕ, suc}
 use native.Mathlib.Nat.{zero-add}
+use native.Mathlib.Omega.{arith}
 use lib.Dec.{T, leb}
 use lib.Ieee.{Float, Format, binary64}
 use Rattle.rules.specs.declared.event.Event.{Event}
 use Rattle.rules.specs.declared.event.Event.the-variants.{Update, Other}
-use Rattle.rules.specs.declared.answer.Answer.{Answer}
-use Rattle.rules.specs.declared.answer.Answer.the-variants.{Ticked, Asked, Finished, BadTable, TooShort, BadTime, BadAnswer, OutOfFuel, BadCell, NoRoom}
+use Rattle.rules.specs.declared.answer.Answer.the-variants.{BadCell}
 use Rattle.rules.specs.Tree.{Tree, fresh, size}
 use Rattle.rules.specs.Outcome.{dt, World, world, Out, done, asks, short}
 use Rattle.rules.specs.State.{tick}
@@ -27,10 +27,9 @@ use Rattle.calls.specs.Fresh.{FreshCells, fresh-held}
 use Rattle.laws.specs.Elapsed.{number-elapsed}
 use Rattle.laws.specs.Fine.{fine-of, none-of, IfNone}
 use Rattle.laws.specs.Live.{Live, fresh-live, live-clear, live-fine, root-live, Right, tabled-right}
-use Rattle.laws.specs.LiveDrivers.{EAnswers, EWorld, Post}
 use Rattle.laws.specs.Alone.{AfterTick, tick-keeps}
 use Rattle.laws.specs.PairDrivers.{Same}
-use Rattle.laws.specs.LiveTicks.{tick-live}
+use Rattle.laws.specs.LiveTicks.{EAnswers, EWorld, LiveAfter, tick-live}
 use Rattle.laws.specs.Follows.{TakeUps}
 
 -- ---- what the checks of a call say of its times
@@ -83,8 +82,8 @@ AcceptedAfter short = Unit {0}
 pub tick-accepted : (F : Format) (d : ℕ) (t : Tree) (e : Event) (w : World) → Right (shape t) → Accepted t → T (elapsed (dt e)) → EWorld w → AcceptedAfter (tick F d t e w)
 tick-accepted F d t e w s a ev wv = on (tick F d t e w) (tick-live F d t e w s (live-of t (size t) a) ev wv)
   where
-    on : (o : Out Tree) → Post (Unit {0}) Live o → AcceptedAfter o
-    on (done s' r t' w') h = accepted-of t' (h .1 .1)
+    on : (o : Out Tree) → LiveAfter o → AcceptedAfter o
+    on (done s' r t' w') h = accepted-of t' (h .2)
     on (asks n x) h = tt
     on short h = tt
 
@@ -96,9 +95,9 @@ module _ (kinds ns : List ℕ) (limits : List Float) (t : Tree) (e : table kinds
   abbrev OfTable : Call → Type 0
   OfTable a = (u : Tree) → table (a .given' .kinds) (a .given' .ns) (a .given' .limits) ≡ good u → u ≡ t
 
-  walk-good : (a : Call) (before : Tree) (o : Out Tree) → Post (Unit {0}) Live o → AfterTick (world (a .given' .fuel) (answers (a .given' .statuses) (a .given' .leftovers))) (Same (startOf t a)) o
+  walk-good : (a : Call) (before : Tree) (o : Out Tree) → LiveAfter o → AfterTick (world (a .given' .fuel) (answers (a .given' .statuses) (a .given' .leftovers))) (Same (startOf t a)) o
       → T (isTicked (walked (a .given') before o .answer)) → Live (held t (walked (a .given') before o .cells'))
-  walk-good a before (done s x t' (world f ans)) h k y = rw (held-onto (sinceIn (a .given') s t') t t' (a .given' .cells') (k .1 .0 ∙ start-shape t a)) (live-clear t' (h .1 .1))
+  walk-good a before (done s x t' (world f ans)) h k y = rw (held-onto (sinceIn (a .given') s t') t t' (a .given' .cells') (k .1 .0 ∙ start-shape t a)) (live-clear t' (h .2))
   walk-good a before (asks n x) h k y = absurd y
   walk-good a before short h k y = absurd y
 
@@ -131,7 +130,8 @@ module _ (kinds ns : List ℕ) (limits : List Float) (t : Tree) (e : table kinds
   -- fresh cells, then any calls: the cells are accepted
   pub reached-accepted : (st : Standing) → FreshCells t (st .cells') → (cs : List Call) → TakeUps t st cs → Accepted (held t (afterAll st cs .cells'))
   reached-accepted st f cs up =
-      accepted-of (held t (afterAll st cs .cells')) (calls-good st cs up (rw (fresh-held kinds ns limits t (st .cells') e f) (rw (tabled-fresh t (tabled kinds ns limits t e .0)) at (live-clear (fresh t) (fresh-live t)))))
+      accepted-of (held t (afterAll st cs .cells')) (calls-good st cs up
+      (rw (fresh-held kinds ns limits t (st .cells') e f) (rw (tabled-fresh t (tabled kinds ns limits t e .0)) at (live-clear (fresh t) (fresh-live t)))))
 
   -- any cells, a restart answered 0, then any calls: the same
   pub restarted-accepted : (st : Standing) (g : Given) → OfTable (restarts g) → T (isTicked (restartCall g .answer)) → (cs : List Call) → TakeUps t (after st (restarts g)) cs
@@ -147,26 +147,14 @@ module _ (kinds ns : List ℕ) (limits : List Float) (t : Tree) (e : table kinds
       restarted = on (isTicked (restartCall g .answer)) y (left-good (restarts g) one (restartCall g) (view (restarts g)) y)
 
 -- ---- and answer 9 is never given to them
-abbrev NotBad : Answer → Type 0
-NotBad (Ticked s r v u) = Unit {0}
-NotBad (Asked n x) = Unit {0}
-NotBad Finished = Unit {0}
-NotBad (BadTable p) = Unit {0}
-NotBad TooShort = Unit {0}
-NotBad BadTime = Unit {0}
-NotBad (BadAnswer i) = Unit {0}
-NotBad OutOfFuel = Unit {0}
-NotBad (BadCell p) = ⊥
-NotBad NoRoom = Unit {0}
-
 abbrev IsFaulty : Found → Type 0
 IsFaulty (faulty p) = Unit {0}
 IsFaulty (none i) = ⊥
 
-walked-not-bad : (g : Given) (t : Tree) (o : Out Tree) → NotBad (walked g t o .answer)
-walked-not-bad g t (done s r t' (world f ans)) = tt
-walked-not-bad g t (asks n x) = tt
-walked-not-bad g t short = tt
+walked-not-bad : (g : Given) (t : Tree) (o : Out Tree) (p : ℕ) → walked g t o .answer ≡ BadCell p → ⊥
+walked-not-bad g t (done s r t' (world f ans)) p q = let z : _≡_ {A = ℕ} 0 1 = cc in omega arith
+walked-not-bad g t (asks n x) p q = let z : _≡_ {A = ℕ} 0 1 = cc in omega arith
+walked-not-bad g t short p q = let z : _≡_ {A = ℕ} 0 1 = cc in omega arith
 
 module _ (t : Tree) (st : Standing) (g : Given) (up : TakesUp t st (ticks g)) (a : Accepted (held t (st .cells'))) where
   found-none : (p : ℕ) → Why (ticks g) (BadCell p) → ⊥
@@ -174,24 +162,12 @@ module _ (t : Tree) (st : Standing) (g : Given) (up : TakesUp t st (ticks g)) (a
       let q : h .0 ≡ t = up .the-table (h .0) (h .1) in
       subst IsFaulty (sym (h .3) ∙ ap (λ (u : Tree). badCell false false 0 (heldBy u g)) q ∙ ap (badCell false false 0) (same-tree t st (ticks g) up refl (rw q at (h .2))) ∙ a) tt
 
-  not-bad : (b : Answer) → Why (ticks g) b → NotBad b
-  not-bad (Ticked s r v u) h = tt
-  not-bad (Asked n x) h = tt
-  not-bad Finished h = tt
-  not-bad (BadTable p) h = tt
-  not-bad TooShort h = tt
-  not-bad BadTime h = tt
-  not-bad (BadAnswer i) h = tt
-  not-bad OutOfFuel h = tt
-  not-bad (BadCell p) h = found-none p h
-  not-bad NoRoom h = tt
-
-  by-view : (l : Left) → View (ticks g) l → NotBad (l .answer)
-  by-view l (refusing b n) = not-bad b n
-  by-view l (walking u w) = walked-not-bad g (heldBy u g) (walk u (ticks g))
+  by-view : (l : Left) → View (ticks g) l → (p : ℕ) → l .answer ≡ BadCell p → ⊥
+  by-view l (refusing b n) p q = found-none p (subst (Why (ticks g)) q n)
+  by-view l (walking u w) p q = walked-not-bad g (heldBy u g) (walk u (ticks g)) p q
 
   pub accepted-not-bad : (p : ℕ) → tickCall g .answer ≡ BadCell p → ⊥
-  accepted-not-bad p q = subst NotBad q (by-view (tickCall g) (view (ticks g)))
+  accepted-not-bad p q = by-view (tickCall g) (view (ticks g)) p q
 
 pub never-bad-cell : (kinds ns : List ℕ) (limits : List Float) (t : Tree) → table kinds ns limits ≡ good t → (st : Standing) → FreshCells t (st .cells') → (cs : List Call) → TakeUps t st cs
     → (g : Given) → TakesUp t (afterAll st cs) (ticks g) → (p : ℕ) → tickCall g .answer ≡ BadCell p → ⊥

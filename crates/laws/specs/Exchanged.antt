@@ -4,21 +4,20 @@ use mathlib.Core.Path.{_≡_, refl, sym, ap, subst, _∙_}
 use mathlib.Core.Bool.{Bool, true, false, cond, _&&_, and-eq-true-iff}
 use mathlib.Core.List.{List, _++_}
 use mathlib.Core.List
-use Prim.Native.Nat.{ℕ, _≤_, _<_, min}
+use Prim.Native.Nat.{ℕ, _≤_, _<_}
 use borrow.Author.Tests.{leb-true, ltb-true}
 use lib.Dec.{T, leb, ltb}
-use lib.Ieee.{Float}
-use lib.ListN.{length, take, drop}
+use lib.ListN.{take, drop}
 use Rattle.rules.specs.declared.exchanged.Exchanged.{Exchanged as Answer}
 use Rattle.rules.specs.declared.exchanged.Exchanged.the-variants.{Done, Finished, BadTable, BadBranch, TooShort, BadCell, NoNode, StateHeld, TooLarge, ShortRoom}
 use Rattle.rules.specs.declared.answer.Answer.the-variants as answer
 use Rattle.rules.specs.Tree.{Cell, Tree, node, Forest, [], _∷_, fresh, size, depth}
 use Rattle.rules.specs.Table.{Table, good, bad, table}
-use Rattle.rules.specs.Cells.{Found, faulty, none, badCell, column, columns, timeOf, placeOf, markOf}
+use Rattle.rules.specs.Cells.{Found, faulty, none, badCell, column, columns}
 use Rattle.rules.specs.Call.{Run, run, runLength, ontoRun, Given, Left, tooShort, refused, walked, onTable, onInputs, atEntry, walkFrom, tickCall}
 use Rattle.rules.specs.Exchange.{Room, GivenExchange, LeftExchange, leftExchange, notExchanged, free, replaced, newSinces, ontoRoom, roomLength, written, replacing, onTrees, onBranch, exchangeCall}
-use Rattle.rules.specs.Exchange.{listed, listedAll, timeIn, placeIn, markIn}
-use Rattle.calls.specs.Shape.{shape, fresh-shape, size-shape}
+use Rattle.rules.specs.Exchange.{listed, listedAll}
+use Rattle.calls.specs.Shape.{fresh-shape, size-shape}
 use Rattle.calls.specs.Memory.{clear, clear-shape, held, held-onto}
 use Rattle.calls.specs.Tables.{tabled, renewed}
 use Rattle.laws.specs.Fine.{fine-of, none-of}

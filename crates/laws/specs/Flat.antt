@@ -4,11 +4,10 @@ use mathlib.Core.Bool.{Bool, true, false, cond, not, _&&_}
 use Prim.Native.Nat.{_≤_}
 use borrow.Author.Tests.{le-ltb}
 use lib.Dec.{ltb}
-use Rattle.rules.specs.declared.answer.Answer.{Answer}
 use Rattle.rules.specs.Tree.{size}
 use Rattle.rules.specs.Table.{Table, good, bad, table, mostDeep}
 use Rattle.rules.specs.Call.{Given, Left, tooShort, tickCall, restartCall}
-use Rattle.rules.specs.Levels.{Levels, entries, cleared, ofWalk, FlatLeft, flatLeft, noRoom, withRoom, tickFlat, restartFlat}
+use Rattle.rules.specs.Levels.{Levels, entries, cleared, ofWalk, FlatLeft, flatLeft, noRoom, tickFlat, restartFlat}
 
 and-not : (a : Bool) → a && false ≡ false
 and-not true = refl

@@ -15,8 +15,6 @@ pub mod Flat
 pub mod Follows
 pub mod Elapsed
 pub mod Live
-pub mod LiveDrivers
-pub mod LiveLoops
 pub mod LiveTicks
 pub mod CellsGood
 pub mod OnlyFuel

@@ -1,6 +1,6 @@
 -- A tree that may be ticked, by its cells: no mark, a place and a time that its kind allows; below a WhenAll or WhenAny a child may have ended.
 use mathlib.Core.Path.{_≡_, refl, sym, ap, _∙_, subst}
-use mathlib.Core.Bool.{Bool, true, false, cond, _&&_}
+use mathlib.Core.Bool.{Bool, true, false, cond, _&&_, _||_}
 use Prim.Native.Nat.{ℕ, _≤_}
 use native.Mathlib.Omega.{arith}
 use lib.Dec.{T, leb, eqb, eqb→eq, leb→le, le→leb}
@@ -10,138 +10,125 @@ use Rattle.rules.specs.declared.behavior.Kind.{Kind}
 use Rattle.rules.specs.Kinds.{timed, marksChildren, children}
 use Rattle.rules.specs.Tree.{zeroTime, Cell, Tree, node, Forest, [], _∷_, fresh, freshAll, marked, mark}
 use Rattle.rules.specs.Table.{zeroBits, countAllowed, limitAllowed}
-use Rattle.rules.specs.Cells.{elapsed, lastPlace, freshly, cellAllowed}
+use Rattle.rules.specs.Cells.{elapsed, lastPlace, cellAllowed, endedIn}
 use Rattle.calls.specs.Shape.{Shape, shp, Shapes, shape, shapes, countOf, count-of, fresh-unmarked}
 use Rattle.calls.specs.Shape
 use Rattle.calls.specs.Memory.{clear, clearAll, clear-marked}
 use Rattle.calls.specs.Tables.{Tabled, Tableds}
 use Rattle.laws.specs.Fine.{Fine, Fines}
 
--- every cell is fresh
-abbrev mutual
-  AllFresh : Tree → Type 0
-  AllFresh (node k n l c b ts) = T (freshly c) × Freshs ts
-
-  pub Freshs : Forest → Type 0
-  Freshs [] = Unit {0}
-  Freshs (t ∷ ts) = AllFresh t × Freshs ts
-
--- a child that has ended: marked, and all else fresh
+-- a child that has ended, as the cell check has it: marked, and all else fresh
 abbrev pub Ended : Tree → Type 0
-Ended (node k n l c b ts) = (c .mark ≡ 1) × T (zeroBits (c .time)) × (c .place ≡ 0) × Freshs ts
+Ended t = Fine false true t
 
 abbrev pub choose : Bool → Type 0 → Type 0 → Type 0
 choose true X Y = X
 choose false X Y = Y
 
+-- `time`: which times a cell in use may have
+module _ (time : Float → Bool) where
+  abbrev pub LiveCellBy : Kind → ℕ → Cell → Type 0
+  LiveCellBy k n c = (c .mark ≡ 0) × T (cond (timed k) (time (c .time)) (zeroBits (c .time))) × (c .place ≤ lastPlace k n)
+
+  abbrev mutual
+    pub LiveBy : Tree → Type 0
+    LiveBy (node k n l c b ts) = LiveCellBy k n c × choose (marksChildren k) (MarksBy ts) (LivesBy ts)
+
+    pub LivesBy : Forest → Type 0
+    LivesBy [] = Unit {0}
+    LivesBy (t ∷ ts) = LiveBy t × LivesBy ts
+
+    -- the children of WhenAll and WhenAny
+    pub MarksBy : Forest → Type 0
+    MarksBy [] = Unit {0}
+    MarksBy (t ∷ ts) = choose (marked t) (Ended t) (LiveBy t) × MarksBy ts
+
+  pub live-unmarked : (t : Tree) → LiveBy t → marked t ≡ false
+  live-unmarked (node k n l c b ts) h = ap (λ (z : ℕ). eqb z 1) (h .0 .0)
+
 abbrev pub LiveCell : Kind → ℕ → Cell → Type 0
-LiveCell k n c = (c .mark ≡ 0) × T (cond (timed k) (elapsed (c .time)) (zeroBits (c .time))) × (c .place ≤ lastPlace k n)
+LiveCell = LiveCellBy elapsed
 
-abbrev mutual
-  pub Live : Tree → Type 0
-  Live (node k n l c b ts) = LiveCell k n c × choose (marksChildren k) (Marks ts) (Lives ts)
+abbrev pub Live : Tree → Type 0
+Live = LiveBy elapsed
 
-  pub Lives : Forest → Type 0
-  Lives [] = Unit {0}
-  Lives (t ∷ ts) = Live t × Lives ts
+abbrev pub Lives : Forest → Type 0
+Lives = LivesBy elapsed
 
-  -- the children of WhenAll and WhenAny
-  pub Marks : Forest → Type 0
-  Marks [] = Unit {0}
-  Marks (t ∷ ts) = choose (marked t) (Ended t) (Live t) × Marks ts
-
-pub live-unmarked : (t : Tree) → Live t → marked t ≡ false
-live-unmarked (node k n l c b ts) h = ap (λ (z : ℕ). eqb z 1) (h .0 .0)
+abbrev pub Marks : Forest → Type 0
+Marks = MarksBy elapsed
 
 choose-both : (b : Bool) (X Y : Type 0) → X → Y → choose b X Y
 choose-both true X Y x y = x
 choose-both false X Y x y = y
 
--- ---- fresh trees
-fresh-time : (b : Bool) → T (cond b (elapsed zeroTime) (zeroBits zeroTime))
-fresh-time true = tt
-fresh-time false = tt
-
-mutual
-  unfolding fresh
-
-  pub fresh-live : (t : Tree) → Live (fresh t)
-  fresh-live (node k n l c b ts) = ((refl, fresh-time (timed k), omega arith), choose-both (marksChildren k) (Marks (freshAll ts)) (Lives (freshAll ts)) (fresh-marks ts) (fresh-lives ts))
-
-  pub fresh-lives : (ts : Forest) → Lives (freshAll ts)
-  fresh-lives [] = tt
-  fresh-lives (t ∷ ts) = (fresh-live t, fresh-lives ts)
-
-  fresh-marks : (ts : Forest) → Marks (freshAll ts)
-  fresh-marks [] = tt
-  fresh-marks (t ∷ ts) = (rw (fresh-unmarked t) (fresh-live t), fresh-marks ts)
-
-mutual
-  unfolding fresh
-
-  fresh-all : (t : Tree) → AllFresh (fresh t)
-  fresh-all (node k n l c b ts) = (tt, freshs ts)
-
-  freshs : (ts : Forest) → Freshs (freshAll ts)
-  freshs [] = tt
-  freshs (t ∷ ts) = (fresh-all t, freshs ts)
-
-pub fresh-ended : (t : Tree) → Ended (mark (fresh t))
-unfolding fresh
-fresh-ended (node k n l c b ts) = (refl, tt, refl, freshs ts)
-
--- ---- the board does not matter
-mutual
-  unfolding clear
-
-  clear-all : (t : Tree) → AllFresh t → AllFresh (clear t)
-  clear-all (node k n l c b ts) h = (h .0, clear-freshs ts (h .1))
-
-  clear-freshs : (ts : Forest) → Freshs ts → Freshs (clearAll ts)
-  clear-freshs [] h = tt
-  clear-freshs (t ∷ ts) h = (clear-all t (h .0), clear-freshs ts (h .1))
-
-clear-ended : (t : Tree) → Ended t → Ended (clear t)
-unfolding clear
-clear-ended (node k n l c b ts) h = (h .0, h .1, h .2, clear-freshs ts (h .3))
-
 choose-map : (b : Bool) (X X' Y Y' : Type 0) → (X → X') → (Y → Y') → choose b X Y → choose b X' Y'
 choose-map true X X' Y Y' f g h = f h
 choose-map false X X' Y Y' f g h = g h
 
+-- ---- fresh trees
+module _ (time : Float → Bool) (zero : T (time zeroTime)) where
+  fresh-time : (b : Bool) → T (cond b (time zeroTime) (zeroBits zeroTime))
+  fresh-time true = zero
+  fresh-time false = tt
+
+  mutual
+    unfolding fresh
+
+    pub fresh-live-by : (t : Tree) → LiveBy time (fresh t)
+    fresh-live-by (node k n l c b ts) =
+        ((refl, fresh-time (timed k), omega arith), choose-both (marksChildren k) (MarksBy time (freshAll ts)) (LivesBy time (freshAll ts)) (fresh-marks ts) (fresh-lives-by ts))
+
+    pub fresh-lives-by : (ts : Forest) → LivesBy time (freshAll ts)
+    fresh-lives-by [] = tt
+    fresh-lives-by (t ∷ ts) = (fresh-live-by t, fresh-lives-by ts)
+
+    fresh-marks : (ts : Forest) → MarksBy time (freshAll ts)
+    fresh-marks [] = tt
+    fresh-marks (t ∷ ts) = (rw (fresh-unmarked t) (fresh-live-by t), fresh-marks ts)
+
+pub fresh-live : (t : Tree) → Live (fresh t)
+fresh-live = fresh-live-by elapsed tt
+
 mutual
-  unfolding clear
+  unfolding fresh cellAllowed
 
-  pub live-clear : (t : Tree) → Live t → Live (clear t)
-  live-clear (node k n l c b ts) h = (h .0, choose-map (marksChildren k) (Marks ts) (Marks (clearAll ts)) (Lives ts) (Lives (clearAll ts)) (λ u. marks-clear ts u) (λ u. lives-clear ts u) (h .1))
+  fine-fresh : (mayEnd : Bool) (t : Tree) → Fine true mayEnd (fresh t)
+  fine-fresh mayEnd (node k n l c b ts) = (tt, fines-fresh (marksChildren k) ts)
 
-  lives-clear : (ts : Forest) → Lives ts → Lives (clearAll ts)
-  lives-clear [] h = tt
-  lives-clear (t ∷ ts) h = (live-clear t (h .0), lives-clear ts (h .1))
+  fines-fresh : (mayEnd : Bool) (ts : Forest) → Fines true mayEnd (freshAll ts)
+  fines-fresh mayEnd [] = tt
+  fines-fresh mayEnd (t ∷ ts) = (fine-fresh mayEnd t, fines-fresh mayEnd ts)
 
-  marks-clear : (ts : Forest) → Marks ts → Marks (clearAll ts)
-  marks-clear [] h = tt
-  marks-clear (t ∷ ts) h = (rw (clear-marked t) (choose-map (marked t) (Ended t) (Ended (clear t)) (Live t) (Live (clear t)) (clear-ended t) (λ u. live-clear t u) (h .0)), marks-clear ts (h .1))
+pub fresh-ended : (t : Tree) → Ended (mark (fresh t))
+unfolding fresh cellAllowed
+fresh-ended (node k n l c b ts) = (tt, fines-fresh (marksChildren k) ts)
+
+-- ---- whatever the times
+any-cell : (b x z : Bool) → T (cond b x z) → T (cond b true z)
+any-cell true x z h = tt
+any-cell false x z h = h
+
+mutual
+  pub any-time : (t : Tree) → Live t → LiveBy (λ x. true) t
+  any-time (node k n l c b ts) h = (
+    (h .0 .0, any-cell (timed k) (elapsed (c .time)) (zeroBits (c .time)) (h .0 .1), h .0 .2),
+    choose-map (marksChildren k) (Marks ts) (MarksBy (λ x. true) ts) (Lives ts) (LivesBy (λ x. true) ts) (λ u. any-marks ts u) (λ u. any-times ts u) (h .1),
+  )
+
+  any-times : (ts : Forest) → Lives ts → LivesBy (λ x. true) ts
+  any-times [] h = tt
+  any-times (t ∷ ts) h = (any-time t (h .0), any-times ts (h .1))
+
+  any-marks : (ts : Forest) → Marks ts → MarksBy (λ x. true) ts
+  any-marks [] h = tt
+  any-marks (t ∷ ts) h = (choose-map (marked t) (Ended t) (Ended t) (Live t) (LiveBy (λ x. true) t) (λ u. u) (λ u. any-time t u) (h .0), any-marks ts (h .1))
 
 -- ---- the cell check
-mutual
-  unfolding cellAllowed
-
-  fine-fresh : (mayEnd : Bool) (t : Tree) → AllFresh t → Fine true mayEnd t
-  fine-fresh mayEnd (node k n l c b ts) h = (h .0, fine-freshs (marksChildren k) ts (h .1))
-
-  fine-freshs : (mayEnd : Bool) (ts : Forest) → Freshs ts → Fines true mayEnd ts
-  fine-freshs mayEnd [] h = tt
-  fine-freshs mayEnd (t ∷ ts) h = (fine-fresh mayEnd t (h .0), fine-freshs mayEnd ts (h .1))
-
 in-use : (mayEnd : Bool) (k : Kind) (n : ℕ) (c : Cell) → LiveCell k n c → T (cellAllowed false mayEnd k n c)
 unfolding cellAllowed
 in-use mayEnd k n c h =
     rw (h .0) (and-i (cond (timed k) (elapsed (c .time)) (zeroBits (c .time))) (leb (c .place) (lastPlace k n)) (h .1) (le→leb (c .place) (lastPlace k n) (h .2)))
-
-ended-is-fine : (t : Tree) → Ended t → Fine false true t
-unfolding cellAllowed
-ended-is-fine (node k n l c b ts) h = rw (h .0, h .2) (and-i (zeroBits (c .time)) true (h .1) tt, fine-freshs (marksChildren k) ts (h .3))
 
 choose-fines : (b : Bool) (X Y : Type 0) (Z : Bool → Type 0) → (X → Z true) → (Y → Z false) → choose b X Y → Z b
 choose-fines true X Y Z f g h = f h
@@ -158,7 +145,7 @@ mutual
 
   marks-fine : (ts : Forest) → Marks ts → Fines false true ts
   marks-fine [] h = tt
-  marks-fine (t ∷ ts) h = (choose-fines (marked t) (Ended t) (Live t) (λ (z : Bool). Fine false true t) (ended-is-fine t) (λ u. live-fine true t u) (h .0), marks-fine ts (h .1))
+  marks-fine (t ∷ ts) h = (choose-fines (marked t) (Ended t) (Live t) (λ (z : Bool). Fine false true t) (λ u. u) (λ u. live-fine true t u) (h .0), marks-fine ts (h .1))
 
 -- ---- and back: of cells that the check accepts
 -- a mark is 0 or 1
@@ -182,32 +169,15 @@ live-cell mayEnd k n c u h = on (eqb (c .mark) 0) (eqb→eq (c .mark) 0) h
     on true f g = (f tt, and-l time place g, leb→le (c .place) (lastPlace k n) (and-r time place g))
     on false f g = absurd (subst T u (and-l (eqb (c .mark) 1) mayEnd (and-l one (zeroBits (c .time)) (and-l (one && zeroBits (c .time)) (eqb (c .place) 0) g))))
 
--- the cell of a marked child: mayEnd, and time and place zero
-ended-cell : (mayEnd : Bool) (k : Kind) (n : ℕ) (c : Cell) → T (eqb (c .mark) 1) → T (cellAllowed false mayEnd k n c) → T mayEnd × T (zeroBits (c .time)) × (c .place ≡ 0)
+-- where a child is marked, one may have ended
+marked-ends : (mayEnd : Bool) (t : Tree) → marked t ≡ true → Fine false mayEnd t → T mayEnd
 unfolding cellAllowed
-ended-cell mayEnd k n c u h =
+marked-ends mayEnd (node k n l c b ts) u h =
     let one : Bool = eqb (c .mark) 1 in
     let time : Bool = zeroBits (c .time) in
     let place : Bool = eqb (c .place) 0 in
-    let g : T (one && mayEnd && time && place) = rw (one-not-zero (c .mark) u) at h in
-    let both = and-l (one && mayEnd && time) place g in
-    (and-r one mayEnd (and-l (one && mayEnd) time both), and-r (one && mayEnd) time both, eqb→eq (c .place) 0 (and-r (one && mayEnd && time) place g))
-
-mutual
-  unfolding cellAllowed
-
-  fresh-fine : (mayEnd : Bool) (t : Tree) → Fine true mayEnd t → AllFresh t
-  fresh-fine mayEnd (node k n l c b ts) h = (h .0, fresh-fines (marksChildren k) ts (h .1))
-
-  fresh-fines : (mayEnd : Bool) (ts : Forest) → Fines true mayEnd ts → Freshs ts
-  fresh-fines mayEnd [] h = tt
-  fresh-fines mayEnd (t ∷ ts) h = (fresh-fine mayEnd t (h .0), fresh-fines mayEnd ts (h .1))
-
-fine-ended : (mayEnd : Bool) (t : Tree) → marked t ≡ true → Fine false mayEnd t → T mayEnd × Ended t
-fine-ended mayEnd (node k n l c b ts) u h =
-    let v : T (eqb (c .mark) 1) = subst T (sym u) tt in
-    let g = ended-cell mayEnd k n c v (h .0) in
-    (g .0, (eqb→eq (c .mark) 1 v, g .1, g .2, fresh-fines (marksChildren k) ts (rw u at (h .1))))
+    let g : T (one && mayEnd && time && place) = rw (one-not-zero (c .mark) (subst T (sym u) tt)) at (h .0) in
+    and-r one mayEnd (and-l (one && mayEnd) time (and-l (one && mayEnd && time) place g))
 
 choose-of : (b : Bool) (X Y : Type 0) (Z : Bool → Type 0) → (Z true → X) → (Z false → Y) → Z b → choose b X Y
 choose-of true X Y Z f g h = f h
@@ -215,11 +185,11 @@ choose-of false X Y Z f g h = g h
 
 -- a child where none may have ended; where one may
 child-live : (t : Tree) → Fine false false t → (marked t ≡ false → Live t) → (b : Bool) → marked t ≡ b → Live t
-child-live t h f true u = absurd (fine-ended false t u h .0)
+child-live t h f true u = absurd (marked-ends false t u h)
 child-live t h f false u = f u
 
 child-mark : (t : Tree) → Fine false true t → (marked t ≡ false → Live t) → (b : Bool) → marked t ≡ b → choose b (Ended t) (Live t)
-child-mark t h f true u = fine-ended true t u h .1
+child-mark t h f true u = h
 child-mark t h f false u = f u
 
 mutual
@@ -234,6 +204,20 @@ mutual
   fine-marks : (ts : Forest) → Fines false true ts → Marks ts
   fine-marks [] h = tt
   fine-marks (t ∷ ts) h = (child-mark t (h .0) (λ u. fine-live true t (h .0) u) (marked t) refl, fine-marks ts (h .1))
+
+-- ---- the board does not matter
+mutual
+  unfolding clear cellAllowed
+
+  fine-clear : (ended mayEnd : Bool) (t : Tree) → Fine ended mayEnd t → Fine ended mayEnd (clear t)
+  fine-clear ended mayEnd (node k n l c b ts) h = (h .0, fines-clear (ended || endedIn c) (marksChildren k) ts (h .1))
+
+  fines-clear : (ended mayEnd : Bool) (ts : Forest) → Fines ended mayEnd ts → Fines ended mayEnd (clearAll ts)
+  fines-clear ended mayEnd [] h = tt
+  fines-clear ended mayEnd (t ∷ ts) h = (fine-clear ended mayEnd t (h .0), fines-clear ended mayEnd ts (h .1))
+
+pub live-clear : (t : Tree) → Live t → Live (clear t)
+live-clear t h = fine-live false (clear t) (fine-clear false false t (live-fine false t h)) (clear-marked t ∙ live-unmarked elapsed t h)
 
 -- a root has no mark
 pub root-live : (t : Tree) → Fine false false t → Live t

@@ -2,14 +2,11 @@
 -- left; the rules are `short` there, and in clauses that no accepted cell leads to: a child that is not there, a place past its range, the depth
 -- and the loops' budget. So that the two can be told apart, that one visit gets an outcome of its own.
 use mathlib.Core.Path.{_≡_, refl, sym, ap, subst}
-use mathlib.Core.Logic.{_⊎_, inl, inr}
-use mathlib.Core.List.{List}
-use mathlib.Core.List
 use Prim.Native.Nat.{ℕ, zero, suc, _≤_}
-use native.Mathlib.Nat.{le-of-suc-le-suc, not-suc-le-zero}
+use native.Mathlib.Nat.{le-of-suc-le-suc}
+use native.Mathlib.Omega.{arith}
 use lib.Dec.{T}
 use lib.Ieee.{Float, Format, binary64}
-use Rattle.rules.specs.declared.status.Status.{Status}
 use Rattle.rules.specs.declared.event.Event.{Event}
 use Rattle.rules.specs.declared.answer.Answer.{Answer}
 use Rattle.rules.specs.declared.answer.Answer.the-variants.{Ticked, Asked, Finished, BadTable, TooShort, BadTime, BadAnswer, OutOfFuel, BadCell, NoRoom}
@@ -19,19 +16,17 @@ use Rattle.rules.specs.State.{rule, tick}
 use Rattle.rules.specs.Table.{mostDeep, good, table}
 use Rattle.rules.specs.Cells.{elapsed}
 use Rattle.rules.specs.Call.{Left, answers, cleanedEvent, walked}
-use Rattle.calls.specs.Shape.{Shape, Shapes, shape, shapes, depthOf, depthsOf, depth-of}
+use Rattle.calls.specs.Shape.{Shape, Shapes, shape, shapes, sizeOf, depthOf, depthsOf, depth-of}
 use Rattle.calls.specs.Shape
 use Rattle.calls.specs.Tables.{tabled}
 use Rattle.calls.specs.View.{Call, leftBy, heldBy, startOf, walk, start-shape, Walked, Why, View, walking, refusing, view}
 use Rattle.calls.specs.Walks.{walks}
-use Rattle.laws.specs.Pair.{Pairing, Sim, goes, ends, back}
-use Rattle.laws.specs.PairDrivers.{Same, Each, Alike, Any, any-each}
-use Rattle.laws.specs.PairRules.{rule-with, Acts, rule-pair, leave, visit-pair}
+use Rattle.laws.specs.Pair.{Pairing, Sim, goes, ends}
+use Rattle.laws.specs.PairDrivers.{Each, Visited, Alike}
+use Rattle.laws.specs.PairRules.{rule-with, leave, visit-pair}
 use Rattle.laws.specs.Alone.{max-left, max-right}
 use Rattle.laws.specs.Live.{Live, Right, Rights, tabled-right}
-use Rattle.laws.specs.LiveDrivers.{EWorld, Post, Keeps}
-use Rattle.laws.specs.LiveLoops.{Falls, Orderly}
-use Rattle.laws.specs.LiveTicks.{visit-live, tick-falls}
+use Rattle.laws.specs.LiveTicks.{EWorld, living, living-acts}
 use Rattle.laws.specs.CellsGood.{event-elapsed, answers-elapsed, live-of}
 
 -- ---- the rules' tick, with `out` for the outcome of a visit that finds no fuel left
@@ -61,84 +56,28 @@ fits-each : (d : ℕ) (ss : Shapes) → Rights ss → depthsOf ss ≤ d → Each
 fits-each d Shape.[] r h = tt
 fits-each d (Shape._∷_ s ss) r h = ((r .0, max-left (depthOf s) (depthsOf ss) d h), fits-each d ss (r .1) (max-right (depthOf s) (depthsOf ss) d h))
 
--- ---- the two ticks side by side: as long as both go on, they do the same
-module _ (n : ℕ) (x : Float) where
-  abbrev Stopped : {A : Type 0} → Out A → Out A → Type 0
-  Stopped (done s r a w) o' = ⊥
-  Stopped (asks m y) o' = o' ≡ asks m y
-  Stopped short o' = (o' ≡ short) ⊎ (o' ≡ asks n x)
+-- ---- the two ticks side by side, from accepted cells: as long as both go on, they do the same, and the rules' own is short where the other ends in `asks n x`
+module _ (n : ℕ) (x : Float) (F : Format) where
+  abbrev beside : Pairing F
+  beside = living (λ A o. o ≡ asks n x) (λ A B o k h. rw h) F
 
-  stopped-then : {A B : Type 0} (o o' : Out A) (c c' : Status → Float → A → World → Out B) → Stopped o o' → Stopped (o ▸ c) (o' ▸ c')
-  stopped-then (done s r a w) o' c c' h = absurd h
-  stopped-then (asks m y) o' c c' h = rw h
-  stopped-then short o' c c' h = elim h [ inl e ↦ inl (rw e) | inr e ↦ inr (rw e) ]
+  tick-beside : (d : ℕ) → Alike beside (Fits d) (tick F d) (tickOr (asks n x) F d)
+  unfolding tick tickOr
+  tick-beside zero (node k m l c b ts) e w s v ev = absurd (omega arith)
+  tick-beside (suc d) t e (world zero ans, wv) s v ev = ends short (asks n x) refl
+  tick-beside (suc d) (node k m l c b ts) e (world (suc f) ans, wv) s v ev =
+      visit-pair beside (living-acts (λ A o. o ≡ asks n x) (λ A B o k h. rw h) F) (Fits d) (tick F d) (tickOr (asks n x) F d) (tick-beside d) (suc f) k m l c b ts e
+      (world (suc f) ans, wv) (world f ans, wv) (rule-with F (tick F d) k m l c e ts f ans) (rule-with F (tickOr (asks n x) F d) k m l c e ts f ans) (omega arith) (omega arith)
+      (λ h i j. tt) (fits-each d (shapes ts) (s .0 .3) (le-of-suc-le-suc (s .1))) ((s .0 .0, s .0 .1, s .0 .2), v, omega arith) ev
 
-  abbrev beside : Pairing
-  beside = record {
-    Worlds = World;
-    first = λ w m. m w;
-    second = λ w m. m w;
-    Reach = λ w w'. Unit {0};
-    stays = λ w. tt;
-    onward = λ w w' w'' h g. tt;
-    Stop = λ w o o'. Stopped o o';
-    stop-then = λ w o o' c c' h. stopped-then o o' c c' h;
-    stop-back = λ w w' o o' g h. h;
-    stop-short = λ w. inl refl;
-    first-then = λ w m c. refl;
-    second-then = λ w m c. refl;
-  }
-
-  module _ (F : Format) where
-    acts : Acts beside F
-    unfolding rule
-    acts child child' m l c e ts (world f List.[]) = ends (asks m (dt e)) (asks m (dt e)) refl
-    acts child child' m l c e ts (world f (List._∷_ a ans)) = goes (a .0) (a .1) (c, ts) (world f ans) tt (refl, refl)
-
-    tick-beside : (d : ℕ) → Alike beside Any (tick F d) (tickOr (asks n x) F d)
-    unfolding tick tickOr
-    tick-beside zero t e w u = ends short short (inl refl)
-    tick-beside (suc d) t e (world zero ans) u = ends short (asks n x) (inr refl)
-    tick-beside (suc d) (node k m l c b ts) e (world (suc f) ans) u =
-        back beside (world (suc f) ans) (world f ans) (Same (node k m l c b ts)) _ _ tt (visit-pair beside F (tick F d) (tickOr (asks n x) F d) k m l c b ts e (world f ans)
-        (rw (rule-with F (tick F d) k m l c e ts f ans, rule-with F (tickOr (asks n x) F d) k m l c e ts f ans)
-        (rule-pair beside F acts Any (tick F d) (tickOr (asks n x) F d) (tick-beside d) (suc f) k m l c e ts (world f ans) (any-each (shapes ts)))))
-
-    or-falls : (d : ℕ) → Orderly (tickOr (asks n x) F d)
-    or-falls d t e w = on (tick F d t e w) (tickOr (asks n x) F d t e w) (tick-beside d t e w tt) (tick-falls F d t e w)
-      where
-        K : Tree → Type 0
-        K t' = shape t' ≡ shape t
-
-        stop : (u u' : Out Tree) → Stopped u u' → Falls w K u'
-        stop (done s r t' w') u' q = absurd q
-        stop (asks m y) u' q = rw q tt
-        stop short u' q = elim q [ inl e' ↦ rw e' tt | inr e' ↦ rw e' tt ]
-
-        on : (o o' : Out Tree) → Sim beside w (Same t) o o' → Falls w K o → Falls w K o'
-        on o o' (goes s r t' w' h y) l = l
-        on o o' (ends u u' q) l = stop u u' q
-
-    -- ---- from accepted cells no other clause is met: with an outcome of its own for the fuel, a tick is never `short`
-    or-live : (d : ℕ) → Keeps (Fits d) ⊥ (tickOr (asks n x) F d)
-    unfolding tickOr
-    or-live zero (node k m l c b ts) e w s v ev wv = absurd (not-suc-le-zero (s .1))
-    or-live (suc d) t e (world zero ans) s v ev wv = tt
-    or-live (suc d) (node k m l c b ts) e (world (suc f) ans) s v ev wv =
-        visit-live F (Fits d) ⊥ (tickOr (asks n x) F d) (or-live d) (or-falls d) k m l c b e ts (world f ans) (s .0 .0, s .0 .1, s .0 .2)
-        (fits-each d (shapes ts) (s .0 .3) (le-of-suc-le-suc (s .1))) v ev wv
-
-    pub only-fuel : (d : ℕ) (t : Tree) (e : Event) (w : World) → Fits d (shape t) → Live t → T (elapsed (dt e)) → EWorld w → tickOr (asks n x) F d t e w ≡ instead (asks n x) (tick F d t e w)
-    only-fuel d t e w s v ev wv = on (tick F d t e w) (tickOr (asks n x) F d t e w) (tick-beside d t e w tt) (or-live d t e w s v ev wv)
-      where
-        stop : (u u' : Out Tree) → Stopped u u' → Post ⊥ Live u' → u' ≡ instead (asks n x) u
-        stop (done s' r t' w') u' q h = absurd q
-        stop (asks m y) u' q h = q
-        stop short u' q h = elim q [ inl e' ↦ absurd (subst (Post ⊥ Live) e' h) | inr e' ↦ e' ]
-
-        on : (o o' : Out Tree) → Sim beside w (Same t) o o' → Post ⊥ Live o' → o' ≡ instead (asks n x) o
-        on o o' (goes s' r t' w' g y) h = refl
-        on o o' (ends u u' q) h = stop u u' q h
+  pub only-fuel : (d : ℕ) (t : Tree) (e : Event) (w : World) → Fits d (shape t) → Live t → T (elapsed (dt e)) → EWorld w → tickOr (asks n x) F d t e w ≡ instead (asks n x) (tick F d t e w)
+  only-fuel d t e w s v ev wv = on (tick F d t e w) (tickOr (asks n x) F d t e w) (tick-beside d t e (w, wv) s v ev)
+    where
+      on : (o o' : Out Tree) → Sim beside (sizeOf (shape t)) (w, wv) (Visited beside (w, wv) t) o o' → o' ≡ instead (asks n x) o
+      on o o' (goes s' r t' q h y) = refl
+      on o o' (ends (done s' r t' w') u' h) = absurd h
+      on o o' (ends (asks m y) u' h) = h
+      on o o' (ends short u' h) = h
 
 -- ---- the walk of a call
 abbrev pub walkOr : Out Tree → Tree → Call → Out Tree

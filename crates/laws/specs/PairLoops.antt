@@ -1,90 +1,135 @@
--- Two walks side by side through the loops, turn by turn, with any budget, and through If.
-use mathlib.Core.Path.{_≡_, _∙_}
-use mathlib.Core.Bool.{cond}
-use Prim.Native.Nat.{ℕ, zero, suc}
+-- Two walks side by side through the loops, turn by turn, with any budget above the fuel, and through If.
+use mathlib.Core.Path.{_≡_, refl, _∙_}
+use mathlib.Core.Bool.{Bool, true, false, cond}
+use Prim.Native.Nat.{ℕ, zero, suc, _≤_, _<_}
+use native.Mathlib.Nat.{le-of-suc-le-suc}
+use native.Mathlib.Omega.{arith}
 use lib.Dec.{ltb}
+use borrow.Author.Tests.{ltb-true}
+use lib.Ieee.{Format}
 use Rattle.rules.specs.declared.status.Status.the-variants.{Running, Success, Failure}
 use Rattle.rules.specs.declared.event.Event.{Event}
 use Rattle.rules.specs.declared.event.Event.the-variants.{Update, Other}
-use Rattle.rules.specs.Tree.{zeroTime, Tree, Forest, [], _∷_, fresh, count}
-use Rattle.rules.specs.Outcome.{rest, Ticker}
-use Rattle.rules.specs.Loops.{put, next, moved, childAt, whileBody, whileAll}
+use Rattle.rules.specs.Tree.{Tree, Forest, [], _∷_, count}
+use Rattle.rules.specs.Outcome.{dt, rest, Ticker}
+use Rattle.rules.specs.Loops.{put, freshAt, next, moved, childAt, whileBody, whileAll}
 use Rattle.rules.specs.State.{ifAt}
-use Rattle.calls.specs.Shape.{Shape, shape, shapes, fresh-shape, moved-shapes}
-use Rattle.calls.specs.Shape
-use Rattle.laws.specs.Pair.{Pairing, Both, sim-done, sim-short, sim-then, sim-map, sim-weak, same}
-use Rattle.laws.specs.PairDrivers.{Same, KeptAt, Each, Alike}
+use Rattle.calls.specs.Shape.{Shape, shape, shapes, sizeOf, sizesOf, fresh-shape, moved-shapes, count-shape}
+use Rattle.laws.specs.Live.{fresh-live-by}
+use Rattle.laws.specs.Pair.{Pairing, Known, Time, from, from-both, Of, Both, up, weak, stay, cut, then, after}
+use Rattle.laws.specs.PairDrivers.{join, Each, Livelies, fresh-lively, KeptAt, Alike, rest-time, visit, visit-fresh}
 
--- the child n was ticked
-abbrev pub KeptPut : ℕ → Forest → Tree → Type 0
-KeptPut n ts t' = shapes (put n t' ts) ≡ shapes ts
+-- the next body index; of a WhileAll, whose condition may be due
+next-in : (n m c : ℕ) → c ≡ suc m → n ≤ m → (b : Bool) → (b ≡ true → suc n < c) → cond b (suc n) 0 ≤ m
+next-in n m c e h true f = let g = f refl in omega arith
+next-in n m c e h false f = omega arith
 
-module _ (R : Pairing) (D : Shape → Type 0) (child child' : Ticker) (g : Alike R D child child') where
-  child-pair : (e : Event) (ts : Forest) (n : ℕ) (p : R .Worlds) → Each D (shapes ts) → Both R p (KeptPut n ts) (λ w. childAt child n e ts w) (λ w. childAt child' n e ts w)
-  child-pair e [] n p d = sim-short R p (KeptPut n [])
-  child-pair e (t ∷ ts) zero p d =
-      sim-weak R p (Same t) (KeptPut 0 (t ∷ ts)) (R .first p (λ w. child t e w)) (R .second p (λ w. child' t e w)) (g t e p (d .0)) (λ t' x i. Shape._∷_ (x .0 i) (shapes ts))
-  child-pair e (t ∷ ts) (suc n) p d =
-      sim-weak R p (KeptPut n ts) (KeptPut (suc n) (t ∷ ts)) (R .first p (λ w. childAt child n e ts w)) (R .second p (λ w. childAt child' n e ts w)) (child-pair e ts n p (d .1))
-      (λ t' x i. Shape._∷_ (shape t) (x i))
+next-due : (n c : ℕ) → (b : Bool) → (b ≡ true → suc n < c) → cond b (suc (suc n)) 0 ≤ c
+next-due n c true f = f refl
+next-due n c false f = omega arith
 
-  -- ---- While's body
-  pub body-pair : (b n : ℕ) (e : Event) (ts : Forest) (p : R .Worlds) → Each D (shapes ts) → Both R p (KeptAt ts) (λ w. whileBody child b n e ts w) (λ w. whileBody child' b n e ts w)
-  unfolding whileBody
-  body-pair zero n e ts p d = sim-short R p (KeptAt ts)
-  body-pair (suc b) n (Update y) ts p d =
-      sim-then R p (KeptPut n ts) (KeptAt ts) (λ w. childAt child n (Update y) ts w) (λ w. childAt child' n (Update y) ts w) _ _ (child-pair (Update y) ts n p d) λ s. elim s [
-        | Running ↦ λ r t' q x. sim-done R q (KeptAt ts) Running zeroTime (n, put n t' ts) x
-        | Failure ↦ λ r t' q x. sim-done R q (KeptAt ts) Failure r (n, put n t' ts) x
+module _ {F : Format} (R : Pairing F) where
+  fresh-at-livelies : (ts : Forest) (n : ℕ) → Livelies R ts → Livelies R (freshAt n ts)
+  fresh-at-livelies [] n v = tt
+  fresh-at-livelies (t ∷ ts) zero v = (fresh-live-by (R .terms .time) (R .terms .none-passed) t, v .1)
+  fresh-at-livelies (t ∷ ts) (suc n) v = (v .0, fresh-at-livelies ts n (v .1))
+
+  moved-livelies : (ts : Forest) (n q : ℕ) (t' : Tree) → Livelies R (put n t' ts) → Livelies R (freshAt q (freshAt n (put n t' ts)))
+  moved-livelies ts n q t' v = fresh-at-livelies (freshAt n (put n t' ts)) q (fresh-at-livelies (put n t' ts) n v)
+
+  -- the child n was ticked from p
+  abbrev KeptPut : R .Worlds → ℕ → Forest → Of R Tree
+  KeptPut p n ts s r t' q = (shapes (put n t' ts) ≡ shapes ts) × Known R (Livelies R (put n t' ts) × (R .fuel q < R .fuel p)) × Time R r
+
+  module _ (D : Shape → Type 0) (child child' : Ticker) (g : Alike R D child child') where
+    -- where nodes are visited again, they are not counted
+    module _ (free : (m n : ℕ) → R .Upto m n) where
+      child-pair : (e : Event) (ts : Forest) (n : ℕ) (p : R .Worlds) → Each D (shapes ts) → Known R ((n < count ts) × Livelies R ts) → Time R (dt e)
+          → Both R 0 p (KeptPut p n ts) (λ w. childAt child n e ts w) (λ w. childAt child' n e ts w)
+      child-pair e [] n p d v ev = cut R (from R v (λ h. omega arith))
+      child-pair e (t ∷ ts) zero p d v ev =
+          up R (sizeOf (shape t)) (free (sizeOf (shape t)) 0) (weak R (visit R D child child' g t e p (d .0) (from R v (λ h. h .1 .0)) ev)
+          λ s r t' q x. (join (x .0) refl, from-both R (x .1) v (λ a b. ((a .0, b .1 .1), a .1)), x .2))
+      child-pair e (t ∷ ts) (suc n) p d v ev = weak R (child-pair e ts n p (d .1) (from R v (λ h. (le-of-suc-le-suc (h .0), h .1 .1))) ev)
+          λ s r t' q x. (join refl (x .0), from-both R (x .1) v (λ a b. ((b .1 .0, a .0), a .1)), x .2)
+
+      -- ---- While's body, with a place up to m
+      pub body-pair : (b m n : ℕ) (e : Event) (ts : Forest) (p : R .Worlds) → Each D (shapes ts)
+          → Known R ((R .fuel p < b) × (count ts ≡ suc m) × (n ≤ m) × Livelies R ts) → Time R (dt e)
+          → Both R 0 p (KeptAt R m ts) (λ w. whileBody child b n e ts w) (λ w. whileBody child' b n e ts w)
+      unfolding whileBody
+      body-pair zero m n e ts p d v ev = cut R (from R v (λ h. omega arith))
+      body-pair (suc b) m n e ts p d v ev = after R (child-pair e ts n p d (from R v (λ h. (omega arith, h .3))) ev) λ s. elim s [
+        | Running ↦ λ r t' q x. stay R (x .0, from-both R (x .1) v (λ a b. (b .2, a .0)), R .terms .none-passed)
+        | Failure ↦ λ r t' q x. stay R (x .0, from-both R (x .1) v (λ a b. (b .2, a .0)), x .2)
         | Success ↦ λ r t' q x.
             let us : Forest = moved n t' ts in
-            let sh : shapes us ≡ shapes ts = moved-shapes ts n (next n ts) t' x in
-            sim-weak R q (KeptAt us) (KeptAt ts) (R .first q (λ w. whileBody child b (next n ts) (Update r) us w)) (R .second q (λ w. whileBody child' b (next n ts) (Update r) us w))
-            (body-pair b (next n ts) (Update r) us q (rw sh d)) (λ z y. y ∙ sh)
+            let sh : shapes us ≡ shapes ts = moved-shapes ts n (next n ts) t' (x .0) in
+            elim e [
+              | Update y ↦ weak R (body-pair b m (next n ts) (Update r) us q (rw sh d)
+                  (from-both R (x .1) v (λ a b. (
+                    omega arith,
+                    count-shape us ts sh ∙ b .1,
+                    next-in n m (count ts) (b .1) (b .2) (ltb (suc n) (count ts)) (ltb-true (suc n) (count ts)),
+                    moved-livelies ts n (next n ts) t' (a .0),
+                  ))) (x .2))
+                  λ s' r' z q' y. (y .0 ∙ sh, y .1, y .2)
+              | Other ↦ stay R (x .0, from-both R (x .1) v (λ a b. (b .2, a .0)), R .terms .none-passed)
+            ]
       ]
-  body-pair (suc b) n Other ts p d = sim-then R p (KeptPut n ts) (KeptAt ts) (λ w. childAt child n Other ts w) (λ w. childAt child' n Other ts w) _ _ (child-pair Other ts n p d) λ s. elim s [
-    | Running ↦ λ r t' q x. sim-done R q (KeptAt ts) Running zeroTime (n, put n t' ts) x
-    | Failure ↦ λ r t' q x. sim-done R q (KeptAt ts) Failure r (n, put n t' ts) x
-    | Success ↦ λ r t' q x. sim-done R q (KeptAt ts) Running zeroTime (n, put n t' ts) x
-  ]
 
-  -- ---- WhileAll
-  pub loop-pair : (b : ℕ) (whole : Event) (n : ℕ) (e : Event) (c : Tree) (ts : Forest) (p : R .Worlds) → D (shape c) → Each D (shapes ts)
-      → Both R p (KeptAt (c ∷ ts)) (λ w. whileAll child b whole n e c ts w) (λ w. whileAll child' b whole n e c ts w)
-  unfolding whileAll
-  loop-pair zero whole n e c ts p dc d = sim-short R p (KeptAt (c ∷ ts))
-  loop-pair (suc b) whole zero e c ts p dc d = sim-then R p (Same c) (KeptAt (c ∷ ts)) (λ w. child c whole w) (λ w. child' c whole w) _ _ (g c whole p dc) λ s. elim s [
-    | Running ↦ λ r c' q x. sim-weak R q (KeptAt (c' ∷ ts)) (KeptAt (c ∷ ts)) (R .first q (λ w. whileAll child b whole 1 e c' ts w)) (R .second q (λ w. whileAll child' b whole 1 e c' ts w))
-        (loop-pair b whole 1 e c' ts q (rw (x .0) dc) d) (λ z y. y ∙ (λ i. Shape._∷_ (x .0 i) (shapes ts)))
-    | Success ↦ λ r c' q x. sim-done R q (KeptAt (c ∷ ts)) Success r (1, c' ∷ ts) (λ i. Shape._∷_ (x .0 i) (shapes ts))
-    | Failure ↦ λ r c' q x. sim-done R q (KeptAt (c ∷ ts)) Failure r (1, c' ∷ ts) (λ i. Shape._∷_ (x .0 i) (shapes ts))
-  ]
-  loop-pair (suc b) whole (suc n) e c ts p dc d = sim-then R p (KeptPut n ts) (KeptAt (c ∷ ts)) (λ w. childAt child n e ts w) (λ w. childAt child' n e ts w) _ _ (child-pair e ts n p d) λ s. elim s [
-    | Running ↦ λ r t' q x. sim-done R q (KeptAt (c ∷ ts)) Running zeroTime (suc n, c ∷ put n t' ts) (λ i. Shape._∷_ (shape c) (x i))
-    | Failure ↦ λ r t' q x. sim-done R q (KeptAt (c ∷ ts)) Failure r (suc n, c ∷ put n t' ts) (λ i. Shape._∷_ (shape c) (x i))
-    | Success ↦ λ r t' q x.
-        let us : Forest = moved n t' ts in
-        let sh : shapes us ≡ shapes ts = moved-shapes ts n (next n ts) t' x in
-        let m : ℕ = cond (ltb (suc n) (count ts)) (suc (suc n)) 0 in
-        sim-weak R q (KeptAt (c ∷ us)) (KeptAt (c ∷ ts)) (R .first q (λ w. whileAll child b whole m (rest r e) c us w)) (R .second q (λ w. whileAll child' b whole m (rest r e) c us w))
-        (loop-pair b whole m (rest r e) c us q dc (rw sh d))
-        (λ z y. y ∙ (λ i. Shape._∷_ (shape c) (sh i)))
-  ]
+      -- ---- WhileAll
+      pub loop-pair : (b m : ℕ) (whole : Event) (n : ℕ) (e : Event) (c : Tree) (ts : Forest) (p : R .Worlds) → D (shape c) → Each D (shapes ts)
+          → Known R ((R .fuel p < b) × (count ts ≡ suc m) × (n ≤ suc m) × Livelies R (c ∷ ts)) → Time R (dt whole) → Time R (dt e)
+          → Both R 0 p (KeptAt R (suc m) (c ∷ ts)) (λ w. whileAll child b whole n e c ts w) (λ w. whileAll child' b whole n e c ts w)
+      unfolding whileAll
+      loop-pair zero m whole n e c ts p dc d v ew ev = cut R (from R v (λ h. omega arith))
+      loop-pair (suc b) m whole zero e c ts p dc d v ew ev =
+          after R (up R (sizeOf (shape c)) (free (sizeOf (shape c)) 0) (visit R D child child' g c whole p dc (from R v (λ h. h .3 .0)) ew)) λ s. elim s [
+            | Running ↦ λ r c' q x. weak R (loop-pair b m whole 1 e c' ts q (rw (x .0) dc) d
+                (from-both R (x .1) v (λ a b. (omega arith, b .1, omega arith, (a .0, b .3 .1)))) ew ev)
+                λ s' r' z q' y. (y .0 ∙ join (x .0) refl, y .1, y .2)
+            | Success ↦ λ r c' q x. stay R (join (x .0) refl, from-both R (x .1) v (λ a b. (omega arith, (a .0, b .3 .1))), x .2)
+            | Failure ↦ λ r c' q x. stay R (join (x .0) refl, from-both R (x .1) v (λ a b. (omega arith, (a .0, b .3 .1))), x .2)
+          ]
+      loop-pair (suc b) m whole (suc n) e c ts p dc d v ew ev = after R (child-pair e ts n p d (from R v (λ h. (omega arith, h .3 .1))) ev) λ s. elim s [
+        | Running ↦ λ r t' q x. stay R (join refl (x .0), from-both R (x .1) v (λ a b. (b .2, (b .3 .0, a .0))), R .terms .none-passed)
+        | Failure ↦ λ r t' q x. stay R (join refl (x .0), from-both R (x .1) v (λ a b. (b .2, (b .3 .0, a .0))), x .2)
+        | Success ↦ λ r t' q x.
+            let us : Forest = moved n t' ts in
+            let sh : shapes us ≡ shapes ts = moved-shapes ts n (next n ts) t' (x .0) in
+            let i : ℕ = cond (ltb (suc n) (count ts)) (suc (suc n)) 0 in
+            weak R (loop-pair b m whole i (rest r e) c us q dc (rw sh d)
+            (from-both R (x .1) v (λ a b. (
+              omega arith,
+              count-shape us ts sh ∙ b .1,
+              rw (← b .1) (next-due n (count ts) (ltb (suc n) (count ts)) (ltb-true (suc n) (count ts))),
+              (b .3 .0, moved-livelies ts n (next n ts) t' (a .0)),
+            ))) ew (rest-time R r e (x .2)))
+            λ s' r' z q' y. (y .0 ∙ join refl sh, y .1, y .2)
+      ]
 
-  -- ---- If
-  pub if-pair : (e : Event) (ts : Forest) (n : ℕ) (p : R .Worlds) → Each D (shapes ts) → Both R p (KeptAt ts) (λ w. ifAt child n e ts w) (λ w. ifAt child' n e ts w)
-  if-pair e [] n p d = sim-short R p (KeptAt [])
-  if-pair e (c ∷ []) n p d = sim-short R p (KeptAt (c ∷ []))
-  if-pair e (c ∷ a ∷ []) n p d = sim-short R p (KeptAt (c ∷ a ∷ []))
-  if-pair e (c ∷ a ∷ b ∷ ts) zero p d = sim-then R p (Same c) (KeptAt (c ∷ a ∷ b ∷ ts)) (λ w. child c e w) (λ w. child' c e w) _ _ (g c e p (d .0)) λ s. elim s [
-    | Running ↦ λ r c' q x. sim-done R q (KeptAt (c ∷ a ∷ b ∷ ts)) Running r (0, c' ∷ a ∷ b ∷ ts) (λ i. Shape._∷_ (x .0 i) (shapes (a ∷ b ∷ ts)))
-    | Success ↦ λ r c' q x. sim-map R q (Same (fresh a)) (KeptAt (c ∷ a ∷ b ∷ ts)) (λ w. child (fresh a) (rest r e) w) (λ w. child' (fresh a) (rest r e) w) same (λ a'. (1, fresh c' ∷ a' ∷ b ∷ ts))
-        (g (fresh a) (rest r e) q (rw (fresh-shape a) (d .1 .0))) (λ a' y i. Shape._∷_ ((fresh-shape c' ∙ x .0) i) (Shape._∷_ ((y .0 ∙ fresh-shape a) i) (shapes (b ∷ ts))))
-    | Failure ↦ λ r c' q x. sim-map R q (Same (fresh b)) (KeptAt (c ∷ a ∷ b ∷ ts)) (λ w. child (fresh b) (rest r e) w) (λ w. child' (fresh b) (rest r e) w) same (λ b'. (2, fresh c' ∷ a ∷ b' ∷ ts))
-        (g (fresh b) (rest r e) q (rw (fresh-shape b) (d .1 .1 .0))) (λ b' y i. Shape._∷_ ((fresh-shape c' ∙ x .0) i) (Shape._∷_ (shape a) (Shape._∷_ ((y .0 ∙ fresh-shape b) i) (shapes ts))))
-  ]
-  if-pair e (c ∷ a ∷ b ∷ ts) (suc zero) p d = sim-map R p (Same a) (KeptAt (c ∷ a ∷ b ∷ ts)) (λ w. child a e w) (λ w. child' a e w) same (λ a'. (1, c ∷ a' ∷ b ∷ ts)) (g a e p (d .1 .0))
-      (λ a' y i. Shape._∷_ (shape c) (Shape._∷_ (y .0 i) (shapes (b ∷ ts))))
-  if-pair e (c ∷ a ∷ b ∷ ts) (suc (suc zero)) p d = sim-map R p (Same b) (KeptAt (c ∷ a ∷ b ∷ ts)) (λ w. child b e w) (λ w. child' b e w) same (λ b'. (2, c ∷ a ∷ b' ∷ ts)) (g b e p (d .1 .1 .0))
-      (λ b' y i. Shape._∷_ (shape c) (Shape._∷_ (shape a) (Shape._∷_ (y .0 i) (shapes ts))))
-  if-pair e (c ∷ a ∷ b ∷ ts) (suc (suc (suc n))) p d = sim-short R p (KeptAt (c ∷ a ∷ b ∷ ts))
+    -- ---- If
+    pub if-pair : (e : Event) (ts : Forest) (n : ℕ) (p : R .Worlds) → Each D (shapes ts) → Known R ((n ≤ 2) × (3 ≤ count ts) × Livelies R ts) → Time R (dt e)
+        → Both R (sizesOf (shapes ts)) p (KeptAt R 2 ts) (λ w. ifAt child n e ts w) (λ w. ifAt child' n e ts w)
+    if-pair e [] n p d v ev = cut R (from R v (λ h. omega arith))
+    if-pair e (c ∷ []) n p d v ev = cut R (from R v (λ h. omega arith))
+    if-pair e (c ∷ a ∷ []) n p d v ev = cut R (from R v (λ h. omega arith))
+    if-pair e (c ∷ a ∷ b ∷ ts) zero p d v ev = then R (visit R D child child' g c e p (d .0) (from R v (λ h. h .2 .0)) ev) λ s. elim s [
+      | Running ↦ λ r c' q x. stay R (join (x .0) refl, from-both R (x .1) v (λ a b. (omega arith, (a .0, b .2 .1))), x .2)
+      | Success ↦ λ r c' q x. up R (sizeOf (shape a)) (R .upto (sizeOf (shape a)) (sizesOf (shapes (a ∷ b ∷ ts))) (omega arith))
+          (after R (visit-fresh R D child child' g a (rest r e) q (d .1 .0) (rest-time R r e (x .2))) λ s' r' a' q' y. stay R (join (fresh-shape c' ∙ x .0) (join (y .0) refl), from-both R (fresh-lively R c') (R .terms .both (y .1) v) (λ a b. (omega arith, (a, (b .0 .0, b .1 .2 .1 .1)))), y .2))
+      | Failure ↦ λ r c' q x. up R (sizeOf (shape b)) (R .upto (sizeOf (shape b)) (sizesOf (shapes (a ∷ b ∷ ts))) (omega arith))
+          (after R (visit-fresh R D child child' g b (rest r e) q (d .1 .1 .0) (rest-time R r e (x .2))) λ s' r' b' q' y. stay R (
+            join (fresh-shape c' ∙ x .0) (join refl (join (y .0) refl)),
+            from-both R (fresh-lively R c') (R .terms .both (y .1) v) (λ a b. (omega arith, (a, (b .1 .2 .1 .0, (b .0 .0, b .1 .2 .1 .1 .1))))),
+            y .2,
+          ))
+    ]
+    if-pair e (c ∷ a ∷ b ∷ ts) (suc zero) p d v ev = up R (sizeOf (shape a)) (R .upto (sizeOf (shape a)) (sizesOf (shapes (c ∷ a ∷ b ∷ ts))) (omega arith))
+        (after R (visit R D child child' g a e p (d .1 .0) (from R v (λ h. h .2 .1 .0)) ev) λ s r a' q y.
+        stay R (join refl (join (y .0) refl), from-both R (y .1) v (λ a b. (omega arith, (b .2 .0, (a .0, b .2 .1 .1)))), y .2))
+    if-pair e (c ∷ a ∷ b ∷ ts) (suc (suc zero)) p d v ev = up R (sizeOf (shape b)) (R .upto (sizeOf (shape b)) (sizesOf (shapes (c ∷ a ∷ b ∷ ts))) (omega arith))
+        (after R (visit R D child child' g b e p (d .1 .1 .0) (from R v (λ h. h .2 .1 .1 .0)) ev) λ s r b' q y.
+        stay R (join refl (join refl (join (y .0) refl)), from-both R (y .1) v (λ a b. (omega arith, (b .2 .0, (b .2 .1 .0, (a .0, b .2 .1 .1 .1))))), y .2))
+    if-pair e (c ∷ a ∷ b ∷ ts) (suc (suc (suc n))) p d v ev = cut R (from R v (λ h. omega arith))

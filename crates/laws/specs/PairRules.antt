@@ -1,8 +1,11 @@
 -- Two walks side by side through the rule of each kind. The loops' budget is any number here: `ruleWith` is the rule with that number for it.
-use mathlib.Core.Path.{_≡_, refl, ap}
+use mathlib.Core.Path.{_≡_, refl, sym, ap, _∙_}
+use mathlib.Core.Bool.{Bool, true, false, cond, _||_}
 use mathlib.Core.List.{List}
-use Prim.Native.Nat.{ℕ, suc}
-use lib.Ieee.{Float, Format, add, sub, le}
+use Prim.Native.Nat.{ℕ, suc, _+_, _-_, _≤_, _<_}
+use native.Mathlib.Omega.{arith}
+use lib.Dec.{T, eqb, eqb→eq}
+use lib.Ieee.{Float, Format, add, le}
 use Rattle.rules.specs.declared.behavior.Kind.{Kind}
 use Rattle.rules.specs.declared.behavior.Kind.the-variants.{Wait, WaitForever, Action, Invert, AlwaysSucceed, Timeout, Select, If, Sequence}
 use Rattle.rules.specs.declared.behavior.Kind.the-variants.{MemorylessSequence, MemorylessSelector, While, WhileAll, WhenAll, WhenAny, After, Race}
@@ -10,18 +13,20 @@ use Rattle.rules.specs.declared.status.Status.{Status}
 use Rattle.rules.specs.declared.status.Status.the-variants.{Running, Success, Failure}
 use Rattle.rules.specs.declared.event.Event.{Event}
 use Rattle.rules.specs.declared.event.Event.the-variants.{Update, Other}
-use Rattle.rules.specs.Tree.{zeroTime, Cell, withTime, withPlace, Forest, [], _∷_, Tree, node}
-use Rattle.rules.specs.Outcome.{dt, World, world, Out, done, short, Ticker, _▸_, exchanged, exchange, exchanging, alwaysSucceed, largest, byte}
-use Rattle.rules.specs.Sequence.{sequenceAt, memoryless}
-use Rattle.rules.specs.WhenAll.{whenAll, raceFrom, afterAt}
+use Rattle.rules.specs.Kinds.{code, kindOf, fewest, children, marksChildren, is}
+use Rattle.rules.specs.Codes.{kind-code}
+use Rattle.rules.specs.Tree.{Cell, withPlace, Forest, [], _∷_, Tree, node, count}
+use Rattle.rules.specs.Outcome.{dt, World, world, Out, done, short, Ticker, _▸_, exchanged, exchange, exchanging, alwaysSucceed, byte}
 use Rattle.rules.specs.Loops.{whileBody, whileAll}
-use Rattle.rules.specs.State.{Next, atPlace, inCell, only, ifAt, rule}
-use Rattle.calls.specs.Shape.{Shape, shapes, shp}
-use Rattle.calls.specs.Shape
-use Rattle.laws.specs.Pair.{Pairing, Both, sim-done, sim-short, sim-then, sim-map, sim-either, same}
-use Rattle.laws.specs.PairDrivers.{Same, Kept, KeptAt, Each, Alike, exchanging-alike, race-pair, seq-pair, mem-pair, all-pair, after-pair}
+use Rattle.rules.specs.State.{Next, atPlace, inCell, only, rule}
+use Rattle.rules.specs.Table.{countAllowed, limitAllowed}
+use Rattle.rules.specs.Cells.{lastPlace}
+use Rattle.calls.specs.Shape.{Shape, shape, shapes, shp, sizeOf, sizesOf, countOf, count-of}
+use Rattle.calls.specs.Tables.{at-least}
+use Rattle.laws.specs.Live.{choose, LiveCellBy}
+use Rattle.laws.specs.Pair.{Pairing, Known, Time, from, from-both, Of, Sim, Both, back, up, spent, weak, stay, cut, then, after, either}
+use Rattle.laws.specs.PairDrivers.{join, Each, Livelies, Marked, Visited, KeptAt, Alike, exchanging-alike, visit, race-pair, seq-pair, mem-pair, all-pair, after-pair}
 use Rattle.laws.specs.PairLoops.{body-pair, loop-pair, if-pair}
-use lib.Dec.{eqb}
 
 abbrev pub whileWith : ℕ → Ticker → Cell → Event → Forest → World → Out Next
 whileWith b child c e [] w = short
@@ -37,154 +42,193 @@ whileAllWith b child c₀ e (c ∷ ts) w = atPlace c₀ (whileAll child b e (c�
 
 unfoldable pub ruleWith : ℕ → Format → Ticker → Kind → ℕ → Float → Cell → Event → Forest → World → Out Next
 unfolding rule
-ruleWith b F child While n l c e ts w = whileWith b child c e ts w
-ruleWith b F child WhileAll n l c e ts w = whileAllWith b child c e ts w
-ruleWith b F child Wait n l c e ts w = rule F child Wait n l c e ts w
-ruleWith b F child WaitForever n l c e ts w = rule F child WaitForever n l c e ts w
-ruleWith b F child Action n l c e ts w = rule F child Action n l c e ts w
-ruleWith b F child Invert n l c e ts w = rule F child Invert n l c e ts w
-ruleWith b F child AlwaysSucceed n l c e ts w = rule F child AlwaysSucceed n l c e ts w
-ruleWith b F child Timeout n l c e ts w = rule F child Timeout n l c e ts w
-ruleWith b F child Select n l c e ts w = rule F child Select n l c e ts w
-ruleWith b F child If n l c e ts w = rule F child If n l c e ts w
-ruleWith b F child Sequence n l c e ts w = rule F child Sequence n l c e ts w
-ruleWith b F child MemorylessSequence n l c e ts w = rule F child MemorylessSequence n l c e ts w
-ruleWith b F child MemorylessSelector n l c e ts w = rule F child MemorylessSelector n l c e ts w
-ruleWith b F child WhenAll n l c e ts w = rule F child WhenAll n l c e ts w
-ruleWith b F child WhenAny n l c e ts w = rule F child WhenAny n l c e ts w
-ruleWith b F child After n l c e ts w = rule F child After n l c e ts w
-ruleWith b F child Race n l c e ts w = rule F child Race n l c e ts w
+ruleWith b F child k n l c e ts w = cond (is k While) (whileWith b child c e ts w) (cond (is k WhileAll) (whileAllWith b child c e ts w) (rule F child k n l c e ts w))
+
+is-kind : (k k' : Kind) → T (is k k') → k ≡ k'
+is-kind k k' h = sym (kind-code k) ∙ ap kindOf (eqb→eq (code k) (code k') h) ∙ kind-code k'
 
 -- the rules' own budget is one more than the fuel
-pub rule-with : (F : Format) (child : Ticker) (k : Kind) (n : ℕ) (l : Float) (c : Cell) (e : Event) (ts : Forest) (f : ℕ) (ans : List (Status × Float))
-    → rule F child k n l c e ts (world f ans) ≡ ruleWith (suc f) F child k n l c e ts (world f ans)
-unfolding ruleWith
-rule-with F child While n l c e [] f ans = refl
-rule-with F child While n l c e (t ∷ ts) f ans = refl
-rule-with F child WhileAll n l c e [] f ans = refl
-rule-with F child WhileAll n l c e (t ∷ ts) f ans = refl
-rule-with F child Wait n l c e ts f ans = refl
-rule-with F child WaitForever n l c e ts f ans = refl
-rule-with F child Action n l c e ts f ans = refl
-rule-with F child Invert n l c e ts f ans = refl
-rule-with F child AlwaysSucceed n l c e ts f ans = refl
-rule-with F child Timeout n l c e ts f ans = refl
-rule-with F child Select n l c e ts f ans = refl
-rule-with F child If n l c e ts f ans = refl
-rule-with F child Sequence n l c e ts f ans = refl
-rule-with F child MemorylessSequence n l c e ts f ans = refl
-rule-with F child MemorylessSelector n l c e ts f ans = refl
-rule-with F child WhenAll n l c e ts f ans = refl
-rule-with F child WhenAny n l c e ts f ans = refl
-rule-with F child After n l c e ts f ans = refl
-rule-with F child Race n l c e ts f ans = refl
-
--- the mark stays, and the children's shapes
-abbrev pub KeptNext : Cell → Forest → Next → Type 0
-KeptNext c ts x = (x .0 .mark ≡ c .mark) × (shapes (x .1) ≡ shapes ts)
-
--- the two walks do alike at an action
-abbrev pub Acts : Pairing → Format → Type 0
-Acts R F =
-    (child child' : Ticker) (n : ℕ) (l : Float) (c : Cell) (e : Event) (ts : Forest) (p : R .Worlds) → Both R p (KeptNext c ts) (λ w. rule F child Action n l c e ts w)
-    (λ w. rule F child' Action n l c e ts w)
-
-module _ (R : Pairing) (F : Format) (acts : Acts R F) (D : Shape → Type 0) (child child' : Ticker) (g : Alike R D child child') where
-  only-pair : (ch : Status → Status) (c : Cell) (e : Event) (ts : Forest) (p : R .Worlds) → Each D (shapes ts) → Both R p (KeptNext c ts) (λ w. only child ch c e ts w) (λ w. only child' ch c e ts w)
-  only-pair ch c e [] p d = sim-short R p (KeptNext c [])
-  only-pair ch c e (t ∷ ts) p d =
-      sim-map R p (Same t) (KeptNext c (t ∷ ts)) (λ w. child t e w) (λ w. child' t e w) ch (λ t'. (c, t' ∷ ts)) (g t e p (d .0)) (λ t' x. (refl, λ i. Shape._∷_ (x .0 i) (shapes ts)))
-
-  place-pair : (c : Cell) (ts : Forest) (p : R .Worlds) (o o' : World → Out (ℕ × Forest)) → Both R p (KeptAt ts) o o'
-      → Both R p (KeptNext c ts) (λ w. atPlace c (o w)) (λ w. atPlace c (o' w))
-  place-pair c ts p o o' h = sim-map R p (KeptAt ts) (KeptNext c ts) o o' same (λ y. (withPlace (y .0) c, y .1)) h (λ y z. (refl, z))
-
-  cell-pair : (c : Cell) (ts : Forest) (p : R .Worlds) (o o' : World → Out Forest) → Both R p (Kept ts) o o' → Both R p (KeptNext c ts) (λ w. inCell c (o w)) (λ w. inCell c (o' w))
-  cell-pair c ts p o o' h = sim-map R p (Kept ts) (KeptNext c ts) o o' same (λ us. (c, us)) h (λ us z. (refl, z))
-
-  exchange-pair : {A : Type 0} (p : R .Worlds) (P : A → Type 0) (o o' : World → Out A) → Both R p P o o' → Both R p P (λ w. exchange (o w)) (λ w. exchange (o' w))
-  exchange-pair p P o o' h = sim-map R p P P o o' exchanged (λ a. a) h (λ a x. x)
-
-  timeout-pair : (n : ℕ) (l : Float) (c : Cell) (e : Event) (ts : Forest) (p : R .Worlds) → Each D (shapes ts)
-      → Both R p (KeptNext c ts) (λ w. rule F child Timeout n l c e ts w) (λ w. rule F child' Timeout n l c e ts w)
+module _ (F : Format) (child : Ticker) where
+  while-with : (n : ℕ) (l : Float) (c : Cell) (e : Event) (ts : Forest) (f : ℕ) (ans : List (Status × Float)) → rule F child While n l c e ts (world f ans) ≡ whileWith (suc f) child c e ts (world f ans)
   unfolding rule
-  timeout-pair n l c e [] p d = sim-short R p (KeptNext c [])
-  timeout-pair n l c e (t ∷ ts) p d = sim-then R p (Same t) (KeptNext c (t ∷ ts)) (λ w. child t e w) (λ w. child' t e w) _ _ (g t e p (d .0)) λ s. elim s [
-    | Running ↦ λ r t' q y. sim-either R q (KeptNext c (t ∷ ts)) (le l (add F (c .time) (dt e))) _ _ _ _
-        (sim-done R q (KeptNext c (t ∷ ts)) Failure (sub F (add F (c .time) (dt e)) l) (withTime (add F (c .time) (dt e)) c, t' ∷ ts) (refl, λ i. Shape._∷_ (y .0 i) (shapes ts)))
-        (sim-done R q (KeptNext c (t ∷ ts)) Running zeroTime (withTime (add F (c .time) (dt e)) c, t' ∷ ts) (refl, λ i. Shape._∷_ (y .0 i) (shapes ts)))
-    | Success ↦ λ r t' q y. sim-done R q (KeptNext c (t ∷ ts)) Success r (c, t' ∷ ts) (refl, λ i. Shape._∷_ (y .0 i) (shapes ts))
-    | Failure ↦ λ r t' q y. sim-done R q (KeptNext c (t ∷ ts)) Failure r (c, t' ∷ ts) (refl, λ i. Shape._∷_ (y .0 i) (shapes ts))
-  ]
+  while-with n l c e [] f ans = refl
+  while-with n l c e (t ∷ ts) f ans = refl
 
-  wait-pair : (n : ℕ) (l : Float) (c : Cell) (e : Event) (ts : Forest) (p : R .Worlds) → Both R p (KeptNext c ts) (λ w. rule F child Wait n l c e ts w) (λ w. rule F child' Wait n l c e ts w)
+  while-all-with : (n : ℕ) (l : Float) (c : Cell) (e : Event) (ts : Forest) (f : ℕ) (ans : List (Status × Float))
+      → rule F child WhileAll n l c e ts (world f ans) ≡ whileAllWith (suc f) child c e ts (world f ans)
   unfolding rule
-  wait-pair n l c (Update y) ts p = sim-either R p (KeptNext c ts) (le l (add F (c .time) y)) _ _ _ _
-      (sim-done R p (KeptNext c ts) Success (sub F (add F (c .time) y) l) (withTime l c, ts) (refl, refl))
-      (sim-done R p (KeptNext c ts) Running zeroTime (withTime (add F (c .time) y) c, ts) (refl, refl))
-  wait-pair n l c Other ts p = sim-done R p (KeptNext c ts) Running zeroTime (c, ts) (refl, refl)
+  while-all-with n l c e [] f ans = refl
+  while-all-with n l c e (t ∷ ts) f ans = refl
 
-  while-pair : (b : ℕ) (c : Cell) (e : Event) (ts : Forest) (p : R .Worlds) → Each D (shapes ts) → Both R p (KeptNext c ts) (λ w. whileWith b child c e ts w) (λ w. whileWith b child' c e ts w)
-  while-pair b c e [] p d = sim-short R p (KeptNext c [])
-  while-pair b c e (t ∷ ts) p d = sim-then R p (Same t) (KeptNext c (t ∷ ts)) (λ w. child t e w) (λ w. child' t e w) _ _ (g t e p (d .0)) λ s. elim s [
-    | Running ↦ λ r t' q y. sim-map R q (KeptAt ts) (KeptNext c (t ∷ ts)) (λ w. whileBody child b (c .place) e ts w) (λ w. whileBody child' b (c .place) e ts w) same
-        (λ z. (withPlace (z .0) c, t' ∷ z .1))
-        (body-pair R D child child' g b (c .place) e ts q (d .1)) (λ z u. (refl, λ i. Shape._∷_ (y .0 i) (u i)))
-    | Success ↦ λ r t' q y. sim-done R q (KeptNext c (t ∷ ts)) Success r (c, t' ∷ ts) (refl, λ i. Shape._∷_ (y .0 i) (shapes ts))
-    | Failure ↦ λ r t' q y. sim-done R q (KeptNext c (t ∷ ts)) Failure r (c, t' ∷ ts) (refl, λ i. Shape._∷_ (y .0 i) (shapes ts))
-  ]
-
-  while-all-pair : (b : ℕ) (c : Cell) (e : Event) (ts : Forest) (p : R .Worlds) → Each D (shapes ts)
-      → Both R p (KeptNext c ts) (λ w. whileAllWith b child c e ts w) (λ w. whileAllWith b child' c e ts w)
-  while-all-pair b c e [] p d = sim-short R p (KeptNext c [])
-  while-all-pair b c e (t ∷ ts) p d =
-      place-pair c (t ∷ ts) p (λ w. whileAll child b e (c .place) e t ts w) (λ w. whileAll child' b e (c .place) e t ts w) (loop-pair R D child child' g b e (c .place) e t ts p (d .0) (d .1))
-
-  pub rule-pair : (b : ℕ) (k : Kind) (n : ℕ) (l : Float) (c : Cell) (e : Event) (ts : Forest) (p : R .Worlds) → Each D (shapes ts)
-      → Both R p (KeptNext c ts) (λ w. ruleWith b F child k n l c e ts w) (λ w. ruleWith b F child' k n l c e ts w)
+  pub rule-with : (k : Kind) (n : ℕ) (l : Float) (c : Cell) (e : Event) (ts : Forest) (f : ℕ) (ans : List (Status × Float))
+      → rule F child k n l c e ts (world f ans) ≡ ruleWith (suc f) F child k n l c e ts (world f ans)
   unfolding ruleWith
-  rule-pair b Action n l c e ts p d = acts child child' n l c e ts p
-  rule-pair b Invert n l c e ts p d = only-pair exchanged c e ts p d
-  rule-pair b AlwaysSucceed n l c e ts p d = only-pair alwaysSucceed c e ts p d
-  rule-pair b Wait n l c e ts p d = wait-pair n l c e ts p
-  rule-pair b WaitForever n l c e ts p d = sim-done R p (KeptNext c ts) Running zeroTime (c, ts) (refl, refl)
-  rule-pair b Timeout n l c e ts p d = timeout-pair n l c e ts p d
-  rule-pair b If n l c e ts p d = place-pair c ts p (λ w. ifAt child (c .place) e ts w) (λ w. ifAt child' (c .place) e ts w) (if-pair R D child child' g e ts (c .place) p d)
-  rule-pair b Sequence n l c e ts p d = place-pair c ts p (λ w. sequenceAt child (c .place) e ts w) (λ w. sequenceAt child' (c .place) e ts w) (seq-pair R D child child' g e ts (c .place) p d)
-  rule-pair b Select n l c e ts p d =
-      let o : World → Out (ℕ × Forest) = λ w. sequenceAt (exchanging child) (c .place) e ts w in
-      let o' : World → Out (ℕ × Forest) = λ w. sequenceAt (exchanging child') (c .place) e ts w in
-      place-pair c ts p (λ w. exchange (o w)) (λ w. exchange (o' w))
-      (exchange-pair p (KeptAt ts) o o' (seq-pair R D (exchanging child) (exchanging child') (exchanging-alike R D child child' g) e ts (c .place) p d))
-  rule-pair b MemorylessSequence n l c e ts p d = cell-pair c ts p (λ w. memoryless child e ts w) (λ w. memoryless child' e ts w) (mem-pair R D child child' g e ts p d)
-  rule-pair b MemorylessSelector n l c e ts p d =
-      let o : World → Out Forest = λ w. memoryless (exchanging child) e ts w in
-      let o' : World → Out Forest = λ w. memoryless (exchanging child') e ts w in
-      cell-pair c ts p (λ w. exchange (o w)) (λ w. exchange (o' w))
-      (exchange-pair p (Kept ts) o o' (mem-pair R D (exchanging child) (exchanging child') (exchanging-alike R D child child' g) e ts p d))
-  rule-pair b While n l c e ts p d = while-pair b c e ts p d
-  rule-pair b WhileAll n l c e ts p d = while-all-pair b c e ts p d
-  rule-pair b WhenAll n l c e ts p d = cell-pair c ts p (λ w. whenAll child (largest F) e ts w) (λ w. whenAll child' (largest F) e ts w) (all-pair R D child child' g (largest F) e ts p d)
-  rule-pair b WhenAny n l c e ts p d =
-      let o : World → Out Forest = λ w. whenAll (exchanging child) (largest F) e ts w in
-      let o' : World → Out Forest = λ w. whenAll (exchanging child') (largest F) e ts w in
-      cell-pair c ts p (λ w. exchange (o w)) (λ w. exchange (o' w))
-      (exchange-pair p (Kept ts) o o' (all-pair R D (exchanging child) (exchanging child') (exchanging-alike R D child child' g) (largest F) e ts p d))
-  rule-pair b After n l c e ts p d =
-      place-pair c ts p (λ w. afterAt child (largest F) (c .place) e ts w) (λ w. afterAt child' (largest F) (c .place) e ts w) (after-pair R D child child' g (largest F) e ts (c .place) p d)
-  rule-pair b Race n l c e ts p d = cell-pair c ts p (λ w. raceFrom child e ts w) (λ w. raceFrom child' e ts w) (race-pair R D child child' g e ts p d)
+  rule-with k n l c e ts f ans = on (is k While) (is-kind k While) (is k WhileAll) (is-kind k WhileAll)
+    where
+      own : Out Next
+      own = rule F child k n l c e ts (world f ans)
 
--- ---- the visit of a node, around its rule
-pub mark-node : (k : Kind) (n : ℕ) (l : Float) (c c' : Cell) (b b' : ℕ) (ts us : Forest) → KeptNext c ts (c', us) → Same (node k n l c b ts) (node k n l c' b' us)
-mark-node k n l c c' b b' ts us h = ((λ i. shp k n l (h .1 i)), ap (λ (z : ℕ). eqb z 1) (h .0))
+      on : (x : Bool) → (T x → k ≡ While) → (y : Bool) → (T y → k ≡ WhileAll)
+          → own ≡ cond x (whileWith (suc f) child c e ts (world f ans)) (cond y (whileAllWith (suc f) child c e ts (world f ans)) own)
+      on true p y q = rw (p tt) (while-with n l c e ts f ans)
+      on false p true q = rw (q tt) (while-all-with n l c e ts f ans)
+      on false p false q = refl
 
 -- what a tick does once its rule is done
 abbrev pub leave : Kind → ℕ → Float → Status → Float → Next → World → Out Tree
 leave k n l s r x w = done s r (node k n l (x .0) (byte s) (x .1)) w
 
-pub visit-pair : (R : Pairing) (F : Format) (child child' : Ticker) (k : Kind) (n : ℕ) (l : Float) (c : Cell) (b : ℕ) (ts : Forest) (e : Event) (p : R .Worlds)
-    → Both R p (KeptNext c ts) (λ w. rule F child k n l c e ts w) (λ w. rule F child' k n l c e ts w)
-    → Both R p (Same (node k n l c b ts)) (λ w. rule F child k n l c e ts w ▸ leave k n l) (λ w. rule F child' k n l c e ts w ▸ leave k n l)
-visit-pair R F child child' k n l c b ts e p h =
-    sim-then R p (KeptNext c ts) (Same (node k n l c b ts)) (λ w. rule F child k n l c e ts w) (λ w. rule F child' k n l c e ts w) (leave k n l) (leave k n l) h
-    λ s r x q y. sim-done R q (Same (node k n l c b ts)) s r (node k n l (x .0) (byte s) (x .1)) (mark-node k n l c (x .0) b (byte s) ts (x .1) y)
+-- what a table says of a node itself
+abbrev pub NodeRight : Kind → ℕ → Float → Forest → Type 0
+NodeRight k n l ts = T (countAllowed k n) × (children k n ≡ countOf (shapes ts)) × T (limitAllowed k l)
+
+fewest-of : (k : Kind) (n : ℕ) (l : Float) (ts : Forest) → NodeRight k n l ts → fewest k ≤ count ts
+fewest-of k n l ts s = at-least k n (count ts) (s .0) (s .1 ∙ sym (count-of ts))
+
+-- ---- what is left of a node by its rule, and what is asked of it
+module _ {F : Format} (R : Pairing F) where
+  abbrev pub NextOf : Kind → ℕ → Next → Type 0
+  NextOf k n x = LiveCellBy (R .terms .time) k n (x .0) × choose (marksChildren k) (Marked R (x .1)) (Livelies R (x .1))
+
+  -- the mark stays, and the children's shapes
+  abbrev pub KeptNext : Kind → ℕ → Cell → Forest → Of R Next
+  KeptNext k n c ts s r x q = (x .0 .mark ≡ c .mark) × (shapes (x .1) ≡ shapes ts) × Known R (NextOf k n x) × Time R r
+
+  -- the two walks do alike at an action, which keeps cell and children
+  abbrev pub Acts : Type 1
+  Acts = (child child' : Ticker) (n : ℕ) (l : Float) (c : Cell) (e : Event) (ts : Forest) (m : ℕ) (p : R .Worlds) (P : Next → Type 0) → P (c, ts)
+      → Both R m p (λ s r x q. P x × Time R r) (λ w. rule F child Action n l c e ts w) (λ w. rule F child' Action n l c e ts w)
+
+  -- the nodes of a loop are not counted
+  abbrev pub LoopsOf : Kind → Type 0
+  LoopsOf k = T (is k While || is k WhileAll) → (m n : ℕ) → R .Upto m n
+
+  -- what is asked where a rule begins, with the budget b for its loops
+  abbrev pub Begins : Kind → ℕ → Float → Cell → Forest → R .Worlds → ℕ → Type 0
+  Begins k n l c ts p b = Known R (NodeRight k n l ts × NextOf k n (c, ts) × (R .fuel p < b))
+
+  -- ---- from a driver to its node
+  place-next : {m : ℕ} {p : R .Worlds} {o o' : World → Out (ℕ × Forest)} (k : Kind) (n b : ℕ) (c : Cell) (ts : Forest) → Known R (LiveCellBy (R .terms .time) k n c × (b ≤ lastPlace k n))
+      → Both R m p (λ s r y q. (shapes (y .1) ≡ shapes ts) × Known R ((y .0 ≤ b) × choose (marksChildren k) (Marked R (y .1)) (Livelies R (y .1))) × Time R r) o o'
+      → Both R m p (KeptNext k n c ts) (λ w. atPlace c (o w)) (λ w. atPlace c (o' w))
+  place-next k n b c ts v h = after R h λ s r y q z. stay R (refl, z .0, from-both R (z .1) v (λ a b. ((b .0 .0, b .0 .1, omega arith), a .1)), z .2)
+
+  cell-next : {m : ℕ} {p : R .Worlds} {o o' : World → Out Forest} (k : Kind) (n : ℕ) (c : Cell) (ts : Forest) → Known R (LiveCellBy (R .terms .time) k n c)
+      → Both R m p (λ s r us q. (shapes us ≡ shapes ts) × Known R (choose (marksChildren k) (Marked R us) (Livelies R us)) × Time R r) o o'
+      → Both R m p (KeptNext k n c ts) (λ w. inCell c (o w)) (λ w. inCell c (o' w))
+  cell-next k n c ts v h = after R h λ s r us q z. stay R (refl, z .0, R .terms .both v (z .1), z .2)
+
+  -- Success and Failure exchanged
+  pub exchange-pair : {A : Type 0} {m : ℕ} {p : R .Worlds} {P : Of R A} {o o' : World → Out A} → Both R m p P o o'
+      → ((s : Status) (r : Float) (a : A) (q : R .Worlds) → P s r a q → P (exchanged s) r a q) → Both R m p P (λ w. exchange (o w)) (λ w. exchange (o' w))
+  exchange-pair h f = after R h λ s r a q x. stay R (f s r a q x)
+
+  module _ (acts : Acts) (D : Shape → Type 0) (child child' : Ticker) (g : Alike R D child child') where
+    only-pair : (k : Kind) (ch : Status → Status) (n : ℕ) (c : Cell) (e : Event) (ts : Forest) (p : R .Worlds) → Each D (shapes ts)
+        → Known R ((1 ≤ count ts) × LiveCellBy (R .terms .time) k n c × Livelies R ts) → Time R (dt e) → marksChildren k ≡ false
+        → Both R (sizesOf (shapes ts)) p (KeptNext k n c ts) (λ w. only child ch c e ts w) (λ w. only child' ch c e ts w)
+    only-pair k ch n c e [] p d v ev plain = cut R (from R v (λ h. omega arith))
+    only-pair k ch n c e (t ∷ ts) p d v ev plain = then R (visit R D child child' g t e p (d .0) (from R v (λ h. h .2 .0)) ev) λ s r t' q x.
+        stay R (refl, join (x .0) refl, from-both R (x .1) v (λ a b. (b .1, rw plain (a .0, b .2 .1))), x .2)
+
+    wait-pair : (n : ℕ) (l : Float) (c : Cell) (e : Event) (ts : Forest) (p : R .Worlds) → Known R (T (limitAllowed Wait l) × NextOf Wait n (c, ts)) → Time R (dt e)
+        → Both R (sizesOf (shapes ts)) p (KeptNext Wait n c ts) (λ w. rule F child Wait n l c e ts w) (λ w. rule F child' Wait n l c e ts w)
+    unfolding rule
+    wait-pair n l c (Update y) ts p v ev =
+        let now : Time R (add F (c .time) y) = R .terms .sum (c .time) y (from R v (λ h. h .1 .0 .1)) ev in
+        let nl = from R v (λ h. h .0) in
+        either R (le l (add F (c .time) y))
+        (λ m. stay R (refl, refl, from R v (λ h. ((h .1 .0 .0, R .terms .limit l nl, h .1 .0 .2), h .1 .1)), R .terms .past l (add F (c .time) y) nl now m))
+        (λ m. stay R (refl, refl, from R v (λ h. ((h .1 .0 .0, now, h .1 .0 .2), h .1 .1)), R .terms .none-passed))
+    wait-pair n l c Other ts p v ev = stay R (refl, refl, from R v (λ h. h .1), R .terms .none-passed)
+
+    timeout-pair : (n : ℕ) (l : Float) (c : Cell) (e : Event) (ts : Forest) (p : R .Worlds) → Each D (shapes ts)
+        → Known R ((1 ≤ count ts) × T (limitAllowed Timeout l) × NextOf Timeout n (c, ts)) → Time R (dt e)
+        → Both R (sizesOf (shapes ts)) p (KeptNext Timeout n c ts) (λ w. rule F child Timeout n l c e ts w) (λ w. rule F child' Timeout n l c e ts w)
+    unfolding rule
+    timeout-pair n l c e [] p d v ev = cut R (from R v (λ h. omega arith))
+    timeout-pair n l c e (t ∷ ts) p d v ev = then R (visit R D child child' g t e p (d .0) (from R v (λ h. h .2 .1 .0)) ev) λ s. elim s [
+      | Running ↦ λ r t' q x.
+          let now : Time R (add F (c .time) (dt e)) = R .terms .sum (c .time) (dt e) (from R v (λ h. h .2 .0 .1)) ev in
+          let next = from-both R (x .1) v (λ a b. ((b .2 .0 .0, now, b .2 .0 .2), (a .0, b .2 .1 .1))) in
+          either R (le l (add F (c .time) (dt e)))
+          (λ m. stay R (refl, join (x .0) refl, next, R .terms .past l (add F (c .time) (dt e)) (from R v (λ h. h .1)) now m))
+          (λ m. stay R (refl, join (x .0) refl, next, R .terms .none-passed))
+      | Success ↦ λ r t' q x. stay R (refl, join (x .0) refl, from-both R (x .1) v (λ a b. (b .2 .0, (a .0, b .2 .1 .1))), x .2)
+      | Failure ↦ λ r t' q x. stay R (refl, join (x .0) refl, from-both R (x .1) v (λ a b. (b .2 .0, (a .0, b .2 .1 .1))), x .2)
+    ]
+
+    -- While's place is below the count of its body, WhileAll's up to it
+    body-of : (n l : ℕ) → n ≡ suc l → 2 ≤ suc l → l ≡ suc (n - 2)
+    body-of n l e h = omega arith
+
+    while-pair : (b n : ℕ) (l : Float) (c : Cell) (e : Event) (ts : Forest) (p : R .Worlds) → ((m n : ℕ) → R .Upto m n) → Each D (shapes ts)
+        → Begins While n l c ts p b → Time R (dt e)
+        → Both R (sizesOf (shapes ts)) p (KeptNext While n c ts) (λ w. whileWith b child c e ts w) (λ w. whileWith b child' c e ts w)
+    while-pair b n l c e [] p free d v ev = cut R (from R v (λ h. omega (arith, fewest-of While n l [] (h .0))))
+    while-pair b n l c e (t ∷ ts) p free d v ev = then R (visit R D child child' g t e p (d .0) (from R v (λ h. h .1 .1 .0)) ev) λ s. elim s [
+      | Running ↦ λ r t' q x. up R 0 (free 0 (sizesOf (shapes ts))) (after R (body-pair R D child child' g free b (n - 2) (c .place) e ts q (d .1)
+          (from-both R (x .1) v (λ a b. (omega arith, body-of n (count ts) (b .0 .1 ∙ sym (count-of (t ∷ ts))) (fewest-of While n l (t ∷ ts) (b .0)), b .1 .0 .2, b .1 .1 .1))) ev)
+          λ s' r' z q' y.
+          stay R (refl, join (x .0) (y .0), from-both R (x .1) (R .terms .both (y .1) v) (λ a b. ((b .1 .1 .0 .0, b .1 .1 .0 .1, b .0 .0), (a .0, b .0 .1))), y .2))
+      | Success ↦ λ r t' q x. stay R (refl, join (x .0) refl, from-both R (x .1) v (λ a b. (b .1 .0, (a .0, b .1 .1 .1))), x .2)
+      | Failure ↦ λ r t' q x. stay R (refl, join (x .0) refl, from-both R (x .1) v (λ a b. (b .1 .0, (a .0, b .1 .1 .1))), x .2)
+    ]
+
+    while-all-pair : (b n : ℕ) (l : Float) (c : Cell) (e : Event) (ts : Forest) (p : R .Worlds) → ((m n : ℕ) → R .Upto m n) → Each D (shapes ts)
+        → Begins WhileAll n l c ts p b → Time R (dt e)
+        → Both R (sizesOf (shapes ts)) p (KeptNext WhileAll n c ts) (λ w. whileAllWith b child c e ts w) (λ w. whileAllWith b child' c e ts w)
+    while-all-pair b n l c e [] p free d v ev = cut R (from R v (λ h. omega (arith, fewest-of WhileAll n l [] (h .0))))
+    while-all-pair b n l c e (t ∷ ts) p free d v ev =
+        let m : Known R (count ts ≡ suc (n - 2)) = from R v (λ h. body-of n (count ts) (h .0 .1 ∙ sym (count-of (t ∷ ts))) (fewest-of WhileAll n l (t ∷ ts) (h .0))) in
+        up R 0 (free 0 (sizesOf (shapes (t ∷ ts)))) (place-next WhileAll n (suc (n - 2)) c (t ∷ ts)
+        (from-both R m v (λ a b. (b .1 .0, omega (arith, a, b .0 .1, count-of ts))))
+        (loop-pair R D child child' g free b (n - 2) e (c .place) e t ts p (d .0) (d .1) (from-both R m v (λ a b. (b .2, a, omega arith, b .1 .1))) ev ev))
+
+    -- a driver whose place goes up to the count of its children
+    along : {m : ℕ} {o o' : World → Out (ℕ × Forest)} (k : Kind) (n : ℕ) (l : Float) (c : Cell) (ts : Forest) (p : R .Worlds) (b : ℕ) → marksChildren k ≡ false
+        → (NodeRight k n l ts → lastPlace k n ≡ count ts) → Begins k n l c ts p b
+        → (Known R ((c .place ≤ count ts) × Livelies R ts) → Both R m p (KeptAt R (count ts) ts) o o') → Both R m p (KeptNext k n c ts) (λ w. atPlace c (o w)) (λ w. atPlace c (o' w))
+    along k n l c ts p b plain last v h = place-next k n (count ts) c ts (from R v (λ h. (h .1 .0, omega (arith, last (h .0)))))
+        (weak R (h (from R v (λ h. (rw (← last (h .0)) (h .1 .0 .2), rw plain at (h .1 .1))))) (λ s r y q z. (z .0, from R (z .1) (λ h. (h .0, rw plain (h .1))), z .2)))
+
+    pub rule-pair : (b : ℕ) (k : Kind) (n : ℕ) (l : Float) (c : Cell) (e : Event) (ts : Forest) (p : R .Worlds) → LoopsOf k → Each D (shapes ts) → Begins k n l c ts p b → Time R (dt e)
+        → Both R (sizesOf (shapes ts)) p (KeptNext k n c ts) (λ w. ruleWith b F child k n l c e ts w) (λ w. ruleWith b F child' k n l c e ts w)
+    unfolding ruleWith
+    rule-pair b Action n l c e ts p lo d v ev =
+        weak R (acts child child' n l c e ts (sizesOf (shapes ts)) p (λ x. (x .0 .mark ≡ c .mark) × (shapes (x .1) ≡ shapes ts) × Known R (NextOf Action n x)) (refl, refl, from R v (λ h. h .1)))
+        (λ s r x q y. (y .0 .0, y .0 .1, y .0 .2, y .1))
+    rule-pair b Invert n l c e ts p lo d v ev = only-pair Invert exchanged n c e ts p d (from R v (λ h. (fewest-of Invert n l ts (h .0), h .1 .0, h .1 .1))) ev refl
+    rule-pair b AlwaysSucceed n l c e ts p lo d v ev = only-pair AlwaysSucceed alwaysSucceed n c e ts p d (from R v (λ h. (fewest-of AlwaysSucceed n l ts (h .0), h .1 .0, h .1 .1))) ev refl
+    rule-pair b Wait n l c e ts p lo d v ev = wait-pair n l c e ts p (from R v (λ h. (h .0 .2, h .1))) ev
+    rule-pair b WaitForever n l c e ts p lo d v ev = stay R (refl, refl, from R v (λ h. h .1), R .terms .none-passed)
+    rule-pair b Timeout n l c e ts p lo d v ev = timeout-pair n l c e ts p d (from R v (λ h. (fewest-of Timeout n l ts (h .0), h .0 .2, h .1))) ev
+    rule-pair b If n l c e ts p lo d v ev = place-next If n 2 c ts (from R v (λ h. (h .1 .0, omega arith)))
+        (if-pair R D child child' g e ts (c .place) p d (from R v (λ h. (h .1 .0 .2, fewest-of If n l ts (h .0), h .1 .1))) ev)
+    rule-pair b Sequence n l c e ts p lo d v ev = along Sequence n l c ts p b refl (λ s. s .1 ∙ sym (count-of ts)) v (λ z. seq-pair R D child child' g e ts (c .place) p d z ev)
+    rule-pair b Select n l c e ts p lo d v ev = along Select n l c ts p b refl (λ s. s .1 ∙ sym (count-of ts)) v
+        (λ z. exchange-pair (seq-pair R D (exchanging child) (exchanging child') (exchanging-alike R D child child' g) e ts (c .place) p d z ev) λ s r a q x. x)
+    rule-pair b MemorylessSequence n l c e ts p lo d v ev = cell-next MemorylessSequence n c ts (from R v (λ h. h .1 .0)) (mem-pair R D child child' g e ts p d ev)
+    rule-pair b MemorylessSelector n l c e ts p lo d v ev = cell-next MemorylessSelector n c ts (from R v (λ h. h .1 .0))
+        (exchange-pair (mem-pair R D (exchanging child) (exchanging child') (exchanging-alike R D child child' g) e ts p d ev) λ s r a q x. x)
+    rule-pair b While n l c e ts p lo d v ev = while-pair b n l c e ts p (lo tt) d v ev
+    rule-pair b WhileAll n l c e ts p lo d v ev = while-all-pair b n l c e ts p (lo tt) d v ev
+    rule-pair b WhenAll n l c e ts p lo d v ev = cell-next WhenAll n c ts (from R v (λ h. h .1 .0)) (all-pair R D child child' g e ts p d (from R v (λ h. h .1 .1)) ev)
+    rule-pair b WhenAny n l c e ts p lo d v ev = cell-next WhenAny n c ts (from R v (λ h. h .1 .0))
+        (exchange-pair (all-pair R D (exchanging child) (exchanging child') (exchanging-alike R D child child' g) e ts p d (from R v (λ h. h .1 .1)) ev) λ s r a q x. x)
+    rule-pair b After n l c e ts p lo d v ev = along After n l c ts p b refl (λ s. s .1 ∙ sym (count-of ts)) v (λ z. after-pair R D child child' g e ts (c .place) p d z ev)
+    rule-pair b Race n l c e ts p lo d v ev = cell-next Race n c ts (from R v (λ h. h .1 .0)) (race-pair R D child child' g e ts p d (from R v (λ h. h .1 .1)) ev)
+
+    -- ---- the visit of a node: p before it, q once it has taken its fuel; m is a budget with which each walk's rule is what it is
+    pub visit-pair : (m : ℕ) (k : Kind) (n : ℕ) (l : Float) (c : Cell) (b : ℕ) (ts : Forest) (e : Event) (p q : R .Worlds)
+        → R .first q (λ w. rule F child k n l c e ts w) ≡ R .first q (λ w. ruleWith m F child k n l c e ts w)
+        → R .second q (λ w. rule F child' k n l c e ts w) ≡ R .second q (λ w. ruleWith m F child' k n l c e ts w)
+        → R .Reach 1 p q → Known R (R .fuel q < R .fuel p) → LoopsOf k → Each D (shapes ts) → Begins k n l c ts q m → Time R (dt e)
+        → Sim R (sizeOf (shape (node k n l c b ts))) p (Visited R p (node k n l c b ts))
+        (R .first q (λ w. rule F child k n l c e ts w ▸ leave k n l)) (R .second q (λ w. rule F child' k n l c e ts w ▸ leave k n l))
+    visit-pair m k n l c b ts e p q one two h f lo d v ev =
+        up R (1 + sizesOf (shapes ts)) (R .upto (1 + sizesOf (shapes ts)) (sizeOf (shape (node k n l c b ts))) (omega arith)) (back R h (after R (spent R by-rule) λ s r x q' z.
+        stay R (((λ i. shp k n l (z .0 .1 i)), ap (λ (y : ℕ). eqb y 1) (z .0 .0)), from-both R f (R .terms .both (z .0 .2) (z .1)) (λ a y. (y .0, omega arith)), z .0 .3)))
+      where
+        by-rule : Both R (sizesOf (shapes ts)) q (KeptNext k n c ts) (λ w. rule F child k n l c e ts w) (λ w. rule F child' k n l c e ts w)
+        by-rule = rw (one, two) (rule-pair m k n l c e ts q lo d v ev)

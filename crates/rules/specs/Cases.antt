@@ -241,7 +241,8 @@ cases =
     (update 1 and other and update 1 and update 1 and nil)
     ((0 and 1 and 1 and 0 and nil) and (0 and 1 and 1 and 0 and nil) and (0 and 1 and 3 and 3 and nil) and (0 and 1 and 3 and 3 and nil) and nil)
     -- a child that is marked has the number of the tick that marked it, with all below it
-    and sinces (of WhenAny (failing ∷ forever ∷ [])) (other and update 1 and update 1 and nil) ((0 and 0 and 0 and 0 and nil) and (0 and 2 and 2 and 0 and nil) and (0 and 2 and 2 and 0 and nil) and nil)
+    and sinces (of WhenAny (failing ∷ forever ∷ [])) (other and update 1 and update 1 and nil)
+    ((0 and 0 and 0 and 0 and nil) and (0 and 2 and 2 and 0 and nil) and (0 and 2 and 2 and 0 and nil) and nil)
     -- memoryless children have it anew at each tick; a question leaves it
     and sinces (of MemorylessSequence (wait 1 ∷ act 1 ∷ [])) (other and update 1 and other and nil) ((0 and 1 and 1 and nil) and (0 and 1 and 1 and nil) and (0 and 2 and 2 and nil) and nil)
     and nil

@@ -6,7 +6,8 @@ use native.Mathlib.Omega.{arith}
 use borrow.Author.Tests.{ltb-true, ltb-false, eqb-true}
 use lib.Dec.{ltb, eqb}
 use Rattle.rules.specs.declared.behavior.Kind.{Kind}
-use Rattle.rules.specs.declared.behavior.Kind.the-variants.{Wait, WaitForever, Action, Invert, AlwaysSucceed, Timeout, Select, If, Sequence, MemorylessSequence, MemorylessSelector, While, WhileAll, WhenAll, WhenAny, After, Race}
+use Rattle.rules.specs.declared.behavior.Kind.the-variants.{Wait, WaitForever, Action, Invert, AlwaysSucceed, Timeout, Select, If, Sequence}
+use Rattle.rules.specs.declared.behavior.Kind.the-variants.{MemorylessSequence, MemorylessSelector, While, WhileAll, WhenAll, WhenAny, After, Race}
 use Rattle.rules.specs.Kinds.{code, kindOf}
 
 pub kind-code : (k : Kind) → kindOf (code k) ≡ k
