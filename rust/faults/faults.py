@@ -106,7 +106,7 @@ FAULTS = [
     ),
     (
         "a tree that has finished needs no levels",
-        "call/src/gate.rt",
+        "steps/src/gate.rt",
         "if entries < 16 {",
         "if entries < 16 && (fresh || !record.finished) {",
     ),

@@ -1,35 +1,31 @@
 -- One law for each step down and up.
 use mathlib.Core.Path.{_≡_, refl, sym, ap, _∙_}
-use mathlib.Core.Bool.{Bool, true, false, cond, not, _&&_}
+use mathlib.Core.Bool.{Bool, true, false, cond, _&&_}
 use mathlib.Core.List.{List}
-use Prim.Native.Nat.{ℕ, zero, suc, _+_, _-_, _≤_, _<_}
+use Prim.Native.Nat.{ℕ, suc, _+_, _-_, _≤_, _<_}
 use native.Mathlib.Decide.{decLt}
 use native.Mathlib.Omega.{arith}
-use lib.Dec.{ltb, eqb}
-use lib.Ieee.{Float, Format, add, sub, le, binary64}
-use lib.ListN.{length, getD, set, List·getD-eq-default}
+use lib.Dec.{ltb}
+use lib.Ieee.{Float, Format, add, le, binary64}
+use lib.ListN.{length, set, List·getD-eq-default}
 use lib.Seq.{getD-set-same, getD-set-other}
 use borrow.Author.Tests.{eq-eqb, ne-eqb}
 use Rattle.rules.specs.declared.behavior.Kind.{Kind}
 use Rattle.rules.specs.declared.behavior.Kind.the-variants.{Wait, WaitForever, Action, Invert, AlwaysSucceed, Timeout, Select, If, Sequence}
 use Rattle.rules.specs.declared.behavior.Kind.the-variants.{MemorylessSequence, MemorylessSelector, While, WhileAll, WhenAll, WhenAny, After, Race}
-use Rattle.rules.specs.declared.status.Status.{Status}
-use Rattle.rules.specs.declared.status.Status.the-variants as status
 use Rattle.rules.specs.Kinds.{is}
 use Rattle.rules.specs.Tree.{zeroTime}
-use Rattle.rules.specs.Outcome.{byte, statusOf}
-use Rattle.rules.specs.Levels.{Levels, levels, entries, cleared}
+use Rattle.rules.specs.Levels.{Levels}
 use Rattle.work.specs.declared.result.Seen.{Seen}
 use Rattle.work.specs.declared.result.Seen.the-variants.{Stopped, Running, Success, Failure}
 use Rattle.work.specs.Word.{kindIn}
-use Rattle.work.specs.Array.{wordAt, timeAt, numberAt, fuelOf, usedOf, updates, setSeen}
-use Rattle.work.specs.Flat.{Out, out, Lent, Step, Visitor, seenAs, andThen, seen, isLeaf, wait, action, leaf, visitLeaf, visit, byKind, tick, visiting}
+use Rattle.work.specs.Array.{wordAt, timeAt, numberAt, fuelOf, usedOf, updates}
+use Rattle.work.specs.Flat.{Out, out, Lent, Visitor, seen, isLeaf, wait, action, leaf, visitLeaf, visit, byKind, tick, visiting}
 use Rattle.work.proofs.VisitLaws.{visit-leaf, visit-node, tick-zero, tick-spent, tick-on}
 use Rattle.turns.specs.declared.level.Level.{Level}
 use Rattle.turns.specs.declared.level.Turn.{Turn}
-use Rattle.turns.specs.Levels.{Sound, goes, resumedBy}
-use Rattle.engine.specs.Stands.{levelAt, putAt, above, through, around, Held}
-use Rattle.engine.proofs.StandLaws.{put-long, put-same, put-other, put-cleared, around-stopped, around-deeper, around-done}
+use Rattle.turns.specs.Levels.{goes, resumedBy}
+use Rattle.engine.specs.Stands.{above, through, around}
 
 stopped-as : {s : Seen} {l l' : Float} {ws ws' : List ℕ} {ts ts' : List Float} → out s l ws ts ≡ out Stopped l' ws' ts' → s ≡ Stopped
 stopped-as e = cc
@@ -180,5 +176,5 @@ module _ (T : Lent) (m : ℕ) (e : Level) (r : Levels) (o : Out) (t : Turn) (ws 
   up-due z = let k : 16 - suc m ≡ 15 - m = omega arith in rw (k, a, z, p)
 
   pub up-done : t .due ≡ false → (ws₁ : List ℕ) → seen (e .node) (out (t .seen) (t .left) ws ts) ≡ out (t .seen) (t .left) ws₁ ts
-      → (e' : Level) → ((j : ℕ) → m ≡ suc j → e' ≡ levelAt r j) → around binary64 T (suc m) e r o ≡ around binary64 T m e' r (out (t .seen) (t .left) ws₁ ts)
-  up-done z ws₁ s e' q = around-done binary64 T m e e' r o _ (rw (a, z) s) q
+      → around binary64 T (suc m) e r o ≡ through binary64 T m r (out (t .seen) (t .left) ws₁ ts)
+  up-done z ws₁ s = ap (through binary64 T m r) (rw (a, z) s)

@@ -1,3 +1,4 @@
 mod StandLaws
 mod ClimbLaws
 mod Ways
+mod DecoratorLaws

@@ -1,7 +1,7 @@
 -- Laws of the room and of the nodes that are open around a visit.
-use mathlib.Core.Path.{_≡_, refl, sym, _∙_}
+use mathlib.Core.Path.{_≡_, refl, sym}
 use mathlib.Core.Bool.{Bool, true, false, cond}
-use mathlib.Core.List.{List, [], _∷_, _++_}
+use mathlib.Core.List.{List, [], _∷_}
 use Prim.Native.Nat.{ℕ, zero, suc, _+_, _-_, _*_, _/_, _%_, _≤_, _<_}
 use native.Mathlib.Omega.{arith}
 use lib.Dec.{eqb}
@@ -26,9 +26,12 @@ same : {A : Type 0} (b : Bool) (x : A) → cond b x x ≡ x
 same true x = refl
 same false x = refl
 
--- ---- nine bits
-mod-small : (a : ℕ) → a < 256 → a % 256 ≡ a
-mod-small a h = omega arith
+-- ---- eight bits, and nine
+kind-low : (a b : ℕ) → a < 256 → (a + 256 * b) % 256 ≡ a
+kind-low a b h = omega arith
+
+kind-high : (a b : ℕ) → a < 256 → (a + 256 * b) / 256 ≡ b
+kind-high a b h = omega arith
 
 low : (a b : ℕ) → a < 512 → (a + 512 * b) % 512 ≡ a
 low a b h = omega arith
@@ -37,11 +40,8 @@ high : (a b : ℕ) → a < 512 → (a + 512 * b) / 512 ≡ b
 high a b h = omega arith
 
 module _ (e : Level) (f : Fine e) where
-  abbrev index-on : ℕ
-  index-on = e .index + 512 * code (e .kind)
-
   abbrev stop-on : ℕ
-  stop-on = e .stop + 512 * index-on
+  stop-on = e .stop + 512 * e .index
 
   abbrev next-on : ℕ
   next-on = e .next + 512 * stop-on
@@ -49,36 +49,38 @@ module _ (e : Level) (f : Fine e) where
   abbrev child-on : ℕ
   child-on = e .child + 512 * next-on
 
-  behind-node : packedIn e / 512 ≡ child-on
-  behind-node = high (e .node) child-on (omega (arith, f .node-in, f .child-in))
+  abbrev node-on : ℕ
+  node-on = e .node + 512 * child-on
 
-  behind-child : packedIn e / 512 / 512 ≡ next-on
+  behind-kind : packedIn e / 256 ≡ node-on
+  behind-kind = kind-high (code (e .kind)) node-on (code-small (e .kind))
+
+  behind-node : packedIn e / 256 / 512 ≡ child-on
+  behind-node = rw behind-kind (high (e .node) child-on (omega (arith, f .node-in, f .child-in)))
+
+  behind-child : packedIn e / 256 / 512 / 512 ≡ next-on
   behind-child = rw behind-node (high (e .child) next-on (omega (arith, f .child-in)))
 
-  behind-next : packedIn e / 512 / 512 / 512 ≡ stop-on
+  behind-next : packedIn e / 256 / 512 / 512 / 512 ≡ stop-on
   behind-next = rw behind-child (high (e .next) stop-on (omega (arith, f .next-in)))
 
-  behind-stop : packedIn e / 512 / 512 / 512 / 512 ≡ index-on
-  behind-stop = rw behind-next (high (e .stop) index-on (omega (arith, f .stop-in)))
-
-  behind-index : packedIn e / 512 / 512 / 512 / 512 / 512 ≡ code (e .kind)
-  behind-index = rw behind-stop (high (e .index) (code (e .kind)) (omega (arith, f .index-in, f .child-in)))
+  behind-stop : packedIn e / 256 / 512 / 512 / 512 / 512 ≡ e .index
+  behind-stop = rw behind-next (high (e .stop) (e .index) (omega (arith, f .stop-in)))
 
   -- what is packed comes back
   pub packed-back : unpackedFrom (packedIn e) (e .count) (e .whole) (e .rest) ≡ e
   packed-back = rw (
-    behind-index,
     behind-stop,
     behind-next,
     behind-child,
     behind-node,
-    mod-small (code (e .kind)) (code-small (e .kind)),
+    behind-kind,
+    kind-low (code (e .kind)) node-on (code-small (e .kind)),
     kind-code (e .kind),
     low (e .node) child-on (omega (arith, f .node-in, f .child-in)),
     low (e .child) next-on (omega (arith, f .child-in)),
     low (e .next) stop-on (omega (arith, f .next-in)),
-    low (e .stop) index-on (omega (arith, f .stop-in)),
-    low (e .index) (code (e .kind)) (omega (arith, f .index-in, f .child-in)),
+    low (e .stop) (e .index) (omega (arith, f .stop-in)),
   )
 
 -- ---- one entry
@@ -170,8 +172,11 @@ module _ (F : Format) (T : Lent) where
       (sym (through-put m r m e _ (omega arith) (omega arith)))
 
   -- ---- a node is done: the one around it comes out of the room
-  pub around-done : (n : ℕ) (e e' : Level) (r : Levels) (o o' : Out) → above F T n e o ≡ o' → ((m : ℕ) → n ≡ suc m → e' ≡ levelAt r m)
-      → around F T (suc n) e r o ≡ around F T n e' r o'
+  pub around-kept : (n : ℕ) (e : Level) (r : Levels) (o : Out) → ((m : ℕ) → n ≡ suc m → e ≡ levelAt r m) → through F T n r o ≡ around F T n e r o
   unfolding through
-  around-done zero e e' r o o' a p = a
-  around-done (suc m) e e' r o o' a p = rw (a, p m refl)
+  around-kept zero e r o p = refl
+  around-kept (suc m) e r o p = rw (p m refl)
+
+  -- ---- the innermost may stand in the room, too
+  pub around-put : (m : ℕ) (e : Level) (r : Levels) (o : Out) → m < entries r → around F T (suc m) e (putAt r m e) o ≡ around F T (suc m) e r o
+  around-put m e r o h = through-put m r m e (above F T m e o) h (omega arith)

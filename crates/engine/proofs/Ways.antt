@@ -7,7 +7,7 @@ use native.Mathlib.Numerals.{add-one}
 use native.Mathlib.Decide.{decLt}
 use native.Mathlib.Omega.{arith}
 use lib.Ieee.{Float, binary64}
-use lib.ListN.{length, set, length-set}
+use lib.ListN.{length, getD, set, length-set}
 use Rattle.rules.specs.declared.behavior.Kind.{Kind}
 use Rattle.rules.specs.Tree.{zeroTime}
 use Rattle.rules.specs.Levels.{Levels, entries, cleared}
@@ -21,9 +21,9 @@ use Rattle.work.proofs.VisitLaws.{Gave, gave-told, no-gave}
 use Rattle.turns.specs.declared.level.Level.{Level}
 use Rattle.turns.specs.declared.level.Turn.{Turn}
 use Rattle.turns.specs.Levels.{Sound, KeepsSound, goes, resumedBy, enteredLevel}
-use Rattle.engine.specs.Stands.{levelAt, putAt, around, Held}
-use Rattle.engine.specs.Climbs.{dueAt, Downs, Ups}
-use Rattle.engine.proofs.StandLaws.{put-long, put-same, put-other, put-cleared, around-stopped, around-deeper}
+use Rattle.engine.specs.Stands.{nodeAs, levelAt, putAt, through, around, Held}
+use Rattle.engine.specs.Climbs.{dueAt, Downs, Closes, Ups}
+use Rattle.engine.proofs.StandLaws.{put-long, put-same, put-other, put-cleared, around-stopped, around-deeper, around-kept, around-put}
 use Rattle.engine.proofs.ClimbLaws.{visit-root, fuel-used, leaf-less, down-leaf, down-spent, down-deep, down-done, down-due, up-due, up-done}
 
 pub record WayDown
@@ -66,7 +66,7 @@ put-lengths r l e = record {
   rests-same = length-set (r .rests) l _;
 }
 
-not-due : _≡_ {A = Bool} false true → ⊥
+pub not-due : _≡_ {A = Bool} false true → ⊥
 not-due e = let z : _≡_ {A = ℕ} 0 1 = cc in omega arith
 
 -- what a `match` tells of the arms other than the first
@@ -128,7 +128,40 @@ module _ (n : ℕ) (e : Level) (r r' : Levels) (d : Deeper n e r r') (h : Held n
     room = omega (arith, deeper-long, h .room);
   }
 
+  pub held-kept : Held n e r'
+  held-kept = record {
+    few = h .few;
+    due-in = h .due-in;
+    inner = h .inner;
+    outer = λ j l. deeper-outer n refl j (omega arith);
+    room = omega (arith, deeper-long, h .room);
+  }
+
+  pub around-same : (T : Lent) (o : Out) → around binary64 T n e r' o ≡ around binary64 T n e r o
+  around-same T o = by n refl
+    where
+      by : (k : ℕ) → n ≡ k → around binary64 T n e r' o ≡ around binary64 T n e r o
+      by zero z = rw (d .none z)
+      by (suc m) z = rw (d .one m z, z) (around-put binary64 T m e r o (omega (arith, h .few, h .room)))
+
 -- ---- down
+-- the innermost node may stand in the room, too
+pub way-kept : {T : Lent} {n₀ : ℕ} {e₀ : Level} {x₀ : Float} {r₀ : Levels} {ws₀ : List ℕ} {ts₀ : List Float} {n : ℕ} {e : Level} {x : Float} {r : Levels} {ws : List ℕ} {ts : List Float}
+    → WayDown T n₀ e₀ x₀ r₀ ws₀ ts₀ n e x r ws ts → {r' : Levels} → Deeper n e r r' → WayDown T n₀ e₀ x₀ r₀ ws₀ ts₀ n e x r' ws ts
+way-kept {T} {n₀} {e₀} {x₀} {r₀} {ws₀} {ts₀} {n} {e} {x} {r} {ws} {ts} w {r'} deep =
+    let more = deeper-lengths n e r r' deep (w .held) in
+    record {
+      same = w .same ∙ sym (around-same n e r r' deep (w .held) T _);
+      held = held-kept n e r r' deep (w .held);
+      behind = deeper-behind n e r r' deep (w .held) ∙ w .behind;
+      fuel = w .fuel;
+      times-long = w .times-long;
+      opens-long = more .opens-same ∙ w .opens-long;
+      counts-long = more .counts-same ∙ w .counts-long;
+      wholes-long = more .wholes-same ∙ w .wholes-long;
+      rests-long = more .rests-same ∙ w .rests-long;
+    }
+
 module _ {T : Lent} {n₀ : ℕ} {e₀ : Level} {x₀ : Float} {r₀ : Levels} {ws₀ : List ℕ} {ts₀ : List Float} {n : ℕ} {e : Level} {x : Float} {r : Levels} {ws : List ℕ} {ts : List Float}
     (w : WayDown T n₀ e₀ x₀ r₀ ws₀ ts₀ n e x r ws ts) {k : Kind} (c : k ≡ kindIn (wordAt ws (e .child))) where
   abbrev To : Seen → Float → List ℕ → List Float → Type 0
@@ -181,9 +214,14 @@ module _ {T : Lent} {n₀ : ℕ} {e₀ : Level} {x₀ : Float} {r₀ : Levels} {
           })
 
 -- ---- up
--- the innermost is done
-pub held-out : (m : ℕ) (e e' : Level) (r : Levels) → Held (suc m) e r → (0 < m → e' ≡ levelAt r (m - 1)) → (m ≤ 0 → e' ≡ e) → Held m e' r
-held-out m e e' r h p q = record {
+-- a node in an entry has a word
+pub held-placed : {n : ℕ} {e : Level} {r : Levels} → Held n e r → (j : ℕ) → j < n - 1 → nodeAs (getD (r .opens) j 0) < 256
+unfolding levelAt
+held-placed h j l = let fine = h .outer j l .fine in omega (arith, fine .node-in, fine .child-in)
+
+-- the innermost is done, and decorators around it
+pub held-out : (n m : ℕ) (e e' : Level) (r : Levels) → Held n e r → m < n → (0 < m → e' ≡ levelAt r (m - 1)) → (m ≤ 0 → e' ≡ e) → Held m e' r
+held-out n m e e' r h d p q = record {
   few = omega (arith, h .few);
   due-in = in-place;
   inner = λ l. rw (p l) (h .outer (m - 1) (omega arith));
@@ -249,22 +287,23 @@ module _ {T : Lent} {n₀ : ℕ} {e₀ : Level} {s₀ : Seen} {l₀ : Float} {r 
         turned-up = rw suc-m (up-due T m e r (out s l ws ts) t ws₁ ts₁ goes-so (keeps .node) z)
 
     pub way-up : t .due ≡ false → (ws₂ : List ℕ) → ((l : Float) (ts : List Float) → seen (e .node) (out (t .seen) l ws₁ ts) ≡ out (t .seen) l ws₂ ts) → fuelOf ws₂ ≡ fuelOf ws₁
-        → length ts₁ ≡ length ts → {e' : Level} → (0 < m → e' ≡ levelAt r (m - 1)) → (m ≤ 0 → e' ≡ e)
-        → WayUp T n₀ e₀ s₀ l₀ r ws₀ ts₀ (n - 1) e' (t .seen) (t .left) ws₂ ts₁
-    way-up z ws₂ s' same long {e'} p q = record {
-      same = w .same ∙ turned-up;
-      held = held-out m e e' r (rw suc-m at (w .held)) p q;
-      fuel = same ∙ g ∙ w .fuel;
+        → {n' : ℕ} {s' : Seen} {l' : Float} {ws₃ : List ℕ} {ts₃ : List Float} → Closes (T .limits) (r .opens) (r .wholes) m (t .seen) (t .left) ws₂ ts₁ n' s' l' ws₃ ts₃
+        → length ts₃ ≡ length ts → {e' : Level} → (0 < n' → e' ≡ levelAt r (n' - 1)) → (n' ≤ 0 → e' ≡ e)
+        → WayUp T n₀ e₀ s₀ l₀ r ws₀ ts₀ n' e' s' l' ws₃ ts₃
+    way-up z ws₂ shown same {n'} {s'} {l'} {ws₃} {ts₃} closed long {e'} p q = record {
+      same = w .same ∙ turned-up ∙ closed .same (T .statuses) (r .counts) (T .leftovers) (r .rests) ∙ around-kept binary64 T n' e' r (out s' l' ws₃ ts₃) inside;
+      held = held-out n n' e e' r (w .held) (omega (arith, closed .few)) p q;
+      fuel = closed .fuel ∙ same ∙ g ∙ w .fuel;
       going = λ d. absurd (going (w .going d));
       times-long = long ∙ w .times-long;
     }
       where
-        inside : (j : ℕ) → m ≡ suc j → e' ≡ levelAt r j
-        inside j d = let k : m - 1 ≡ j = omega arith in rw k at (p (omega arith))
+        inside : (j : ℕ) → n' ≡ suc j → e' ≡ levelAt r j
+        inside j d = let k : n' - 1 ≡ j = omega arith in rw k at (p (omega arith))
 
-        turned-up : around binary64 T n e r (out s l ws ts) ≡ around binary64 T (n - 1) e' r (out (t .seen) (t .left) ws₂ ts₁)
-        turned-up = subst (λ (k : ℕ). around binary64 T k e r (out s l ws ts) ≡ around binary64 T m e' r (out (t .seen) (t .left) ws₂ ts₁)) (sym suc-m)
-            (up-done T m e r (out s l ws ts) t ws₁ ts₁ goes-so (keeps .node) z ws₂ (s' (t .left) ts₁) e' inside)
+        turned-up : around binary64 T n e r (out s l ws ts) ≡ through binary64 T m r (out (t .seen) (t .left) ws₂ ts₁)
+        turned-up = subst (λ (k : ℕ). around binary64 T k e r (out s l ws ts) ≡ through binary64 T m r (out (t .seen) (t .left) ws₂ ts₁)) (sym suc-m)
+            (up-done T m e r (out s l ws ts) t ws₁ ts₁ goes-so (keeps .node) z ws₂ (shown (t .left) ts₁))
 
 -- ---- round: down to a result, and up to where a child is due or to the end
 module _ {T : Lent} {n₀ : ℕ} {e₀ : Level} {x₀ : Float} {r₀ : Levels} {ws₀ : List ℕ} {ts₀ : List Float} {n : ℕ} {e : Level} {x : Float} {r : Levels} {ws : List ℕ} {ts : List Float}

@@ -1,28 +1,33 @@
 -- The nodes that are open around a visit, as the room holds them.
-use mathlib.Core.Path.{_≡_}
-use mathlib.Core.List.{List}
 use Prim.Native.Nat.{ℕ, zero, suc, _+_, _-_, _*_, _/_, _%_, _≤_, _<_}
 use lib.Ieee.{Float, Format}
 use lib.ListN.{getD, set}
 use Rattle.rules.specs.Tree.{zeroTime}
+use Rattle.rules.specs.declared.behavior.Kind.{Kind}
 use Rattle.rules.specs.Kinds.{code, kindOf}
 use Rattle.rules.specs.Levels.{Levels, levels, entries}
 use Rattle.work.specs.Flat.{Out, Lent, seen, visiting}
 use Rattle.turns.specs.declared.level.Level.{Level}
 use Rattle.turns.specs.Levels.{Sound, resumedBy}
 
--- places, index and kind in one number, nine bits each
+-- kind, places and index in one number: eight bits for the kind, nine for each other, from the low end
 abbrev pub packedIn : Level → ℕ
-packedIn e = e .node + 512 * (e .child + 512 * (e .next + 512 * (e .stop + 512 * (e .index + 512 * code (e .kind)))))
+packedIn e = code (e .kind) + 256 * (e .node + 512 * (e .child + 512 * (e .next + 512 * (e .stop + 512 * e .index))))
+
+abbrev pub kindAs : ℕ → Kind
+kindAs x = kindOf (x % 256)
+
+abbrev pub nodeAs : ℕ → ℕ
+nodeAs x = x / 256 % 512
 
 abbrev pub unpackedFrom : ℕ → ℕ → Float → Float → Level
 unpackedFrom x c w r = record {
-  kind = kindOf (x / 512 / 512 / 512 / 512 / 512 % 256);
-  node = x % 512;
-  child = x / 512 % 512;
-  next = x / 512 / 512 % 512;
-  stop = x / 512 / 512 / 512 % 512;
-  index = x / 512 / 512 / 512 / 512 % 512;
+  kind = kindAs x;
+  node = nodeAs x;
+  child = x / 256 / 512 % 512;
+  next = x / 256 / 512 / 512 % 512;
+  stop = x / 256 / 512 / 512 / 512 % 512;
+  index = x / 256 / 512 / 512 / 512 / 512;
   count = c;
   whole = w;
   rest = r;
@@ -49,6 +54,10 @@ module _ (F : Format) (T : Lent) where
   abbrev pub around : ℕ → Level → Levels → Out → Out
   around zero e r o = o
   around (suc n) e r o = through n r (above n e o)
+
+-- a decorator that is open: its only child is due
+abbrev pub decoratorLevel : Kind → ℕ → Float → Level
+decoratorLevel k p dt = record { kind = k; node = p; child = p + 1; next = 0; stop = 0; index = 0; count = 0; whole = dt; rest = dt }
 
 -- so many open nodes fit into the room
 pub record Held (n : ℕ) (e : Level) (r : Levels) : Type 0 where

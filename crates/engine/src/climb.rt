@@ -1,4 +1,7 @@
 // Down from one open node to the next until there is a result, and up with it until a child is due.
+use crate::decorators::close_decorators;
+use crate::decorators::decorating;
+use crate::decorators::open_decorators;
 use crate::room::keep;
 use crate::room::kept;
 use rules::Kind;
@@ -9,6 +12,7 @@ use turns::resumed;
 use work::FUEL;
 use work::Result;
 use work::Seen;
+use work::decorates;
 use work::is_leaf;
 use work::kind_of;
 use work::put_seen;
@@ -47,7 +51,7 @@ fn stopped_at(deep: usize, level: Level) -> Stand
 }
 
 // A status goes onto the board; where the walk has stopped, there is none.
-fn show(work: &mut [u32; 260], p: usize, seen: Seen)
+pub fn show(work: &mut [u32; 260], p: usize, seen: Seen)
     requires { ⌜ p < 256 ⌝ }
     ensures { λ _. ⌜ ((l : Float) (ts : List Float) → flat.seen p (out seen l (now (work .entry)) ts) ≡ out seen l (now (work .exit)) ts) ⌝ }
     ensures { λ _. ⌜ fuelOf (now (work .exit)) ≡ fuelOf (now (work .entry)) ⌝ }
@@ -105,24 +109,33 @@ fn down(
             return stopped_at(deep, level);
         }
         work[FUEL] = fuel - 1;
-        let turn = opened(work, times, kind, q, rest);
-        if !turn.due {
-            let seen = turn.seen;
-            show(work, q, seen);
-            return Stand {
-                due: false,
-                deep,
-                level,
-                seen,
-                left: turn.left,
-            };
-        }
         if 0 < deep {
             keep(opens, counts, wholes, rests, deep - 1, level);
         }
-        deep += 1;
-        level = turn.level;
-        rest = turn.left;
+        if decorates(kind) {
+            if 255 <= q {
+                return stopped_at(deep, level);
+            }
+            let p = open_decorators(work, opens, counts, wholes, rests, deep + 1, q, rest);
+            deep += 1 + p - q;
+            level = decorating(kind_of(work[p]), p, rest);
+        } else {
+            let turn = opened(work, times, kind, q, rest);
+            if !turn.due {
+                let seen = turn.seen;
+                show(work, q, seen);
+                return Stand {
+                    due: false,
+                    deep,
+                    level,
+                    seen,
+                    left: turn.left,
+                };
+            }
+            deep += 1;
+            level = turn.level;
+            rest = turn.left;
+        }
     }
 }
 
@@ -172,10 +185,23 @@ fn up(
                 left: turn.left,
             };
         }
-        seen = turn.seen;
-        left = turn.left;
-        show(work, level.node, seen);
-        deep -= 1;
+        let given = turn.seen;
+        show(work, level.node, given);
+        let closed = close_decorators(
+            work,
+            limits,
+            times,
+            opens,
+            wholes,
+            deep - 1,
+            Result {
+                seen: given,
+                left: turn.left,
+            },
+        );
+        deep = closed.deep;
+        seen = closed.seen;
+        left = closed.left;
         if 0 < deep {
             level = kept(opens, counts, wholes, rests, deep - 1);
         }

@@ -1,5 +1,6 @@
 // The tick without recursion: its open nodes stand in lent room, an entry for each level.
 mod climb;
+mod decorators;
 mod room;
 
 pub use climb::Stand;

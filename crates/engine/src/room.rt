@@ -1,5 +1,5 @@
-// The lent room: an entry for each level, in four slices. The places of an open node, its index and its kind
-// stand in one number, nine bits each.
+// The lent room: an entry for each level, in four slices. The kind of an open node, its places and its index
+// stand in one number, the kind in the lowest eight bits.
 use rules::Kind;
 use turns::Level;
 ghost use mathlib.Core.Path.{_≡_};
@@ -9,7 +9,7 @@ ghost use lib.ListN.{length, drop, replicate};
 ghost use Rattle.rules.specs.Tree.{zeroTime};
 ghost use Rattle.rules.specs.Levels.{levels, entries, cleared};
 ghost use Rattle.turns.specs.Levels.{Fine};
-ghost use Rattle.engine.specs.Stands.{packedIn, unpackedFrom, levelAt, putAt};
+ghost use Rattle.engine.specs.Stands.{packedIn, kindAs, nodeAs, unpackedFrom, levelAt, putAt};
 
 fn clear_opens(opens: &mut [u64])
     requires { ⌜ 16 ≤ length (now opens) ⌝ }
@@ -69,29 +69,40 @@ fn packed(level: Level) -> u64
     ensures { λ r. ⌜ r ≡ packedIn level ⌝ }
 {
     let kind = level.kind;
-    let index = level.index as u64 + 512 * kind.number() as u64;
-    let stop = wide(level.stop) + 512 * index;
+    let stop = wide(level.stop) + 512 * level.index as u64;
     let next = wide(level.next) + 512 * stop;
     let child = wide(level.child) + 512 * next;
-    wide(level.node) + 512 * child
+    let node = wide(level.node) + 512 * child;
+    kind.number() as u64 + 256 * node
+}
+
+pub fn kind_in(x: u64) -> Kind
+    ensures { λ r. ⌜ r ≡ kindAs x ⌝ }
+{
+    Kind::of((x % 256) as u8)
+}
+
+pub fn node_in(x: u64) -> usize
+    ensures { λ r. ⌜ r ≡ nodeAs x ⌝ }
+{
+    (x / 256 % 512) as usize
 }
 
 // The level that was packed into x, with its count and times.
 fn unpacked(x: u64, count: u32, whole: f64, rest: f64) -> Level
     ensures { λ r. ⌜ r ≡ unpackedFrom x count whole rest ⌝ }
 {
-    let child = x / 512;
+    let child = x / 256 / 512;
     let next = child / 512;
     let stop = next / 512;
     let index = stop / 512;
-    let kind = index / 512;
     Level {
-        kind: Kind::of((kind % 256) as u8),
-        node: (x % 512) as usize,
+        kind: kind_in(x),
+        node: node_in(x),
         child: (child % 512) as usize,
         next: (next % 512) as usize,
         stop: (stop % 512) as usize,
-        index: (index % 512) as u32,
+        index: index as u32,
         count,
         whole,
         rest,

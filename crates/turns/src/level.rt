@@ -8,18 +8,18 @@ ghost use Rattle.turns.specs.Levels.{dueTurn, doneTurn, enteredLevel};
 // What a driver knows between two visits.
 pub struct Level {
     pub kind: Kind,
+    // The dt of the node's own visit.
+    pub whole: f64,
     pub node: usize,
+    // The child's number; of an If 0 for its condition.
+    pub index: u32,
     // The child that is visited, and where it ends; of a loop, where the body begins.
     pub child: usize,
     pub next: usize,
     // Where the children end.
     pub stop: usize,
-    // The child's number; of an If 0 for its condition.
-    pub index: u32,
     // The turns that are left; of WhenAll and After 1 while no child was Running.
     pub count: u32,
-    // The dt of the node's own visit.
-    pub whole: f64,
     // The least leftover so far; of WhileAll the rest.
     pub rest: f64,
 }

@@ -19,11 +19,9 @@ use Rattle.work.specs.Word.{kindIn, placeOf}
 use Rattle.work.specs.Array.{wordAt, timeAt, numberAt, fuelOf, passed, endOf, setSeen, childFrom, decidedWords, chosenWords, chosenTimes}
 use Rattle.work.specs.Flat.{Out, out, Lent, Visitor, seenNo, stopped, andThen, isLeaf, isDecorator, choiceOf, seen}
 use Rattle.work.specs.Flat.{branch, chosen, ifNode, timesOut, decorated, decorator, byKind, visit, tick}
-use Rattle.rules.specs.declared.behavior.Kind.the-variants.{Wait, WaitForever, Action, Invert, AlwaysSucceed, Timeout, Select, If, Sequence, MemorylessSequence, MemorylessSelector, While, WhileAll, WhenAll, WhenAny, After, Race}
+use Rattle.rules.specs.declared.behavior.Kind.the-variants.{Invert, Timeout}
+use Rattle.work.proofs.KindLaws.{decorator-case}
 use Rattle.work.proofs.VisitLaws.{Gave, seen-put, visit-node, tick-zero, tick-spent, tick-on}
-
-no : _≡_ {A = Bool} false true → ⊥
-no e = let z : _≡_ {A = ℕ} 0 1 = cc in omega arith
 
 -- ---- If
 module _ (v : Visitor) (p : ℕ) (dt : Float) (ws : List ℕ) (ts : List Float) (stop i : ℕ) (a : stop ≡ endOf ws p) (b : i ≡ placeOf (wordAt ws p)) where
@@ -79,23 +77,8 @@ module _ (v : Visitor) (p : ℕ) (dt : Float) (ws : List ℕ) (ts : List Float) 
 decorator-kind : (F : Format) (T : Lent) (v : Visitor) (k : Kind) → isDecorator k ≡ true → (isLeaf k ≡ false) × ((p : ℕ) (dt : Float) (ws : List ℕ) (ts : List Float)
     → byKind F T v k p dt ws ts ≡ decorator F T v p dt ws ts)
 unfolding byKind
-decorator-kind F T v Invert h = (refl, λ p dt ws ts. refl)
-decorator-kind F T v AlwaysSucceed h = (refl, λ p dt ws ts. refl)
-decorator-kind F T v Timeout h = (refl, λ p dt ws ts. refl)
-decorator-kind F T v Wait h = absurd (no h)
-decorator-kind F T v WaitForever h = absurd (no h)
-decorator-kind F T v Action h = absurd (no h)
-decorator-kind F T v Select h = absurd (no h)
-decorator-kind F T v If h = absurd (no h)
-decorator-kind F T v Sequence h = absurd (no h)
-decorator-kind F T v MemorylessSequence h = absurd (no h)
-decorator-kind F T v MemorylessSelector h = absurd (no h)
-decorator-kind F T v While h = absurd (no h)
-decorator-kind F T v WhileAll h = absurd (no h)
-decorator-kind F T v WhenAll h = absurd (no h)
-decorator-kind F T v WhenAny h = absurd (no h)
-decorator-kind F T v After h = absurd (no h)
-decorator-kind F T v Race h = absurd (no h)
+decorator-kind F T v = decorator-case (λ k. (isLeaf k ≡ false) × ((p : ℕ) (dt : Float) (ws : List ℕ) (ts : List Float) → byKind F T v k p dt ws ts ≡ decorator F T v p dt ws ts))
+    (refl, λ p dt ws ts. refl) (refl, λ p dt ws ts. refl) (refl, λ p dt ws ts. refl)
 
 pub decorator-none : (F : Format) (T : Lent) (v : Visitor) (p : ℕ) (dt : Float) (ws : List ℕ) (ts : List Float) → 255 ≤ p → decorator F T v p dt ws ts ≡ out Stopped zeroTime ws ts
 unfolding decorator

@@ -1,18 +1,20 @@
 -- The rule of each kind, by the arm of a `match` that has it.
 use mathlib.Core.Path.{_≡_, refl}
-use mathlib.Core.Bool.{Bool}
+use mathlib.Core.Bool.{Bool, true, false}
 use mathlib.Core.List.{List, [], _∷_}
 use types.Run.{OneOf}
 use denote.Enum.Declared.{tagOf}
 use Prim.Native.Nat.{ℕ}
+use native.Mathlib.Omega.{arith}
 use lib.Ieee.{Float, Format}
 use Rattle.rules.specs.declared.behavior.Kind.{Kind}
-use Rattle.rules.specs.declared.behavior.Kind.the-variants.{If, While, WhileAll, After, Race}
+use Rattle.rules.specs.declared.behavior.Kind.the-variants.{Wait, WaitForever, Action, Invert, AlwaysSucceed, Timeout, Select, If, Sequence}
+use Rattle.rules.specs.declared.behavior.Kind.the-variants.{MemorylessSequence, MemorylessSelector, While, WhileAll, WhenAll, WhenAny, After, Race}
 use Rattle.rules.specs.Kinds.{kindOf}
 use Rattle.rules.specs.Outcome.{largest}
 use Rattle.rules.proofs.Arms.{arm}
 use Rattle.rules.proofs.behavior.Kind.{the-type}
-use Rattle.work.specs.Flat.{Out, Lent, Visitor, turnOut, turning, exchangesOf, leaf, decorator, ifNode, sequence, memoryless, whenAll, race, after, whileLoop, whileAll, byKind}
+use Rattle.work.specs.Flat.{Out, Lent, Visitor, turnOut, turning, isDecorator, exchangesOf, leaf, decorator, ifNode, sequence, memoryless, whenAll, race, after, whileLoop, whileAll, byKind}
 
 module _ (F : Format) (T : Lent) (v : Visitor) (k : Kind) (p : ℕ) (dt : Float) (ws : List ℕ) (ts : List Float) (o : Out) where
   pub by-leaf : OneOf (0 ∷ 1 ∷ 2 ∷ []) (tagOf the-type k) → leaf F T k p dt ws ts ≡ o → byKind F T v k p dt ws ts ≡ o
@@ -60,3 +62,26 @@ module _ (F : Format) (T : Lent) (v : Visitor) (k : Kind) (p : ℕ) (dt : Float)
   pub by-race : k ≡ Race → race v p dt ws ts ≡ o → byKind F T v k p dt ws ts ≡ o
   unfolding byKind
   by-race e g = rw e g
+
+-- ---- the kinds that decorate
+no : _≡_ {A = Bool} false true → ⊥
+no e = let z : _≡_ {A = ℕ} 0 1 = cc in omega arith
+
+pub decorator-case : (P : Kind → Type 0) → P Invert → P AlwaysSucceed → P Timeout → (k : Kind) → isDecorator k ≡ true → P k
+decorator-case P a b c Invert h = a
+decorator-case P a b c AlwaysSucceed h = b
+decorator-case P a b c Timeout h = c
+decorator-case P a b c Wait h = absurd (no h)
+decorator-case P a b c WaitForever h = absurd (no h)
+decorator-case P a b c Action h = absurd (no h)
+decorator-case P a b c Select h = absurd (no h)
+decorator-case P a b c If h = absurd (no h)
+decorator-case P a b c Sequence h = absurd (no h)
+decorator-case P a b c MemorylessSequence h = absurd (no h)
+decorator-case P a b c MemorylessSelector h = absurd (no h)
+decorator-case P a b c While h = absurd (no h)
+decorator-case P a b c WhileAll h = absurd (no h)
+decorator-case P a b c WhenAll h = absurd (no h)
+decorator-case P a b c WhenAny h = absurd (no h)
+decorator-case P a b c After h = absurd (no h)
+decorator-case P a b c Race h = absurd (no h)

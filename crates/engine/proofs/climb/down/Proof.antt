@@ -1,15 +1,18 @@
 -- Each node that is opened is one more around the visit.
-use mathlib.Core.Path.{_≡_, refl, sym, ap, _∙_}
+use mathlib.Core.Path.{_≡_, refl, sym, _∙_}
+use mathlib.Core.Bool.{true, false}
 use mathlib.Core.Logic.{⊎-elim}
-use Prim.Native.Nat.{_-_, _<_}
+use Prim.Native.Nat.{_-_}
 use native.Mathlib.Omega.{arith}
 use borrow.Author.Needs.{needs}
 use borrow.Author.Tests.{not-true, not-false}
 use denote.Ref.{now}
 use Rattle.rules.specs.Levels.{levels}
-use mathlib.Core.Bool.{false}
-use Rattle.work.specs.Flat.{lent, isLeaf}
-use Rattle.engine.proofs.Ways.{WayDown, Deeper, deeper-none, deeper-one, way-leaf, way-spent, way-deep, way-done, way-deeper}
+use Rattle.work.specs.Word.{kindIn}
+use Rattle.work.specs.Array.{wordAt}
+use Rattle.work.specs.Flat.{lent, isLeaf, isDecorator}
+use Rattle.engine.proofs.Ways.{WayDown, Deeper, deeper-none, deeper-one, way-kept, way-leaf, way-spent, way-deep, way-done, way-deeper}
+use Rattle.engine.proofs.DecoratorLaws.{way-last, way-decorator, way-opened}
 use Rattle.engine.proofs.climb.down.Statement.{statement}
 use Rattle.engine.proofs.climb.down.Tie as tie
 
@@ -70,68 +73,121 @@ returns-3 c =
     let else = c .before .before .before .before in
     rw (c .stopped-at2 .ensures) (way-deep (at else .loop .inv) (else .before .before .kind-of .ensures) (no-leaf else) (c .before .if3 .taken))
 
--- a node that is opened
-abbrev entering : Stands tie.After-opened → Stands tie.Else3
-entering c = c .before .before .before
-
+-- the room with the innermost node in it
 abbrev inner : Stands tie.Else3 → Stands tie.Else1
 inner c = c .before .before .before
 
+abbrev around : Stands tie.Joined4 → Stands tie.At-loop
+around c = at (inner (c .before))
+
+sub-keep : tie.Need-sub-keep Inv-loop μ-loop
+sub-keep c = let then = c .before .before .before .before in omega (arith, then .if4 .taken)
+
+keep-requires : tie.Need-keep-requires Inv-loop μ-loop
+keep-requires c κs =
+    let then = c .before .before .before .before in
+    let held = at (inner (then .before)) .loop .inv .held in
+    (omega (arith, held .few, held .room, then .if4 .taken), held .inner (then .if4 .taken) .fine)
+
+deeper : (c : Stands tie.Joined4) → let l = around c .loop in
+    Deeper (l .deep) (l .level) (levels (l .opens) (l .counts) (l .wholes) (l .rests)) (levels (c .if4 .opens) (c .if4 .counts) (c .if4 .wholes) (c .if4 .rests))
+deeper c = ⊎-elim
+    (λ w. deeper-one (w .0 .taken) ((λ i. levels (w .14 i) (w .15 i) (w .16 i) (w .17 i)) ∙ w .5 .ensures))
+    (λ w. deeper-none (w .0 .left) (λ i. levels (w .1 i) (w .2 i) (w .3 i) (w .4 i)))
+    (c .if4 .came)
+
+-- the way so far, with that room
+with-room : (c : Stands tie.Joined4) → let a = around c .before .before .before .before .before .before .before .args in let l = around c .loop in
+    WayDown (lent (a .limits .now .now) (a .statuses .now .now) (a .leftovers .now .now)) (a .stand .deep) (a .stand .level) (a .stand .left)
+    (levels (a .opens .now) (a .counts .now) (a .wholes .now) (a .rests .now)) (a .work .now) (a .times .now)
+    (l .deep) (l .level) (l .rest) (levels (c .if4 .opens) (c .if4 .counts) (c .if4 .wholes) (c .if4 .rests)) (l .work) (l .times)
+with-room c = way-kept (around c .loop .inv) (deeper c)
+
+-- ---- decorators
+abbrev entering : Stands tie.Then5 → Stands tie.Joined4
+entering c = c .before .before
+
+decorator : (c : Stands tie.Then5) → let l = around (entering c) .loop in isDecorator (kindIn (wordAt (l .work) (l .level .child))) ≡ true
+decorator c = rw (← inner (entering c .before) .before .before .kind-of .ensures, ← c .before .decorates .ensures) (c .if5 .taken)
+
+returns-4 : tie.Need-returns-4 Inv-loop μ-loop
+returns-4 c =
+    let then = c .before .before in
+    let few = entering then .before in
+    rw (c .stopped-at3 .ensures) (way-last (with-room (entering then)) (decorator then) (few .if3 .left) (few .before .if2 .left) (c .before .if6 .taken))
+
+abbrev opening : Stands tie.Else6 → Stands tie.Then5
+opening c = c .before
+
+open-decorators-requires : tie.Need-open-decorators-requires Inv-loop μ-loop
+open-decorators-requires c κs =
+    let else = c .before .before .before .before .before in
+    let then = opening else in
+    let joined = entering then in
+    let few = joined .before in (
+      omega (arith, else .if6 .left),
+      (
+        omega arith,
+        way-decorator (around joined .loop .inv) (decorator then) (few .if3 .left) (few .before .if2 .left) (omega (arith, else .if6 .left)) (deeper joined) .held,
+      ),
+    )
+
+abbrev opened-down : Stands tie.After-slice-known14 → Stands tie.After-open-decorators
+opened-down c = c .before .before .before .before .before .before .before .before
+
+abbrev first : Stands tie.After-open-decorators → Stands tie.Else6
+first c = c .before .before .before .before .before .before
+
+loop-again : tie.Need-loop-again Inv-loop μ-loop
+loop-again c =
+    let run = opened-down (c .before .before .before) in
+    let else = first run in
+    let then = opening else in
+    let joined = entering then in
+    let few = joined .before in
+    let o = run .open-decorators in
+    way-opened
+    (way-decorator (around joined .loop .inv) (decorator then) (few .if3 .left) (few .before .if2 .left) (omega (arith, else .if6 .left)) (deeper joined))
+    (o .ensures)
+    (record { opens-same = o .kept .1 .0; counts-same = o .kept .1 .1 .0; wholes-same = o .kept .1 .1 .1 .0; rests-same = o .kept .1 .1 .1 .1 .0 })
+    (omega (arith, o .ensures .from)) (c .before .kind-of2 .ensures) (c .decorating .ensures)
+
+-- ---- any other node
+abbrev other : Stands tie.After-opened → Stands tie.Else5
+other c = c .before .before .before
+
+abbrev outer : Stands tie.Else5 → Stands tie.Joined4
+outer c = c .before .before
+
 opened-requires : tie.Need-opened-requires Inv-loop μ-loop
-opened-requires c κs = let else = inner (c .before .before) in (at else .loop .inv .held .due-in, no-leaf else)
+opened-requires c κs = let joined = outer (c .before .before) in (around joined .loop .inv .held .due-in, no-leaf (inner (joined .before)))
 
 abbrev opened : Stands tie.After-show → Stands tie.After-opened
 opened c = c .before .before .before .before .before .before
 
 show-requires : tie.Need-show-requires Inv-loop μ-loop
-show-requires c κs = at (inner (entering (c .before .before .before .before .before))) .loop .inv .held .due-in
+show-requires c κs = around (outer (other (c .before .before .before .before .before))) .loop .inv .held .due-in
 
-done-long : tie.Need-same-length-16 Inv-loop μ-loop
-done-long c = opened c .opened .kept .1 .0 ∙ at (inner (entering (opened c))) .loop .inv .times-long
-
-returns-4 : tie.Need-returns-4 Inv-loop μ-loop
-returns-4 c =
+returns-5 : tie.Need-returns-5 Inv-loop μ-loop
+returns-5 c =
     let gave = opened c in
-    let few = entering gave in
+    let joined = outer (other gave) in
+    let few = joined .before in
     let else = inner few in
-    way-done (at else .loop .inv) (else .before .before .kind-of .ensures) (no-leaf else) (few .if3 .left) (few .before .if2 .left) _ refl (gave .opened .result) _ _
-    (gave .opened .ensures .0) (gave .opened .ensures .1 .1) (not-true _ (c .before .before .if4 .taken)) _ (c .show .ensures .0) (c .show .ensures .1)
+    way-done (with-room joined) (else .before .before .kind-of .ensures) (no-leaf else) (few .if3 .left) (few .before .if2 .left) _ refl
+    (gave .opened .result) _ _ (gave .opened .ensures .0) (gave .opened .ensures .1 .1) (not-true _ (c .before .before .if7 .taken)) _ (c .show .ensures .0) (c .show .ensures .1)
 
--- one node more is open
-abbrev went : Stands tie.Else4 → Stands tie.After-opened
+abbrev went : Stands tie.Else7 → Stands tie.After-opened
 went c = c .before .before .before .before
 
-sub-keep : tie.Need-sub-keep Inv-loop μ-loop
-sub-keep c = let then = c .before .before .before .before in omega (arith, then .if5 .taken)
-
-keep-requires : tie.Need-keep-requires Inv-loop μ-loop
-keep-requires c κs =
-    let then = c .before .before .before .before in
-    let held = at (inner (entering (went (then .before)))) .loop .inv .held in
-    (omega (arith, held .few, held .room, then .if5 .taken), held .inner (then .if5 .taken) .fine)
-
-add-deep : tie.Need-add-deep Inv-loop μ-loop
-add-deep c = omega (arith, at (inner (entering (went (c .before)))) .loop .inv .held .few)
-
-loop-less : tie.Need-loop-less Inv-loop μ-loop
-loop-less c = omega (arith, entering (went (c .before .before)) .if3 .left)
-
--- the room with one entry more, or as it was
-deeper : (c : Stands tie.Joined5) → let l = at (inner (entering (went (c .before)))) .loop in
-    Deeper (l .deep) (l .level) (levels (l .opens) (l .counts) (l .wholes) (l .rests)) (levels (c .if5 .opens) (c .if5 .counts) (c .if5 .wholes) (c .if5 .rests))
-deeper c = ⊎-elim
-    (λ w. deeper-one (w .0 .taken) ((λ i. levels (w .14 i) (w .15 i) (w .16 i) (w .17 i)) ∙ w .5 .ensures))
-    (λ w. deeper-none (w .0 .left) (λ i. levels (w .1 i) (w .2 i) (w .3 i) (w .4 i)))
-    (c .if5 .came)
-
-loop-again : tie.Need-loop-again Inv-loop μ-loop
-loop-again c =
-    let joined = c .before in
-    let gave = went (joined .before) in
-    let few = entering gave in
+loop-again-2 : tie.Need-loop-again-2 Inv-loop μ-loop
+loop-again-2 c =
+    let gave = went (c .before) in
+    let joined = outer (other gave) in
+    let few = joined .before in
     let else = inner few in
-    way-deeper (at else .loop .inv) (else .before .before .kind-of .ensures) (no-leaf else) (few .if3 .left) (few .before .if2 .left) _ refl (gave .opened .result) _ _
-    (gave .opened .ensures .0) (gave .opened .ensures .1 .1) (not-false _ (joined .before .if4 .left)) (gave .opened .ensures .1 .0) (deeper joined) (gave .opened .kept .1 .0)
+    way-deeper (around joined .loop .inv) (else .before .before .kind-of .ensures) (no-leaf else) (few .if3 .left) (few .before .if2 .left) _ refl (gave .opened .result) _ _
+    (gave .opened .ensures .0) (gave .opened .ensures .1 .1) (not-false _ (c .before .if7 .left)) (gave .opened .ensures .1 .0) (deeper joined) (gave .opened .kept .1 .0)
 
 pub down-spec : {M : Type 1} → statement M
 down-spec =
@@ -168,16 +224,38 @@ down-spec =
     returns-3
     (λ c. search needs)
     (λ c. search needs)
-    opened-requires
-    show-requires
-    done-long
-    (λ c. at (inner (entering (opened c))) .loop .inv .opens-long)
-    (λ c. at (inner (entering (opened c))) .loop .inv .counts-long)
-    (λ c. at (inner (entering (opened c))) .loop .inv .wholes-long)
-    (λ c. at (inner (entering (opened c))) .loop .inv .rests-long)
-    returns-4
     sub-keep
     keep-requires
-    add-deep
-    loop-less
-    loop-again)
+    (λ c κs. search needs)
+    (λ c κs. search needs)
+    (λ c. with-room (entering (c .before .before)) .times-long)
+    (λ c. with-room (entering (c .before .before)) .opens-long)
+    (λ c. with-room (entering (c .before .before)) .counts-long)
+    (λ c. with-room (entering (c .before .before)) .wholes-long)
+    (λ c. with-room (entering (c .before .before)) .rests-long)
+    returns-4
+    (λ c. omega (arith, entering (opening (c .before .before .before .before .before)) .before .if3 .left))
+    open-decorators-requires
+    (λ c. omega (arith, opened-down c .open-decorators .ensures .place))
+    (λ c. omega (arith, opened-down c .open-decorators .ensures .from))
+    (λ c. let o = opened-down c .open-decorators .ensures in omega (arith, o .from, o .held .few))
+    (λ c. omega (arith, opened-down c .open-decorators .ensures .place))
+    (λ c. omega (arith, opened-down c .open-decorators .ensures .place))
+    (λ c κs. search needs)
+    (λ c κs. opened-down (c .before .before) .open-decorators .ensures .place)
+    (λ c.
+    let run = opened-down (c .before .before .before) in
+    let o = run .open-decorators .ensures in
+    omega (arith, o .from, o .held .few, entering (opening (first run)) .before .if3 .left))
+    loop-again
+    opened-requires
+    show-requires
+    (λ c. let gave = opened c in gave .opened .kept .1 .0 ∙ with-room (outer (other gave)) .times-long)
+    (λ c. with-room (outer (other (opened c))) .opens-long)
+    (λ c. with-room (outer (other (opened c))) .counts-long)
+    (λ c. with-room (outer (other (opened c))) .wholes-long)
+    (λ c. with-room (outer (other (opened c))) .rests-long)
+    returns-5
+    (λ c. omega (arith, outer (other (went c)) .before .if3 .left))
+    (λ c. omega (arith, outer (other (went (c .before))) .before .if3 .left))
+    loop-again-2)

@@ -1,5 +1,5 @@
 -- Each node that is done is one less around the result.
-use mathlib.Core.Path.{_≡_, refl, sym, _∙_}
+use mathlib.Core.Path.{_≡_, refl, _∙_}
 use Prim.Native.Nat.{_-_, _<_}
 use native.Mathlib.Omega.{arith}
 use borrow.Author.Needs.{needs}
@@ -7,7 +7,7 @@ use denote.Ref.{now}
 use Rattle.rules.specs.Levels.{levels}
 use Rattle.work.specs.declared.result.Seen.the-variants.{Stopped}
 use Rattle.work.specs.Flat.{lent}
-use Rattle.engine.proofs.Ways.{WayUp, going-told, way-stopped, way-over, way-due, way-up}
+use Rattle.engine.proofs.Ways.{WayUp, going-told, held-placed, way-stopped, way-over, way-due, way-up}
 use Rattle.engine.proofs.climb.up.Statement.{statement}
 use Rattle.engine.proofs.climb.up.Tie as tie
 
@@ -61,26 +61,49 @@ show-requires c κs =
     let fine = at at-it .loop .inv .held .inner (inside at-it .loop-test .taken) .fine in
     omega (arith, fine .node-in, fine .child-in)
 
+close-decorators-requires : tie.Need-close-decorators-requires Inv-loop μ-loop
+close-decorators-requires c κs =
+    let was = gave (c .before .before) in
+    let held = at was .loop .inv .held in
+    let some = inside was .loop-test .taken in
+    ((omega (arith, held .few), omega (arith, held .few, held .room, some), omega (arith, held .few, held .room, some)), held-placed held)
+
+-- those that are left
+abbrev shown : Stands tie.After-slice-known3 → Stands tie.After-show
+shown c = c .before .before .before .before .before
+
+abbrev left : Stands tie.After-slice-known3 → Stands tie.After-close-decorators
+left c = c .before .before
+
+less : (c : Stands tie.After-slice-known3) → left c .close-decorators .result .deep < at (gave (shown c)) .loop .deep
+less c = omega (arith, left c .close-decorators .ensures .few, inside (gave (shown c)) .loop-test .taken)
+
 kept-requires : tie.Need-kept-requires Inv-loop μ-loop
 kept-requires c κs =
-    let held = at (gave (c .before)) .loop .inv .held in
-    omega (arith, held .few, held .room)
+    let held = at (gave (shown (c .before))) .loop .inv .held in
+    omega (arith, less (c .before), held .few, held .room)
 
 loop-again : tie.Need-loop-again Inv-loop μ-loop
 loop-again c =
-    let show = c .before .before in
+    let rest = c .before .before in
+    let show = shown rest in
     let was = gave show in
     let given = was .resumed in
+    let closed = left rest .close-decorators in
     way-up (at was .loop .inv) (inside was .loop-test .taken) (going was) (given .result) _ _ (given .ensures .0) (given .ensures .1 .0) (given .ensures .1 .1)
-    (show .before .before .if1 .left) _ (show .show .ensures .0) (show .show .ensures .1) (given .kept .1 .1 .0) (λ _. c .kept .ensures) (λ z. absurd (omega (arith, c .before .if2 .taken, z)))
+    (show .before .before .if1 .left) _ (show .show .ensures .0) (show .show .ensures .1) (closed .ensures) (closed .kept .1 .1 .0 ∙ given .kept .1 .1 .0)
+    (λ _. c .kept .ensures) (λ z. absurd (omega (arith, c .before .if2 .taken, z)))
 
 loop-again-2 : tie.Need-loop-again-2 Inv-loop μ-loop
 loop-again-2 c =
-    let show = c .before in
+    let rest = c .before in
+    let show = shown rest in
     let was = gave show in
     let given = was .resumed in
+    let closed = left rest .close-decorators in
     way-up (at was .loop .inv) (inside was .loop-test .taken) (going was) (given .result) _ _ (given .ensures .0) (given .ensures .1 .0) (given .ensures .1 .1)
-    (show .before .before .if1 .left) _ (show .show .ensures .0) (show .show .ensures .1) (given .kept .1 .1 .0) (λ z. absurd (omega (arith, c .if2 .left, z))) (λ _. refl)
+    (show .before .before .if1 .left) _ (show .show .ensures .0) (show .show .ensures .1) (closed .ensures) (closed .kept .1 .1 .0 ∙ given .kept .1 .1 .0)
+    (λ z. absurd (omega (arith, c .if2 .left, z))) (λ _. refl)
 
 returns-3 : tie.Need-returns-3 Inv-loop μ-loop
 returns-3 c = way-over (c .before .loop .inv) (c .loop-test .left)
@@ -99,12 +122,13 @@ up-spec =
     (λ c. let was = c .before .before .before .before in was .resumed .kept .1 .1 .0 ∙ at was .loop .inv .times-long)
     returns-2
     show-requires
-    (λ c. omega (arith, inside (gave c) .loop-test .taken))
+    (λ c. omega (arith, inside (gave (c .before .before)) .loop-test .taken))
+    close-decorators-requires
     (λ c. omega (arith, c .if2 .taken))
     kept-requires
-    (λ c. omega (arith, inside (gave (c .before .before)) .loop-test .taken))
+    (λ c. less (c .before .before))
     loop-again
-    (λ c. omega (arith, inside (gave (c .before)) .loop-test .taken))
+    (λ c. less (c .before))
     loop-again-2
     (λ c. c .before .loop .inv .times-long)
     returns-3)
