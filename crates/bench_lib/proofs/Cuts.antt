@@ -10,7 +10,7 @@ use borrow.Author.Tests.{ne-eqb}
 use lib.ListN.{length, getD, take, drop, set, length-take, length-drop, length-set, take-append-drop, drop-of-length-le}
 use lib.Seq.{slice, slice-empty, length-slice, length-take-le, split-at, take-suc, take-all, take-length, take-append-le}
 use lib.Seq.{drop-append-le, drop-drop, getD-drop, getD-take, take-suc-set, drop-set-lt}
-use Rattle.bench_lib.specs.Bench.{Line, cut}
+use Rattle.bench_line.specs.Bench.{Line, cut}
 use Rattle.bench_lib.specs.Served.{Open, Ends, Shifts}
 
 pub no-true : false ≡ true → ⊥

@@ -1,4 +1,2 @@
-mod Came
 mod Cuts
-mod Puts
 mod Serves

@@ -12,10 +12,10 @@ use lib.ListN.{length, take, drop, length-append, length-take, length-drop, take
 use lib.Seq.{slice, slice-empty, length-take-le, take-at, take-take}
 use Rattle.rules.specs.Call.{Run}
 use Rattle.bench_lib.specs.declared.Progress.{Progress}
-use Rattle.bench_lib.specs.declared.step.Held.{Held}
-use Rattle.bench_lib.specs.declared.step.Done.{Done}
-use Rattle.bench_lib.specs.Bench.{Line, Rows, State, step, after, cut, from}
-use Rattle.bench_lib.specs.Held.{stateOf, Prints, Steps}
+use Rattle.bench_line.specs.declared.step.Held.{Held}
+use Rattle.bench_line.specs.declared.step.Done.{Done}
+use Rattle.bench_line.specs.Bench.{Line, Rows, State, step, after, cut, from}
+use Rattle.bench_line.specs.Held.{stateOf, Prints, Steps}
 use Rattle.bench_lib.specs.Served.{Waits, Ends, Serves, Shifts, Fits, Lined, Fetches, ReadOn}
 
 -- ---- reading on

@@ -8,7 +8,7 @@ use Rattle.rules.specs.Kinds.{kindOf}
 use Rattle.rules.specs.Tree.{size}
 use Rattle.rules.specs.Cells.{column}
 use Rattle.rules.specs.Call.{tickCall, restartCall}
-use Rattle.bench_lib.specs.Bench.{bench}
+use Rattle.bench_line.specs.Bench.{bench}
 
 worked : bench (page (
     "01 08 0002 0000000000000000"

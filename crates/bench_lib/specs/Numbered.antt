@@ -9,7 +9,7 @@ use Rattle.frames.specs.declared.order.Input.{Input}
 use Rattle.frames.specs.declared.order.Input.the-variants as inputs
 use Rattle.frames.specs.Find.{found, statusesIn, leftoversIn}
 use Rattle.frames.specs.Order.{admitted}
-use Rattle.bench_lib.specs.Bench.{Line, State, start, printed, lineNumber, does, step}
+use Rattle.bench_line.specs.Bench.{Line, State, start, printed, lineNumber, does, step}
 
 -- the state after lines
 unfoldable pub past : State → List Line → State

@@ -7,8 +7,8 @@ use lib.ListN.{length, getD, take, drop}
 use lib.Seq.{slice}
 use Rattle.rules.specs.Call.{Run}
 use Rattle.bench_lib.specs.declared.Progress.{Progress}
-use Rattle.bench_lib.specs.Bench.{Rows, State, freshRun, start, cut, from}
-use Rattle.bench_lib.specs.Held.{stateOf}
+use Rattle.bench_line.specs.Bench.{Rows, State, freshRun, start, cut, from}
+use Rattle.bench_line.specs.Held.{stateOf}
 
 -- bytes among which no line ends
 abbrev pub Open : List ℕ → Type 0

@@ -12,7 +12,7 @@ use Rattle.frames.specs.Find.{found, statusesIn, leftoversIn}
 use Rattle.frames.specs.Finds.{none-found}
 use Rattle.frames.specs.Lengths.{longest}
 use Rattle.frames.specs.Order.{admitted}
-use Rattle.bench_lib.specs.Bench.{Line, State, start, printed, lineNumber, stopped, does, step, after, onto, cut, from, bench}
+use Rattle.bench_line.specs.Bench.{Line, State, start, printed, lineNumber, stopped, does, step, after, onto, cut, from, bench}
 use Rattle.bench_lib.specs.Served.{Open, Waits, Behind, Serves}
 
 -- turns from the state s on, with the bytes u in hand and input still to be read, that print out

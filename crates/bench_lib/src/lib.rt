@@ -1,21 +1,19 @@
 // The bench program: lines from one descriptor, what they print to another. Document 01, "The bench program".
 // It holds one table with its cells, and one part of the input at a time.
 mod cut;
-mod said;
-mod step;
 
 ghost use Prim.Native.Nat.{_≤_};
 ghost use lib.ListN.{length};
 ghost use Rattle.rules.specs.Call.{run};
-ghost use Rattle.bench_lib.specs.Bench.{rows};
-ghost use Rattle.bench_lib.specs.Held.{Long};
+ghost use Rattle.bench_line.specs.Bench.{rows};
+ghost use Rattle.bench_line.specs.Held.{Long};
 ghost use Rattle.bench_lib.specs.Served.{Starts, Fits, Lined, Fetches, ReadOn};
+use bench_line::Held;
+use bench_line::NODES;
+use bench_line::one;
 use cut::line_end;
 use cut::shift;
 use rules::Record;
-use step::Held;
-use step::NODES;
-use step::one;
 
 // The most answers of a tick.
 const ANSWERS: usize = 1024;

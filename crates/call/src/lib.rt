@@ -1,5 +1,4 @@
-// The calls by value: the checks, then the walk, in place, with the cells at entry in the spare. A restart
-// walks as from a fresh tree.
+// The call by value: the checks, then the walk, in place, with the cells at entry in the spare.
 // Whoever keeps the record gets it back with the answer.
 mod enter;
 
@@ -22,10 +21,10 @@ use steps::told_done;
 use steps::told_stopped;
 use work::Seen;
 ghost use mathlib.Core.Path.{_≡_};
-ghost use mathlib.Core.Bool.{true, false, cond};
+ghost use mathlib.Core.Bool.{cond};
 ghost use Prim.Native.Nat.{_≤_};
-ghost use Rattle.rules.specs.Call.{run, given, left, tickCall, restartCall};
-ghost use Rattle.rules.specs.Levels.{levels, cleared, flatLeft, tickFlat, restartFlat};
+ghost use Rattle.rules.specs.Call.{run, given, left};
+ghost use Rattle.rules.specs.Levels.{levels, cleared, flatLeft};
 ghost use Rattle.steps.specs.Due.{callOf, wholeCall, entriesOf, Due};
 
 pub struct Called {
@@ -128,8 +127,9 @@ fn carry_out(
     }
 }
 
-// The checks, then the walk: of the cells at entry, or as from a fresh tree.
-fn value(
+// A tick or a restart: the checks, then the walk, of the cells at entry or as from a fresh tree. With `flat` it walks without
+// recursion, in lent room; else it leaves the room as it is, which may be empty.
+pub fn value(
     record: Record,
     kinds: &[u8],
     ns: &[u16],
@@ -215,240 +215,4 @@ fn value(
             fresh,
         ),
     }
-}
-
-// A tick.
-pub fn tick_value(
-    record: Record,
-    kinds: &[u8],
-    ns: &[u16],
-    limits: &[f64],
-    times: &mut [f64],
-    places: &mut [u16],
-    marks: &mut [u8],
-    sinces: &mut [u64],
-    spare_times: &mut [f64],
-    spare_places: &mut [u16],
-    spare_marks: &mut [u8],
-    spare_sinces: &mut [u64],
-    board: &mut [u8],
-    event: Event,
-    fuel: u32,
-    statuses: &[u8],
-    leftovers: &[f64],
-) -> Called
-    ensures { λ r. ⌜
-        tickCall (given «record» (now (kinds .entry)) (now (ns .entry)) (now (limits .entry)) (run (now (times .entry)) (now (places .entry)) (now (marks .entry)) (now (sinces .entry)))
-        (run (now («spare_times» .entry)) (now («spare_places» .entry)) (now («spare_marks» .entry)) (now («spare_sinces» .entry))) (now (board .entry)) event fuel (now (statuses .entry))
-        (now (leftovers .entry))) ≡ left (r .answer) (r .record) (run (now (times .exit)) (now (places .exit)) (now (marks .exit)) (now (sinces .exit))) (run (now («spare_times» .exit))
-        (now («spare_places» .exit)) (now («spare_marks» .exit)) (now («spare_sinces» .exit))) (now (board .exit))
-        ⌝ }
-{
-    let mut opens = [0u64; 1];
-    let mut counts = [0u32; 1];
-    let mut wholes = [0.0; 1];
-    let mut rests = [0.0; 1];
-    value(
-        record,
-        kinds,
-        ns,
-        limits,
-        times,
-        places,
-        marks,
-        sinces,
-        spare_times,
-        spare_places,
-        spare_marks,
-        spare_sinces,
-        board,
-        event,
-        fuel,
-        statuses,
-        leftovers,
-        &mut opens,
-        &mut counts,
-        &mut wholes,
-        &mut rests,
-        false,
-        false,
-    )
-}
-
-// A restart: a tick as from a fresh tree. The cells at entry are not looked at, and may hold anything.
-pub fn restart_value(
-    record: Record,
-    kinds: &[u8],
-    ns: &[u16],
-    limits: &[f64],
-    times: &mut [f64],
-    places: &mut [u16],
-    marks: &mut [u8],
-    sinces: &mut [u64],
-    spare_times: &mut [f64],
-    spare_places: &mut [u16],
-    spare_marks: &mut [u8],
-    spare_sinces: &mut [u64],
-    board: &mut [u8],
-    event: Event,
-    fuel: u32,
-    statuses: &[u8],
-    leftovers: &[f64],
-) -> Called
-    ensures { λ r. ⌜
-        restartCall (given «record» (now (kinds .entry)) (now (ns .entry)) (now (limits .entry)) (run (now (times .entry)) (now (places .entry)) (now (marks .entry)) (now (sinces .entry)))
-        (run (now («spare_times» .entry)) (now («spare_places» .entry)) (now («spare_marks» .entry)) (now («spare_sinces» .entry))) (now (board .entry)) event fuel (now (statuses .entry))
-        (now (leftovers .entry))) ≡ left (r .answer) (r .record) (run (now (times .exit)) (now (places .exit)) (now (marks .exit)) (now (sinces .exit))) (run (now («spare_times» .exit))
-        (now («spare_places» .exit)) (now («spare_marks» .exit)) (now («spare_sinces» .exit))) (now (board .exit))
-        ⌝ }
-{
-    let mut opens = [0u64; 1];
-    let mut counts = [0u32; 1];
-    let mut wholes = [0.0; 1];
-    let mut rests = [0.0; 1];
-    value(
-        record,
-        kinds,
-        ns,
-        limits,
-        times,
-        places,
-        marks,
-        sinces,
-        spare_times,
-        spare_places,
-        spare_marks,
-        spare_sinces,
-        board,
-        event,
-        fuel,
-        statuses,
-        leftovers,
-        &mut opens,
-        &mut counts,
-        &mut wholes,
-        &mut rests,
-        false,
-        true,
-    )
-}
-
-// A tick without recursion, in lent room.
-pub fn tick_flat_value(
-    record: Record,
-    kinds: &[u8],
-    ns: &[u16],
-    limits: &[f64],
-    times: &mut [f64],
-    places: &mut [u16],
-    marks: &mut [u8],
-    sinces: &mut [u64],
-    spare_times: &mut [f64],
-    spare_places: &mut [u16],
-    spare_marks: &mut [u8],
-    spare_sinces: &mut [u64],
-    board: &mut [u8],
-    event: Event,
-    fuel: u32,
-    statuses: &[u8],
-    leftovers: &[f64],
-    opens: &mut [u64],
-    counts: &mut [u32],
-    wholes: &mut [f64],
-    rests: &mut [f64],
-) -> Called
-    ensures { λ r. ⌜
-        tickFlat (given «record» (now (kinds .entry)) (now (ns .entry)) (now (limits .entry)) (run (now (times .entry)) (now (places .entry)) (now (marks .entry)) (now (sinces .entry)))
-        (run (now («spare_times» .entry)) (now («spare_places» .entry)) (now («spare_marks» .entry)) (now («spare_sinces» .entry))) (now (board .entry)) event fuel (now (statuses .entry))
-        (now (leftovers .entry))) (levels (now (opens .entry)) (now (counts .entry)) (now (wholes .entry)) (now (rests .entry)))
-        ≡ flatLeft (left (r .answer) (r .record) (run (now (times .exit)) (now (places .exit)) (now (marks .exit)) (now (sinces .exit))) (run (now («spare_times» .exit))
-        (now («spare_places» .exit)) (now («spare_marks» .exit)) (now («spare_sinces» .exit))) (now (board .exit)))
-        (levels (now (opens .exit)) (now (counts .exit)) (now (wholes .exit)) (now (rests .exit)))
-        ⌝ }
-{
-    value(
-        record,
-        kinds,
-        ns,
-        limits,
-        times,
-        places,
-        marks,
-        sinces,
-        spare_times,
-        spare_places,
-        spare_marks,
-        spare_sinces,
-        board,
-        event,
-        fuel,
-        statuses,
-        leftovers,
-        opens,
-        counts,
-        wholes,
-        rests,
-        true,
-        false,
-    )
-}
-
-// A restart without recursion, in lent room.
-pub fn restart_flat_value(
-    record: Record,
-    kinds: &[u8],
-    ns: &[u16],
-    limits: &[f64],
-    times: &mut [f64],
-    places: &mut [u16],
-    marks: &mut [u8],
-    sinces: &mut [u64],
-    spare_times: &mut [f64],
-    spare_places: &mut [u16],
-    spare_marks: &mut [u8],
-    spare_sinces: &mut [u64],
-    board: &mut [u8],
-    event: Event,
-    fuel: u32,
-    statuses: &[u8],
-    leftovers: &[f64],
-    opens: &mut [u64],
-    counts: &mut [u32],
-    wholes: &mut [f64],
-    rests: &mut [f64],
-) -> Called
-    ensures { λ r. ⌜
-        restartFlat (given «record» (now (kinds .entry)) (now (ns .entry)) (now (limits .entry)) (run (now (times .entry)) (now (places .entry)) (now (marks .entry)) (now (sinces .entry)))
-        (run (now («spare_times» .entry)) (now («spare_places» .entry)) (now («spare_marks» .entry)) (now («spare_sinces» .entry))) (now (board .entry)) event fuel (now (statuses .entry))
-        (now (leftovers .entry))) (levels (now (opens .entry)) (now (counts .entry)) (now (wholes .entry)) (now (rests .entry)))
-        ≡ flatLeft (left (r .answer) (r .record) (run (now (times .exit)) (now (places .exit)) (now (marks .exit)) (now (sinces .exit))) (run (now («spare_times» .exit))
-        (now («spare_places» .exit)) (now («spare_marks» .exit)) (now («spare_sinces» .exit))) (now (board .exit)))
-        (levels (now (opens .exit)) (now (counts .exit)) (now (wholes .exit)) (now (rests .exit)))
-        ⌝ }
-{
-    value(
-        record,
-        kinds,
-        ns,
-        limits,
-        times,
-        places,
-        marks,
-        sinces,
-        spare_times,
-        spare_places,
-        spare_marks,
-        spare_sinces,
-        board,
-        event,
-        fuel,
-        statuses,
-        leftovers,
-        opens,
-        counts,
-        wholes,
-        rests,
-        true,
-        true,
-    )
 }

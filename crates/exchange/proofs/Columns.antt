@@ -10,12 +10,12 @@ use Rattle.rules.specs.declared.behavior.Kind.{Kind}
 use Rattle.rules.specs.Tree.{Cell, Tree, node, Forest, [], _∷_, size, sizes}
 use Rattle.rules.specs.Exchange.{replaced, sizeAt, listed, listedAll, newSinces}
 use Rattle.calls.specs.Listed.{listed-replaced}
-use Rattle.exchange.specs.declared.write.Cut.{Cut}
-use Rattle.exchange.specs.Each.{Each, EachAll}
-use Rattle.exchange.specs.Write.{values, sourceOf, from, at, always}
-use Rattle.exchange.proofs.Eachs.{each-end}
+use Rattle.branch.specs.declared.write.Cut.{Cut}
+use Rattle.branch.specs.Each.{Each, EachAll}
+use Rattle.branch.specs.Write.{values, sourceOf, from, at, always}
+use Rattle.branch.proofs.Eachs.{each-end}
 use Rattle.exchange.proofs.Levels.{branch-fits}
-use Rattle.exchange.proofs.Values.{values-add, values-always, values-slice, take-values, drop-values, three}
+use Rattle.branch.proofs.Values.{values-add, values-always, values-slice, take-values, drop-values, three}
 
 module _ {A : Type 0} (field : Kind → ℕ → Float → Cell → A) where
   -- of a tree of which each node's field is known by its place

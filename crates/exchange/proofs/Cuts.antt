@@ -20,20 +20,20 @@ use Rattle.calls.specs.Shape.{size-shape, depth-shape}
 use Rattle.calls.specs.Memory.{held, held-shape}
 use Rattle.calls.specs.Tables.{tabled}
 use Rattle.cells.specs.Long.{cells-length}
-use Rattle.exchange.specs.declared.way.Way.{Way}
-use Rattle.exchange.specs.declared.way.Way.the-variants.{Free, Held}
-use Rattle.exchange.specs.declared.write.Cut.{Cut}
-use Rattle.exchange.specs.Each.{Each, Any}
-use Rattle.exchange.specs.Way.{above, wayAt, Node, Stands, Lies, Leads}
-use Rattle.exchange.specs.Depth.{Depth}
-use Rattle.exchange.specs.Write.{values, sourceOf, from, at, limitAt, always, filled, Fits, filledRoom}
+use Rattle.branch.specs.declared.way.Way.{Way}
+use Rattle.branch.specs.declared.way.Way.the-variants.{Free, Held}
+use Rattle.branch.specs.declared.write.Cut.{Cut}
+use Rattle.branch.specs.Each.{Each, Any}
+use Rattle.branch.specs.Way.{above, wayAt, Node, Stands, Lies, Leads}
+use Rattle.branch.specs.Depth.{Depth}
+use Rattle.branch.specs.Write.{values, sourceOf, from, at, limitAt, always, filled, Fits, filledRoom}
 use Rattle.exchange.specs.declared.gate.Plan.{Plan}
 use Rattle.exchange.specs.declared.gate.Plan.the-variants.{Open}
 use Rattle.exchange.specs.declared.gate.Plan.the-variants as plan
 use Rattle.exchange.specs.declared.gate.Gate.{Gate}
 use Rattle.exchange.specs.declared.gate.Gate.the-variants as gate
 use Rattle.exchange.specs.Due.{Due, Passed, Planned}
-use Rattle.exchange.proofs.Eachs.{each-map}
+use Rattle.branch.proofs.Eachs.{each-map}
 use Rattle.exchange.proofs.Levels.{size-replaced, depth-low, depth-high, above-low, branch-end, branch-fits}
 use Rattle.exchange.proofs.Standing.{InRow, Fresh, fresh-stands, CellAt, Stood, stands}
 use Rattle.exchange.proofs.Columns.{Known, Cuts, column, since-column}

@@ -9,10 +9,10 @@ use lib.ListN.{getD}
 use Rattle.rules.specs.declared.behavior.Kind.{Kind}
 use Rattle.rules.specs.Tree.{Cell, Tree, node, Forest, [], _∷_, size, sizes, depth, depths}
 use Rattle.rules.specs.Exchange.{replaced, replacedIn, sizeAt, sizeIn}
-use Rattle.exchange.specs.Each.{Each, EachAll}
-use Rattle.exchange.specs.Way.{above, aboveIn}
+use Rattle.branch.specs.Each.{Each, EachAll}
+use Rattle.branch.specs.Way.{above, aboveIn}
 use Rattle.calls.specs.Tests.{below-or-not}
-use Rattle.exchange.proofs.Eachs.{each-end}
+use Rattle.branch.proofs.Eachs.{each-end}
 
 module _ (u : Tree) where
   mutual

@@ -1,11 +1,5 @@
-mod Eachs
-mod Ways
 mod Levels
-mod Values
 mod Columns
-mod Sources
-mod Depths
-mod Filling
 mod Standing
 mod Gates
 mod Cuts

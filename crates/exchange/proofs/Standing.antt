@@ -19,7 +19,7 @@ use Rattle.rules.specs.Cells.{cells, withCells, withCellsAll}
 use Rattle.calls.specs.Tables.{Tabled, Tableds}
 use Rattle.tables.specs.At.{Row, At, Ats}
 use Rattle.tables.proofs.Placed.{at-end, ats-end}
-use Rattle.exchange.specs.Each.{Each, EachAll}
+use Rattle.branch.specs.Each.{Each, EachAll}
 use Rattle.calls.specs.Tests.{below-or-not}
 
 -- ---- the cells of a run

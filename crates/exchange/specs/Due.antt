@@ -17,7 +17,7 @@ use Rattle.exchange.specs.declared.gate.Gate.{Gate}
 use Rattle.exchange.specs.declared.gate.Gate.the-variants as gate
 use Rattle.exchange.specs.declared.gate.Plan.{Plan}
 use Rattle.exchange.specs.declared.gate.Plan.the-variants as plan
-use Rattle.exchange.specs.Write.{Fits, filledRoom}
+use Rattle.branch.specs.Write.{Fits, filledRoom}
 
 -- 17 is passed: the tree of n nodes with its cells and the branch of m are all that is left of the call
 pub record Due (g : GivenExchange) (ends newEnds : List ℕ) (n m : ℕ) : Type 0 where

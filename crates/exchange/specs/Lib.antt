@@ -1,5 +1,1 @@
-pub mod Each
-pub mod Way
-pub mod Depth
-pub mod Write
 pub mod Due

@@ -1,9 +1,9 @@
 // The refusals of an exchange, in document 02's order.
-use crate::depth::depth_of;
-use crate::way::Way;
-use crate::way::way_to;
-use crate::way::wide;
-use crate::write::Cut;
+use branch::Way;
+use branch::depth_of;
+use branch::way_to;
+use branch::wide;
+use branch::write::Cut;
 use cells::Found;
 use cells::check_cells;
 use cells::long_enough;

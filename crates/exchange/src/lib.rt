@@ -1,14 +1,11 @@
 // The exchange of a branch that has not been started: document 02, request 13.
-mod depth;
 mod gate;
-mod way;
-mod write;
 
+use branch::write::write;
 use gate::Plan;
 use gate::planned;
 use rules::Exchanged;
 use rules::Record;
-use write::write;
 ghost use mathlib.Core.Path.{_≡_};
 ghost use Prim.Native.Nat.{min};
 ghost use Rattle.rules.specs.Call.{run};

@@ -5,6 +5,4 @@ pub mod Heads
 pub mod Nans
 pub mod Numbers
 pub mod Orders
-pub mod Puts
 pub mod Runs
-pub mod Writes

@@ -1,18 +1,17 @@
-// The bench program's frames, each a line of lower-case hexadecimal fields, read from and written to lent bytes.
+// The bench program's frames, each a line of lower-case hexadecimal fields, read from lent bytes.
 // A time is a bit pattern throughout, so that a line that is read and written again comes out as it was.
 mod hex;
 mod order;
 mod patterns;
 mod reader;
-mod writer;
 
 pub use order::Input;
 pub use order::admit;
 pub use patterns::bits;
 pub use patterns::time;
 pub use patterns::times;
+pub use reader::count;
 pub use reader::read;
-pub use writer::write;
 
 // The two calls that a line asks for or tells of. Their lines differ in the two digits at the start alone.
 pub enum Call {
@@ -28,7 +27,7 @@ pub enum Event {
 }
 
 // The bits of minus zero: the sign alone.
-const MINUS_ZERO: u64 = 0x8000000000000000;
+pub const MINUS_ZERO: u64 = 0x8000000000000000;
 
 // A frame by value. The answers of a call that is asked for stand beside it in two lent slices, statuses and leftovers: the first count of each.
 pub enum Frame {

@@ -70,7 +70,11 @@ fn until_finished(
     };
     let mut turn: u32 = 0;
     while turn < 1000 {
-        let called = call::tick_value(
+        let mut opens = [0u64; 0];
+        let mut counts = [0u32; 0];
+        let mut wholes = [0.0f64; 0];
+        let mut rests = [0.0f64; 0];
+        let called = call::value(
             record,
             kinds,
             ns,
@@ -88,6 +92,12 @@ fn until_finished(
             fuel,
             statuses,
             leftovers,
+            &mut opens,
+            &mut counts,
+            &mut wholes,
+            &mut rests,
+            false,
+            false,
         );
         let next = called.record;
         record = next;

@@ -1,4 +1,3 @@
-mod Told
 mod Lend
 mod Shape
 mod Outer

@@ -1,14 +1,15 @@
 -- The code of a call by reference, by the function that it calls: the record behind the reference is read, each slice that may be
--- written is lent on, the function is called with the record and the rest, and the record that it returns is written back.
+-- written is lent on, the function is called with a flag, the record and the rest, and the record that it returns is written back.
 use Prim.Native.Nat.{ℕ, suc}
+use mathlib.Core.Bool.{Bool}
 use mathlib.Core.List.{List, [], _∷_, _++_}
 use lib.Ieee.{binary64}
 use mir.Syntax.{named, erased, imm, mut, w8, w16, w32, w64, Lifetime, Mutability, Ty, tyInt, tyBool, tyFloat, tyRef, tyStruct, tcons, tnil, Name}
 use mir.Syntax.{deref, field, place, copy, Opd, rvOpd, addrOf, aggregate, Body, seq, assign, call, return, Local, local, valueLocal, Fn}
 use Rattle.rules.proofs.answer.Record.Laws as T′
 use Rattle.rules.proofs.answer.Said.Laws as S′
-use Rattle.lemboraw.proofs.value.Told.Laws as D′
-use Rattle.lemboraw.proofs.Lend.{R}
+use Rattle.host.proofs.Told.Laws as D′
+use Rattle.lemboraw.proofs.Lend.{R, flag}
 
 abbrev slice : Lifetime → Mutability → Ty → Ty
 slice κ m τ = tyStruct (38 ∷ 91 ∷ 93 ∷ []) (tcons (tyRef κ m τ) (tcons (tyInt w64) tnil))
@@ -46,9 +47,9 @@ handed p i [] = []
 handed p i (kept τ ∷ ps) = copy (place p []) ∷ handed (suc p) i ps
 handed p i (lent κ τ ∷ ps) = copy (place (suc i) []) ∷ handed (suc p) (suc (suc i)) ps
 
--- of so many lifetimes and parameters; the local t is what the call returned, the next the record, and those behind it are lent on
-abbrev calling : ℕ → ℕ → ℕ → List Param → Name → Fn
-calling lifetimes n t ps f = record {
+-- of so many lifetimes and parameters; f is the callee, b its flag; the local t is what the call returned, the next the record, and those behind it are lent on
+abbrev calling : ℕ → ℕ → ℕ → List Param → Bool → Name → Fn
+calling lifetimes n t ps b f = record {
   lifetimes = lifetimes;
   outlives = [];
   params = n;
@@ -56,7 +57,7 @@ calling lifetimes n t ps f = record {
   body =
       seq (assign (place (suc t) []) (rvOpd (copy (place 1 (deref T′.mir ∷ [])))))
       (lending 2 (suc (suc t)) ps
-      (seq (call f (copy (place (suc t) []) ∷ handed 2 (suc (suc t)) ps) (place t []))
+      (seq (call f (flag b ∷ copy (place (suc t) []) ∷ handed 2 (suc (suc t)) ps) (place t []))
       (seq (assign (place 1 (deref T′.mir ∷ [])) (rvOpd (copy (place t (field 1 ∷ [])))))
       (seq (assign (place 0 []) (rvOpd (copy (place t (field 0 ∷ []))))) return))));
 }
@@ -81,8 +82,8 @@ given ps =
     kept tyBool ∷ kept f64 ∷ kept (tyInt w32) ∷ kept (slice (named 13) imm u8) ∷ kept (slice (named 14) imm f64) ∷ ps
 
 -- with recursion, and without: the room is lent on too
-abbrev pub deep : Name → Fn
+abbrev pub deep : Bool → Name → Fn
 deep = calling 15 18 19 (given [])
 
-abbrev pub flat : Name → Fn
+abbrev pub flat : Bool → Name → Fn
 flat = calling 19 22 23 (given (lent 15 u64 ∷ lent 16 (tyInt w32) ∷ lent 17 f64 ∷ lent 18 f64 ∷ []))

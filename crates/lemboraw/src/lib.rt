@@ -1,26 +1,23 @@
 // The library for hosts: the calls on numbers and slices, with the record by reference.
-mod numbers;
 mod value;
 
 use bound::finish_bound;
-pub use numbers::Bound;
-use numbers::bound_of;
+use host::Bound;
+use host::bound_of;
+use host::memory_of;
 use rules::ExchangeSaid;
-use rules::Kind;
 use rules::Record;
 use rules::Said;
 use rules::age;
-use value::restart_flat_said;
-use value::restart_said;
-use value::tick_flat_said;
-use value::tick_said;
+use value::deep_said;
+use value::flat_said;
 ghost use mathlib.Core.Path.{_≡_};
 ghost use Rattle.rules.specs.Outcome.{eventOf};
 ghost use Rattle.rules.specs.Call.{run, given, age};
 ghost use Rattle.rules.specs.Levels.{levels};
 ghost use Rattle.rules.specs.Exchange.{room, givenExchange};
 ghost use Rattle.rules.specs.Bound.{boundCall};
-ghost use Rattle.lemboraw.specs.Host.{hostTick, hostRestart, hostLeft, hostTickFlat, hostRestartFlat, hostFlatLeft, hostExchange, hostExchanged, memoryOf, boundOf};
+ghost use Rattle.host.specs.Host.{hostTick, hostRestart, hostLeft, hostTickFlat, hostRestartFlat, hostFlatLeft, hostExchange, hostExchanged, memoryOf, boundOf};
 
 // A tick: the cells, the board and the record change only as its answer says.
 #[no_mangle]
@@ -55,7 +52,8 @@ pub extern "C" fn lemboraw_tick(
         (now (board .exit))
         ⌝ }
 {
-    let told = tick_said(
+    let told = deep_said(
+        false,
         *record,
         kinds,
         ns,
@@ -113,7 +111,8 @@ pub extern "C" fn lemboraw_restart(
         (now (board .exit))
         ⌝ }
 {
-    let told = restart_said(
+    let told = deep_said(
+        true,
         *record,
         kinds,
         ns,
@@ -176,7 +175,8 @@ pub extern "C" fn lemboraw_tick_flat(
         (now (board .exit)) (levels (now (opens .exit)) (now (counts .exit)) (now (wholes .exit)) (now (rests .exit)))
         ⌝ }
 {
-    let told = tick_flat_said(
+    let told = flat_said(
+        false,
         *record,
         kinds,
         ns,
@@ -242,7 +242,8 @@ pub extern "C" fn lemboraw_restart_flat(
         (now (board .exit)) (levels (now (opens .exit)) (now (counts .exit)) (now (wholes .exit)) (now (rests .exit)))
         ⌝ }
 {
-    let told = restart_flat_said(
+    let told = flat_said(
+        true,
         *record,
         kinds,
         ns,
@@ -341,10 +342,7 @@ pub extern "C" fn lemboraw_age(ticks: u64, since: u64) -> u64
 pub extern "C" fn lemboraw_memory(kind: u8, on: bool) -> u8
     ensures { λ r. ⌜ r ≡ memoryOf kind on ⌝ }
 {
-    if Kind::LAST < kind {
-        return kind;
-    }
-    Kind::of(kind).memory(on).number()
+    memory_of(kind, on)
 }
 
 // The finish bound of a table at a step.

@@ -1,6 +1,6 @@
 -- The state that the program starts in.
 use mathlib.Core.Path.{refl}
-use Rattle.bench_lib.specs.Bench.{start}
+use Rattle.bench_line.specs.Bench.{start}
 use Rattle.bench_lib.proofs.first.Statement.{statement}
 use Rattle.bench_lib.proofs.first.Tie as tie
 

@@ -7,8 +7,8 @@ use borrow.Rule.Slice.PartMut.{same-len-mid}
 use lib.ListN.{length, length-take, length-drop}
 use lib.Seq.{slice}
 use Rattle.rules.specs.Call.{run}
-use Rattle.bench_lib.specs.Bench.{rows}
-use Rattle.bench_lib.specs.Held.{stateOf}
+use Rattle.bench_line.specs.Bench.{rows}
+use Rattle.bench_line.specs.Held.{stateOf}
 use Rattle.bench_lib.proofs.Cuts.{no-true}
 use Rattle.bench_lib.proofs.Serves.{Alike, Scratch, Stands, stands-first, stands-more, lined, printed-fits}
 use Rattle.bench_lib.proofs.lines.Statement.{statement}

@@ -7,7 +7,7 @@ use Rattle.rules.specs.declared.exchanged.Exchanged.the-variants.{Done}
 use Rattle.rules.specs.Call.{run}
 use Rattle.rules.specs.Exchange.{Room, room, roomLength, GivenExchange, givenExchange, leftExchange}
 use Rattle.exchange.specs.declared.gate.Plan.the-variants.{Open}
-use Rattle.exchange.specs.Write.{Fits, filledRoom}
+use Rattle.branch.specs.Write.{Fits, filledRoom}
 use Rattle.exchange.specs.Due.{Planned}
 use Rattle.exchange.proofs.Cuts.{not-planned, is-planned}
 use Rattle.exchange.proofs.exchange.Statement.{statement}

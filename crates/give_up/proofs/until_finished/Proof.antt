@@ -1,6 +1,7 @@
 -- A turn of the loop counts up to a thousand, and every slice keeps its length.
-use mathlib.Core.Path.{_≡_}
+use mathlib.Core.Path.{_≡_, _∙_}
 use Prim.Native.Nat.{_≤_, _-_}
+use native.Mathlib.Omega.{arith}
 use lib.ListN.{length}
 use borrow.Author.Needs.{needs}
 use Rattle.give_up.proofs.until_finished.Statement.{statement}
@@ -18,6 +19,28 @@ abbrev μ-loop : tie.MeasureT-loop
     times places marks sinces spare-times spare-places spare-marks spare-sinces board «record» turn =
     1000 - turn
 
+-- the slices come back in their order
+abbrev ticked : tie.After-next Inv-loop μ-loop → tie.After-value Inv-loop μ-loop
+ticked c = c .before .before .before .before .before .before .before .before .before .before .before .before .before .before .before .before .before .before .before .before .before .before .before
+
+abbrev turned : tie.After-value Inv-loop μ-loop → tie.In-loop Inv-loop μ-loop
+turned c = c .before .before .before .before .before .before .before .before .before .before .before .before .before .before
+
+loop-again : tie.Need-loop-again Inv-loop μ-loop
+loop-again c =
+    let v = ticked (c .before) in (
+      omega (arith, turned v .loop-test .taken),
+      v .value .kept .1 .1 .1 .1 .0 ∙ turned v .before .loop .inv .1,
+      v .value .kept .1 .1 .1 .1 .1 .0 ∙ turned v .before .loop .inv .2,
+      v .value .kept .1 .1 .1 .1 .1 .1 .0 ∙ turned v .before .loop .inv .3,
+      v .value .kept .1 .1 .1 .1 .1 .1 .1 .0 ∙ turned v .before .loop .inv .4,
+      v .value .kept .1 .1 .1 .1 .1 .1 .1 .1 .0 ∙ turned v .before .loop .inv .5,
+      v .value .kept .1 .1 .1 .1 .1 .1 .1 .1 .1 .0 ∙ turned v .before .loop .inv .6,
+      v .value .kept .1 .1 .1 .1 .1 .1 .1 .1 .1 .1 .0 ∙ turned v .before .loop .inv .7,
+      v .value .kept .1 .1 .1 .1 .1 .1 .1 .1 .1 .1 .1 .0 ∙ turned v .before .loop .inv .8,
+      v .value .kept .1 .1 .1 .1 .1 .1 .1 .1 .1 .1 .1 .1 .0 ∙ turned v .before .loop .inv .9,
+    )
+
 pub until-finished-spec : {M : Type 1} → statement M
 until-finished-spec =
     tie.close
@@ -25,20 +48,24 @@ until-finished-spec =
     Inv-loop
     μ-loop
     (λ c. search needs)
+    (λ c. search needs)
+    (λ c. search needs)
+    (λ c. search needs)
+    (λ c. search needs)
     (λ c κs. search needs)
+    (λ c. let v = ticked (c .before) in v .value .kept .1 .1 .1 .1 .0 ∙ turned v .before .loop .inv .1)
+    (λ c. let v = ticked (c .before) in v .value .kept .1 .1 .1 .1 .1 .0 ∙ turned v .before .loop .inv .2)
+    (λ c. let v = ticked (c .before) in v .value .kept .1 .1 .1 .1 .1 .1 .0 ∙ turned v .before .loop .inv .3)
+    (λ c. let v = ticked (c .before) in v .value .kept .1 .1 .1 .1 .1 .1 .1 .0 ∙ turned v .before .loop .inv .4)
+    (λ c. let v = ticked (c .before) in v .value .kept .1 .1 .1 .1 .1 .1 .1 .1 .0 ∙ turned v .before .loop .inv .5)
+    (λ c. let v = ticked (c .before) in v .value .kept .1 .1 .1 .1 .1 .1 .1 .1 .1 .0 ∙ turned v .before .loop .inv .6)
+    (λ c. let v = ticked (c .before) in v .value .kept .1 .1 .1 .1 .1 .1 .1 .1 .1 .1 .0 ∙ turned v .before .loop .inv .7)
+    (λ c. let v = ticked (c .before) in v .value .kept .1 .1 .1 .1 .1 .1 .1 .1 .1 .1 .1 .0 ∙ turned v .before .loop .inv .8)
+    (λ c. let v = ticked (c .before) in v .value .kept .1 .1 .1 .1 .1 .1 .1 .1 .1 .1 .1 .1 .0 ∙ turned v .before .loop .inv .9)
     (λ c. search needs)
-    (λ c. search needs)
-    (λ c. search needs)
-    (λ c. search needs)
-    (λ c. search needs)
-    (λ c. search needs)
-    (λ c. search needs)
-    (λ c. search needs)
-    (λ c. search needs)
-    (λ c. search needs)
-    (λ c. search needs)
-    (λ c. search needs)
-    (λ c. search needs)
+    (λ c. let below = turned (ticked (c .before)) .loop-test .taken in search needs)
+    (λ c. omega (arith, turned (ticked (c .before)) .loop-test .taken))
+    loop-again
     (λ c. search needs)
     (λ c. search needs)
     (λ c. search needs)

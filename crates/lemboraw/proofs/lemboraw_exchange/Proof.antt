@@ -1,7 +1,7 @@
 -- What the exchange leaves, told in numbers.
 use borrow.Author.Needs.{needs}
-use Rattle.lemboraw.specs.Host.{hostExchange}
-use Rattle.lemboraw.proofs.Told.{exchange-told}
+use Rattle.host.specs.Host.{hostExchange}
+use Rattle.host.proofs.Laws.{exchange-told}
 use Rattle.lemboraw.proofs.lemboraw_exchange.Statement.{statement}
 use Rattle.lemboraw.proofs.lemboraw_exchange.Tie as tie
 

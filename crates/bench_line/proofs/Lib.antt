@@ -1,0 +1,2 @@
+mod Came
+mod Puts

@@ -1,0 +1,3 @@
+pub mod Said
+pub mod Bench
+pub mod Held

@@ -1,0 +1,4 @@
+pub mod Each
+pub mod Way
+pub mod Depth
+pub mod Write
