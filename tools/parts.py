@@ -4,7 +4,7 @@ A traced call (`compare trace TREE`) lies between two exchanges of a mark. Its p
 is lent in a way of its own, so nothing has to be known of how the compiler laid out the code.
 """
 
-PARTS = ("table check", "cell check", "copy to the spare", "load", "walk", "board pass", "put back", "the rest")
+PARTS = ("table and cells", "copy to the spare", "walk", "board pass", "put back", "the rest")
 
 
 class NotFound(Exception):
@@ -70,11 +70,7 @@ def longest_call(call, start, end):
 def parts(call):
     """The instructions of each part, in the order of PARTS."""
     begun, copy = first(call, {"load kinds"}, 0), first(call, {"store spare"}, 0)
-    # Limits are looked at with the table alone, kinds and numbers with the cells, too. A restart looks at no cell.
-    table = behind_last(call, {"load limits"}, begun, copy)
-    cells = behind_last(call, {"load kinds", "load ns"}, table, copy)
-    if cells > table:
-        table = first(call, {"load cells"}, table)
+    looked = behind_last(call, {"load kinds", "load ns", "load limits"}, begun, copy)
     copied = behind_last(call, {"store spare"}, copy, len(call))
     shown = first(call, {"store board"}, copied)
     if shown == len(call):
@@ -82,5 +78,5 @@ def parts(call):
     walk, walked = longest_call(call, copied, shown)
     shown = first(call, {"store board", "store cells"}, walked)
     put = behind_last(call, {"store board", "store cells"}, shown, len(call))
-    told = [table - begun, cells - table, copied - copy, walk - copied, walked - walk, shown - walked, put - shown]
+    told = [looked - begun, copied - copy, walked - walk, shown - walked, put - shown]
     return told + [len(call) - sum(told)]

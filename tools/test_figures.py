@@ -87,7 +87,7 @@ class Stored(unittest.TestCase):
 
 
 # What one call touches of a tree of one node, instruction by instruction; * is a call, and ret the way back.
-CALL = """push, load kinds, load limits, add, load cells, load kinds, test, load cells, store spare, store spare, load kinds, *, load limits, store cells, ret, add, add,
+CALL = """push, load kinds, load limits, load cells, add, load ns, test, load cells, store spare, store spare, add, *, load limits, store cells, ret, add, add,
 store cells, store board, add"""
 PLACES = {name: range(100 * i, 100 * i + 8) for i, name in enumerate(("mark", "kinds", "ns", "limits", "cells", "spare", "board"), 1)}
 
@@ -122,12 +122,12 @@ class Parts(unittest.TestCase):
 
     def test_a_call(self):
         told = self.told(CALL)
-        self.assertEqual(told, {"table check": 3, "cell check": 2, "copy to the spare": 2, "load": 1, "walk": 4, "board pass": 2, "put back": 2, "the rest": 4})
+        self.assertEqual(told, {"table and cells": 5, "copy to the spare": 2, "walk": 4, "board pass": 2, "put back": 2, "the rest": 5})
         self.assertEqual(sum(told.values()), 20)
 
     def test_a_restart_looks_at_no_cell(self):
-        told = self.told(CALL.replace("load cells, load kinds, test, ", "test, "))
-        self.assertEqual((told["table check"], told["cell check"]), (2, 0))
+        told = self.told(CALL.replace("load cells, add, load ns, test, ", "test, "))
+        self.assertEqual(told["table and cells"], 2)
 
     def test_what_is_not_found_is_said(self):
         for call in (CALL.replace("store board", "add"), CALL.replace("*", "add").replace("ret", "add")):

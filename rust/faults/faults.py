@@ -52,9 +52,21 @@ FAULTS = [
     ),
     (
         "a restart goes on from the times as they stand",
-        "load/src/lib.rt",
-        "        times[p] = 0.0;\n",
+        "steps/src/copy.rt",
+        "        times[i] = 0.0;\n",
         "",
+    ),
+    (
+        "the last bad cell is told, not the first",
+        "load/src/pass.rt",
+        "if fault == 256 { at } else { fault }",
+        "at",
+    ),
+    (
+        "a cell below an ended child is looked at as any other",
+        "load/src/pass.rt",
+        "    mark == 1\n",
+        "    mark == 2\n",
     ),
     (
         "a since is the tick count before the tick",

@@ -1,7 +1,8 @@
 -- What children that were not visited show, put into the words behind a walk.
+use mathlib.Core.Path.{_≡_}
 use mathlib.Core.Bool.{cond}
 use mathlib.Core.List.{List}
-use Prim.Native.Nat.{ℕ, zero, suc, _+_}
+use Prim.Native.Nat.{ℕ, zero, suc, _+_, _<_}
 use lib.Dec.{leb, eqb}
 use lib.ListN.{set}
 use Rattle.rules.specs.declared.behavior.Kind.{Kind}
@@ -59,3 +60,9 @@ endedBelow p ws = let w = wordAt ws p in cond (eqb (belowOf w) 0) ws (endedUnder
 unfoldable pub endedWords : ℕ → ℕ → List ℕ → List ℕ
 endedWords p zero ws = ws
 endedWords p (suc n) ws = endedWords (p + 1) n (endedBelow p ws)
+
+-- a word without place and mark, of a node that has all below it among 256 nodes, with so many ahead of it
+pub record Bare (w ahead : ℕ) : Type 0 where
+  pub place : placeOf w ≡ 0
+  pub mark : markOf w ≡ 0
+  pub below : belowOf w + ahead < 256

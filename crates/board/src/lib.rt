@@ -11,7 +11,7 @@ use work::with_seen;
 ghost use mathlib.Core.Path.{_≡_};
 ghost use Prim.Native.Nat.{_+_, _≤_, _<_};
 ghost use Rattle.work.specs.Array.{endOf};
-ghost use Rattle.board.specs.Show.{endedAt, markedAt, behindOf, eachFrom, endedBelow, endedWords};
+ghost use Rattle.board.specs.Show.{endedAt, markedAt, behindOf, eachFrom, endedBelow, endedWords, Bare};
 
 const SUCCESS: u32 = 2;
 
@@ -93,11 +93,41 @@ fn show_below(work: &mut [u32; 260], p: usize)
     }
 }
 
+// 0 only if a word has no place and no mark, and with so many nodes ahead of it all below it stand among 256.
+fn state_in(w: u32, ahead: u32) -> u32
+    requires { ⌜ ahead ≤ 256 ⌝ }
+    ensures { λ r. ⌜ (r ≡ 0 → Bare w ahead) × (r < 131072) ⌝ }
+{
+    (w % 256 + w / 0x10000 % 512 * 0x10000 + ahead) / 256
+}
+
+// 0 only if nothing is to be shown. Mostly no word has a place or a mark, and a sum without a branch looks at many words at a time.
+// The n nodes count as the last of 256.
+fn any_state(work: &[u32; 260], n: usize) -> u32
+    requires { ⌜ n ≤ 256 ⌝ }
+    ensures { λ r. ⌜ (r ≡ 0 → endedWords 0 n (now (work .entry)) ≡ now (work .entry)) ⌝ }
+{
+    // As a slice, the array tells its length.
+    let words: &[u32] = work;
+    let mut sum = 0;
+    let mut ahead = 256 - n as u32;
+    let mut p = 0;
+    while p < n {
+        sum += state_in(words[p], ahead);
+        ahead += 1;
+        p += 1;
+    }
+    sum
+}
+
 // The first n nodes.
 pub fn show_ended(work: &mut [u32; 260], n: usize)
     requires { ⌜ n ≤ 256 ⌝ }
     ensures { λ _. ⌜ now (work .exit) ≡ endedWords 0 n (now (work .entry)) ⌝ }
 {
+    if any_state(work, n) == 0 {
+        return;
+    }
     let mut p = 0;
     while p < n {
         show_below(work, p);

@@ -4,14 +4,13 @@ mod enter;
 
 use board::show_ended;
 use enter::enter;
-use load::load;
-use load::load_fresh;
 use load::put_back;
 use rules::Answer;
 use rules::Event;
 use rules::Record;
 use steps::Gate;
 use steps::checks;
+use steps::clear_times;
 use steps::copy_cells;
 use steps::copy_times;
 use steps::counted;
@@ -39,7 +38,7 @@ fn carry_out(
     kinds: &[u8],
     ns: &[u16],
     limits: &[f64],
-    ends: &[u16],
+    work: &mut [u32; 260],
     times: &mut [f64],
     places: &mut [u16],
     marks: &mut [u8],
@@ -63,7 +62,7 @@ fn carry_out(
 ) -> Called
     requires { ⌜
         Due fresh (given «record» (now kinds) (now ns) (now limits) (run (now times) (now places) (now marks) (now sinces))
-        (run (now «spare_times») (now «spare_places») (now «spare_marks») (now «spare_sinces»)) (now board) event fuel (now statuses) (now leftovers)) (now ends) n
+        (run (now «spare_times») (now «spare_places») (now «spare_marks») (now «spare_sinces»)) (now board) event fuel (now statuses) (now leftovers)) (now work) n
         ⌝ }
     requires { ⌜ 16 ≤ entriesOf flat (levels (now opens) (now counts) (now wholes) (now rests)) ⌝ }
     ensures { λ r. ⌜
@@ -89,14 +88,11 @@ fn carry_out(
         spare_sinces,
         n,
     );
-    let mut work = [0u32; 260];
     if fresh {
-        load_fresh(&mut work, kinds, ends, times, n);
-    } else {
-        load(&mut work, kinds, ends, places, marks, n);
+        clear_times(times, n);
     }
     let result = enter(
-        &mut work,
+        work,
         limits,
         statuses,
         leftovers,
@@ -114,15 +110,15 @@ fn carry_out(
     if let Seen::Stopped = seen {
         copy_times(spare_times, times, n);
         return Called {
-            answer: told_stopped(&work, ns, result),
+            answer: told_stopped(work, ns, result),
             record,
         };
     }
-    show_ended(&mut work, n);
+    show_ended(work, n);
     let counted = counted(record, result);
-    put_back(&work, places, marks, sinces, board, n, counted.ticks);
+    put_back(work, places, marks, sinces, board, n, counted.ticks);
     Called {
-        answer: told_done(&work, result, fuel, lent(statuses, leftovers)),
+        answer: told_done(work, result, fuel, lent(statuses, leftovers)),
         record: counted,
     }
 }
@@ -164,13 +160,13 @@ pub fn value(
         ⌝ }
 {
     let entries = entries_of(opens, counts, wholes, rests, flat);
-    let mut ends = [0u16; 256];
+    let mut work = [0u32; 260];
     match checks(
         record,
         kinds,
         ns,
         limits,
-        &mut ends,
+        &mut work,
         times,
         places,
         marks,
@@ -192,7 +188,7 @@ pub fn value(
             kinds,
             ns,
             limits,
-            &ends,
+            &mut work,
             times,
             places,
             marks,

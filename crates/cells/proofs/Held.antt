@@ -24,7 +24,7 @@ length-cells (List._∷_ x xs) List.[] ms = omega arith
 length-cells (List._∷_ x xs) (List._∷_ p ps) List.[] = omega arith
 length-cells (List._∷_ x xs) (List._∷_ p ps) (List._∷_ m ms) = omega (arith, length-cells xs ps ms)
 
-drop-cells :
+pub drop-cells :
     (xs : List Float) (ps ms : List ℕ) (i : ℕ) → i < length (cells xs ps ms) →
     drop i (cells xs ps ms) ≡ List._∷_ (cellAt xs ps ms i) (drop (suc i) (cells xs ps ms))
 unfolding cells

@@ -1,4 +1,4 @@
-mod Held
+pub mod Held
 mod Run
 mod Still
 mod Turn

@@ -134,7 +134,8 @@ module _ (F : Format) (d : ℕ) where
     second-then = λ p m k. refl;
   }
 
-  acts : (child : Ticker) (n : ℕ) (l : Float) (c : Cell) (b : ℕ) (ts : Forest) (e : Event) (p : watching .Worlds) → Holds watching (NodeC F d Action n l c b ts e) p (λ w. rule F child Action n l c e ts w)
+  acts : (child : Ticker) (n : ℕ) (l : Float) (c : Cell) (b : ℕ) (ts : Forest) (e : Event) (p : watching .Worlds)
+      → Holds watching (NodeC F d Action n l c b ts e) p (λ w. rule F child Action n l c e ts w)
   unfolding rule
   acts child n l c b ts e (world f List.[], wv) = ends (asks n (dt e)) (asks n (dt e)) (refl, tt)
   acts child n l c b ts e (world f (List._∷_ a ans), wv) = goes (a .0) (a .1) (c, ts) (world f ans, wv .1) tt (on (a .0))

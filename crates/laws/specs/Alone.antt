@@ -87,7 +87,10 @@ module _ (F : Format) where
   alike-is n w P o o' (goes s r a w' h x) = refl
   alike-is n w P o o' (ends u u' h) = h .0
 
-  alike-after : {A : Type 0} (n : ℕ) (w : World) (P : Of (alone F) A) (Q : A → Type 0) (o o' : Out A) → ((s : Status) (r : Float) (a : A) (w' : World) → P s r a w' → Q a) → Sim (alone F) n w P o o' → AfterTick w Q o
+  alike-after : {A : Type 0} (n : ℕ) (w : World) (P : Of (alone F) A) (Q : A → Type 0) (o o' : Out A)
+      → ((s : Status) (r : Float) (a : A) (w' : World) → P s r a w' → Q a)
+      → Sim (alone F) n w P o o'
+      → AfterTick w Q o
   alike-after n w P Q o o' f (goes s r a w' h x) = (h, f s r a w' x)
   alike-after n w P Q o o' f (ends (done s r a w') u' h) = absurd (h .1)
   alike-after n w P Q o o' f (ends (asks m x) u' h) = tt

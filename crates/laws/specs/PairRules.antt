@@ -49,7 +49,8 @@ is-kind k k' h = sym (kind-code k) ∙ ap kindOf (eqb→eq (code k) (code k') h)
 
 -- the rules' own budget is one more than the fuel
 module _ (F : Format) (child : Ticker) where
-  while-with : (n : ℕ) (l : Float) (c : Cell) (e : Event) (ts : Forest) (f : ℕ) (ans : List (Status × Float)) → rule F child While n l c e ts (world f ans) ≡ whileWith (suc f) child c e ts (world f ans)
+  while-with : (n : ℕ) (l : Float) (c : Cell) (e : Event) (ts : Forest) (f : ℕ) (ans : List (Status × Float))
+      → rule F child While n l c e ts (world f ans) ≡ whileWith (suc f) child c e ts (world f ans)
   unfolding rule
   while-with n l c e [] f ans = refl
   while-with n l c e (t ∷ ts) f ans = refl

@@ -1,8 +1,8 @@
 -- Loading the working array from the runs that a host lends, and putting it back.
 use mathlib.Core.Bool.{Bool}
 use mathlib.Core.List.{List, map, _++_}
-use Prim.Native.Nat.{ℕ, zero, suc, _+_, _-_, _≤_}
-use lib.ListN.{getD, set, length, take, drop}
+use Prim.Native.Nat.{ℕ, zero, suc, _+_, _-_}
+use lib.ListN.{getD, set, take, drop}
 use Rattle.rules.specs.Call.{stamped}
 use Rattle.work.specs.Word.{anewOf}
 use Rattle.refine.specs.Words.{pack}
@@ -20,11 +20,3 @@ over field n ws l = map field (take n ws) ++ drop n l
 -- a tick's number put over a run, for each of the first n words that say that it made their node fresh
 abbrev pub stampedOver : ℕ → ℕ → List ℕ → List ℕ → List ℕ
 stampedOver this n ws l = stamped this (map anewOf (take n ws)) l ++ drop n l
-
--- the runs hold n nodes
-pub record Room (kinds ends places marks : List ℕ) (n : ℕ) : Type 0 where
-  pub nodes : n ≤ 256
-  pub kinds-long : n ≤ length kinds
-  pub ends-long : n ≤ length ends
-  pub places-long : n ≤ length places
-  pub marks-long : n ≤ length marks

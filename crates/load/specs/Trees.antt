@@ -122,7 +122,7 @@ mutual
 mutual
   unfolding withCells size
 
-  drop-with : (t : Tree) (cs : List Cell) → withCells t cs .1 ≡ drop (size t) cs
+  pub drop-with : (t : Tree) (cs : List Cell) → withCells t cs .1 ≡ drop (size t) cs
   drop-with (node k n l c b ts) List.[] = refl
   drop-with (node k n l c b ts) (List._∷_ c' cs) = drops-with ts cs
 

@@ -39,7 +39,8 @@ use Rattle.work.specs.Flat as flat
 use Rattle.refine.specs.Words.{bit, working, Fits}
 use Rattle.refine.specs.Start.{fuel-left, used-up}
 use Rattle.refine.specs.Whole.{Ended, Gives, whole}
-use Rattle.load.specs.Load.{loadWords, over, stampedOver}
+use Rattle.load.specs.Load.{over, stampedOver}
+use Rattle.load.specs.Scans.{startFrom}
 use Rattle.load.specs.Trees.{Loads, lent-loads, fresh-loads, loaded, holds, fits, put-places, put-marks, put-sinces, put-board}
 use Rattle.board.specs.Show.{endedWords}
 use Rattle.board.specs.Trees.{shown-words, size-shown, fits-shown, places-shown, marks-shown, sinces-shown}
@@ -92,13 +93,10 @@ parted Other = refl
 asked-number : (a : ℕ) (ns : List ℕ) (p m : ℕ) (x : Float) → a ≡ suc p → getD ns p 0 ≡ m → cond (eqb a 0) OutOfFuel (Asked (getD ns (a - 1) 0) x) ≡ Asked m x
 asked-number a ns p m x e f = rw (ne-eqb a 0 (λ z. omega arith), e, sub-one (suc p), f)
 
--- ---- what a walk is begun with: the words of the cells that it starts from, and their times before those that stay
-pub record Begun (fresh : Bool) (kinds ends : List ℕ) (c : Run) (n : ℕ) (ws : List ℕ) (ts : List Float) : Type 0 where
-  pub places : List ℕ
-  pub marks : List ℕ
+-- ---- what a walk is begun with: the places and marks that its words are made of are those of the cells that it starts from, whose times stand before those that stay
+pub record Begun (fresh : Bool) (c : Run) (n : ℕ) (ts : List Float) : Type 0 where
   pub long : n ≤ length (startOf fresh n c)
-  pub loads : Loads fresh places marks (startOf fresh n c)
-  pub words : ws ≡ loadWords fresh kinds ends places marks 0 n (replicate 260 0)
+  pub loads : Loads fresh (startFrom fresh n (c .places)) (startFrom fresh n (c .marks)) (startOf fresh n c)
   pub times : take n ts ≡ take n (read timeOf (startOf fresh n c))
   pub behind : drop n ts ≡ drop n (c .times)
 
@@ -106,31 +104,24 @@ read-fresh : (n : ℕ) → read timeOf (replicate n freshCell) ≡ replicate n z
 read-fresh zero = refl
 read-fresh (suc n) = ap (λ (l : List Float). List._∷_ zeroTime l) (read-fresh n)
 
-module _ (fresh : Bool) (kinds ends : List ℕ) (c : Run) (n : ℕ) (ws : List ℕ) (ts : List Float) where
-  pub begun-fresh : fresh ≡ true → ws ≡ loadWords true kinds ends (replicate n 0) (replicate n 0) 0 n (replicate 260 0) → ts ≡ replicate n zeroTime ++ drop n (c .times)
-      → Begun fresh kinds ends c n ws ts
-  begun-fresh e w t =
+module _ (fresh : Bool) (c : Run) (n : ℕ) (ts : List Float) where
+  pub begun-fresh : fresh ≡ true → ts ≡ replicate n zeroTime ++ drop n (c .times) → Begun fresh c n ts
+  begun-fresh e t =
       let zeros : List Float = replicate n zeroTime in
       let zeros-long = length-replicate n zeroTime in
       rw e (record {
-        places = replicate n 0;
-        marks = replicate n 0;
         long = omega (arith, length-replicate n freshCell);
         loads = fresh-loads n;
-        words = w;
         times = rw (t, read-fresh n, take-append-le n zeros (drop n (c .times)) (omega arith));
         behind = rw (t, drop-at zeros (drop n (c .times)) n zeros-long);
       })
 
-  pub begun-held : fresh ≡ false → Long n c → ws ≡ loadWords false kinds ends (c .places) (c .marks) 0 n (replicate 260 0) → ts ≡ c .times → Begun fresh kinds ends c n ws ts
-  begun-held e l w t =
+  pub begun-held : fresh ≡ false → Long n c → ts ≡ c .times → Begun fresh c n ts
+  begun-held e l t =
       let cut = cells-run n (c .times) (c .places) (c .marks) (l .times) (l .places) (l .marks) in
       rw (e, t) (record {
-        places = c .places;
-        marks = c .marks;
         long = cut .enough;
         loads = lent-loads (c .times) (c .places) (c .marks);
-        words = w;
         times = sym (cut .times);
         behind = refl;
       })
@@ -139,7 +130,7 @@ module _ (fresh : Bool) (kinds ends : List ℕ) (c : Run) (n : ℕ) (ws : List �
 column-front : {A : Type 0} (f : Cell → ℕ → A) (t : Tree) (n : ℕ) (front m : List A) → size t ≡ n → column f t List.[] ≡ front → column f t (drop (size t) m) ≡ front ++ drop n m
 column-front f t n front m s e = rw (s, column-behind f t (drop n m), e)
 
-module _ {fresh : Bool} {g : Given} {ends : List ℕ} {n : ℕ} (due : Due fresh g ends n) where
+module _ {fresh : Bool} {g : Given} {ws₀ : List ℕ} {n : ℕ} (due : Due fresh g ws₀ n) where
   abbrev given-answers : List (Status × Float)
   given-answers = answers (g .statuses) (g .leftovers)
 
@@ -194,8 +185,8 @@ module _ {fresh : Bool} {g : Given} {ends : List ℕ} {n : ℕ} (due : Due fresh
       (marks-of c l (drop n (g .spare .marks)) i)
       (onto n (c .sinces) (g .spare .sinces))
 
-  module _ (r : Result) (ws₀ ws : List ℕ) (ts₀ ts : List Float)
-      (starts : Begun fresh (g .kinds) ends (g .cells') n ws₀ ts₀)
+  module _ (r : Result) (ws : List ℕ) (ts₀ ts : List Float)
+      (starts : Begun fresh (g .cells') n ts₀)
       (walk : flat.tick binary64 (lent (g .limits) (g .statuses) (g .leftovers)) mostDeep 0 (dt (g .event))
       (set (set ws₀ 256 (g .fuel)) 259 (bit (updates (g .event)))) (take n ts₀)
       ≡ out (r .seen) (r .left) ws (take n ts))
@@ -212,8 +203,8 @@ module _ {fresh : Bool} {g : Given} {ends : List ℕ} {n : ℕ} (due : Due fresh
     words-loaded =
         let few : size (due .tree) ≤ 256 = rw (due .sized) (due .few) in
         let long : size (due .tree) ≤ length start = rw (due .sized) (starts .long) in
-        rw (starts .words) (rw (due .sized) at (loaded fresh (g .kinds) (g .ns) (g .limits) ends (starts .places) (starts .marks) start (due .tree) (g .fuel)
-        (updates (g .event)) (starts .loads) (due .stands) few long))
+        rw (due .words) (rw (due .sized) at (loaded fresh (g .kinds) (g .ns) (g .limits) (due .ends) (startFrom fresh n (g .cells' .places)) (startFrom fresh n (g .cells' .marks)) start
+        (due .tree) (g .fuel) (updates (g .event)) (starts .loads) (due .stands) few long))
 
     times-at-start : column timeOf tree List.[] ≡ take n ts₀
     times-at-start =
@@ -222,8 +213,8 @@ module _ {fresh : Bool} {g : Given} {ends : List ℕ} {n : ℕ} (due : Due fresh
 
     given-out : Given-out outcome
     given-out =
-        let h = holds (g .kinds) (g .ns) (g .limits) ends (due .tree) start (due .stands) in
-        let f = fits (g .kinds) (g .ns) (g .limits) ends (due .tree) start (due .behind) (due .stands) (due .fine) in
+        let h = holds (g .kinds) (g .ns) (g .limits) (due .ends) (due .tree) start (due .stands) in
+        let f = fits (g .kinds) (g .ns) (g .limits) (due .ends) (due .tree) start (due .behind) (due .stands) (due .fine) in
         let w = whole binary64 (g .ns) (g .limits) (g .statuses) (g .leftovers) tree (updates (g .event)) (dt (g .event)) (g .fuel) List.[] h f tree-deep (rw (sized start) (due .few)) small in
         rw (parted (g .event), ← words-loaded, times-at-start, walk, sized start) at w
 

@@ -1,7 +1,9 @@
-// Copying the first elements of one run onto another; what stands behind stays.
+// Copying the first elements of one run onto another, and clearing the first times; what stands behind stays.
 ghost use mathlib.Core.Path.{_≡_};
+ghost use mathlib.Core.List.{_++_};
 ghost use Prim.Native.Nat.{_≤_};
-ghost use lib.ListN.{length};
+ghost use lib.ListN.{length, drop, replicate};
+ghost use Rattle.rules.specs.Tree.{zeroTime};
 ghost use Rattle.rules.specs.Call.{run};
 ghost use Rattle.cells.specs.Long.{Long};
 ghost use Rattle.steps.specs.Onto.{onto, ontoCells};
@@ -73,4 +75,15 @@ pub fn copy_cells(
     copy_places(places, to_places, n);
     copy_marks(marks, to_marks, n);
     copy_sinces(sinces, to_sinces, n);
+}
+
+pub fn clear_times(times: &mut [f64], n: usize)
+    requires { ⌜ n ≤ length (now times) ⌝ }
+    ensures { λ _. ⌜ now (times .exit) ≡ replicate n zeroTime ++ drop n (now (times .entry)) ⌝ }
+{
+    let mut i = 0;
+    while i < n {
+        times[i] = 0.0;
+        i += 1;
+    }
 }

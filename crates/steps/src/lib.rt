@@ -3,6 +3,7 @@ mod copy;
 mod gate;
 mod told;
 
+pub use copy::clear_times;
 pub use copy::copy_cells;
 pub use copy::copy_times;
 pub use gate::Gate;

@@ -1,6 +1,6 @@
 -- One step of the check of the answers.
 use mathlib.Core.Path.{_≡_, refl, ap}
-use mathlib.Core.Bool.{Bool, true, false, not, cond}
+use mathlib.Core.Bool.{Bool, true, false, not}
 use mathlib.Core.List.{List}
 use Prim.Native.Nat.{ℕ, _+_, _≤_, _<_}
 use native.Mathlib.Numerals.{add-one}
@@ -8,25 +8,9 @@ use borrow.Author.Tests.{not-true, not-false}
 use lib.Ieee.{Float}
 use lib.ListN.{length, getD, drop, drop-of-length-le}
 use lib.Seq.{drop-cons}
-use Rattle.rules.specs.Table.{cleaned, number}
 use Rattle.rules.specs.Call.{answerAllowed, badAnswer}
-use Rattle.tables.specs.declared.number.Number.the-variants.{Good, Bad}
 use Rattle.tables.specs.declared.answers.Answered.the-variants as answered
-use Rattle.tables.specs.Checks.{numberOf, answeredOf, firstBad}
-
-good-test : (b : Bool) (x y : Float) → cond b (Good x) Bad ≡ Good y → b ≡ true
-good-test true x y e = refl
-good-test false x y e = cc
-
-pub is-good : (x y : Float) → numberOf x ≡ Good y → number (cleaned x) ≡ true
-is-good x y e = good-test (number (cleaned x)) (cleaned x) y e
-
-bad-test : (b : Bool) (x : Float) → cond b (Good x) Bad ≡ Bad → b ≡ false
-bad-test true x e = cc
-bad-test false x e = refl
-
-pub is-bad : (x : Float) → numberOf x ≡ Bad → number (cleaned x) ≡ false
-is-bad x e = bad-test (number (cleaned x)) (cleaned x) e
+use Rattle.tables.specs.Checks.{answeredOf, firstBad}
 
 module _ (ss : List ℕ) (ls : List Float) (i : ℕ) (inv : badAnswer i (drop i ss) (drop i ls) ≡ badAnswer 0 ss ls) where
   pub ends-first : length ss ≤ i → answered.Good ≡ firstBad ss ls

@@ -119,6 +119,38 @@ module _ (x : Float) (ok : T (fits binary64 x)) where
   pub zero-bits-test : zeroBits x ≡ eqb (toBits binary64 x) 0
   zero-bits-test = zero-test _ refl
 
+-- ---- minus zero, which has the sign bit alone
+minus-zero : number (cleaned (ofBits binary64 signBit)) ≡ true
+unfolding ofBits ofFields odd
+minus-zero = refl
+
+other-bits : (x : Float) → number x ≡ false → (toBits binary64 x ≡ signBit → ⊥) → number (cleaned x) ≡ false
+unfolding toBits
+other-bits nan h g = refl
+other-bits (inf s) h g = refl
+other-bits (fin false zero e) h g = h
+other-bits (fin false (suc m) e) h g = h
+other-bits (fin true zero e) h g = absurd (g (simp (zero-mul, zero-div)))
+other-bits (fin true (suc m) e) h g = h
+
+cleaned-number : (x : Float) → number x ≡ true → number (cleaned x) ≡ true
+cleaned-number nan h = h
+cleaned-number (inf s) h = h
+cleaned-number (fin s zero e) h = refl
+cleaned-number (fin s (suc m) e) h = h
+
+module _ (x : Float) (ok : T (fits binary64 x)) where
+  pub number-below : ltb (toBits binary64 x) infinityBits ≡ true → number (cleaned x) ≡ true
+  number-below h = cleaned-number x (number-bits x ok ∙ h)
+
+  sign-alone : (b : Bool) → eqb (toBits binary64 x) signBit ≡ b → ltb (toBits binary64 x) infinityBits ≡ false → number (cleaned x) ≡ b
+  sign-alone true e h =
+      ap (λ (y : Float). number (cleaned y)) (sym (ofBits-toBits binary64 x ok)) ∙ ap (λ (b : ℕ). number (cleaned (ofBits binary64 b))) (eqb-true (toBits binary64 x) signBit e) ∙ minus-zero
+  sign-alone false e h = other-bits x (number-bits x ok ∙ h) (eqb-false _ _ e)
+
+  pub number-above : ltb (toBits binary64 x) infinityBits ≡ false → number (cleaned x) ≡ eqb (toBits binary64 x) signBit
+  number-above h = sign-alone _ refl h
+
 -- ---- a number
 abbrev nought : Float
 nought = ofBits binary64 0

@@ -1,12 +1,12 @@
 -- A table that was found good, and the tree that stands in it.
-use mathlib.Core.Path.{_≡_, refl}
+use mathlib.Core.Path.{_≡_, refl, _∙_}
 use mathlib.Core.List.{List}
 use Prim.Native.Nat.{ℕ, _≤_}
 use native.Mathlib.Omega.{arith}
 use lib.Ieee.{Float}
 use lib.ListN.{length}
 use Rattle.rules.specs.Tree.{Tree, size, depth}
-use Rattle.rules.specs.Table.{Table, good, bad, table}
+use Rattle.rules.specs.Table.{Table, good, bad, rows, table}
 use Rattle.tables.specs.declared.table.Checked.{Checked}
 use Rattle.tables.specs.declared.table.Checked.the-variants as checked
 use Rattle.tables.specs.At.{At}
@@ -17,6 +17,7 @@ pub record Good (kinds ns : List ℕ) (limits : List Float) (ends : List ℕ) (n
   pub tree : Tree
   pub is : table kinds ns limits ≡ good tree
   pub sized : size tree ≡ n
+  pub nodes : length (rows kinds ns limits) ≡ n
   pub few : n ≤ 256
   pub levels : depth tree ≤ 16
   pub stands : At kinds ns limits ends 0 tree
@@ -38,6 +39,7 @@ module _ (kinds ns : List ℕ) (limits : List Float) (ends₀ ends : List ℕ) (
             tree = t;
             is = i;
             sized = z;
+            nodes = l .nodes ∙ z;
             few = omega (arith, l .few);
             levels = l .levels;
             stands = l .placed;

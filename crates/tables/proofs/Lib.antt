@@ -1,8 +1,8 @@
 mod Answered
 mod Bits
-mod Depth
+pub mod Depth
 pub mod Placed
 pub mod Rows
-mod Scan
+pub mod Scan
 mod Turn
 pub mod Good

@@ -1,4 +1,4 @@
--- The table check's loop: the open nodes as frames, and what is still to be read of each.
+-- Reading a table from left to right: the open nodes as frames, and what is still to be read of each. What else is known of the frames is a parameter.
 use mathlib.Core.Path.{_≡_, refl, sym, ap, subst, _∙_}
 use mathlib.Core.Bool.{Bool, true, false}
 use mathlib.Core.List.{List}
@@ -34,10 +34,10 @@ drop-rows (List._∷_ k ks) (List._∷_ n ns) (List._∷_ l ls) zero h = refl
 drop-rows (List._∷_ k ks) (List._∷_ n ns) (List._∷_ l ls) (suc i) h = drop-rows ks ns ls i (omega arith)
 
 -- ---- open nodes: place, kind, n, limit, the children that are read, the last first, and how many are owed behind the next
-data Frame : Type 0 where
+pub data Frame : Type 0 where
   frame : ℕ → Kind → ℕ → Float → Forest → ℕ → Frame
 
-abbrev onto : Forest → Forest → Forest
+abbrev pub onto : Forest → Forest → Forest
 onto [] ts = ts
 onto (t ∷ kids) ts = onto kids (t ∷ ts)
 
@@ -46,7 +46,7 @@ count-onto [] ts = omega arith
 count-onto (t ∷ kids) ts = omega (arith, count-onto kids (t ∷ ts))
 
 -- a node as a table makes it
-abbrev made : Kind → ℕ → Float → Forest → Tree
+abbrev pub made : Kind → ℕ → Float → Forest → Tree
 made k n l ts = node k n l newCell 0 ts
 
 -- what is read once the next tree is, d levels below
@@ -174,8 +174,8 @@ module _ (kinds ns : List ℕ) (limits : List Float) where
   abbrev all : List T.Row
   all = rows kinds ns limits
 
-  -- the tree at `at` is next
-  pub record Reading (begins owed ends : List ℕ) (open' left at : ℕ) : Type 0 where
+  -- the tree at `at` is next, and P is known of the frames
+  pub record Reading (P : List Frame → Type 0) (begins owed ends : List ℕ) (open' left at : ℕ) : Type 0 where
     deep : ℕ
     frames : List Frame
     level : open' ≡ length frames
@@ -183,9 +183,10 @@ module _ (kinds ns : List ℕ) (limits : List Float) where
     pub owes : 0 < left
     opened : Open begins owed ends frames (left - 1) at
     reads : resume deep frames (readTree deep at (drop at all)) ≡ readTree 16 0 all
+    known : P frames
 
-  -- a tree that ends at `at` is read
-  pub record Closing (begins owed ends : List ℕ) (open' left at : ℕ) : Type 0 where
+  -- a tree that ends at `at` is read, and Q is known of it, its place and the frames
+  pub record Closing (Q : Tree → ℕ → List Frame → Type 0) (begins owed ends : List ℕ) (open' left at : ℕ) : Type 0 where
     deep : ℕ
     frames : List Frame
     tree : Tree
@@ -196,13 +197,27 @@ module _ (kinds ns : List ℕ) (limits : List Float) where
     placed : At kinds ns limits ends place tree
     stop : getD ends place 0 ≡ at
     reads : resume deep frames (got tree at (drop at all)) ≡ readTree 16 0 all
+    known : Q tree place frames
 
-  pub start : (begins owed ends : List ℕ) → Reading begins owed ends 0 1 0
+  pub start : {P : List Frame → Type 0} (begins owed ends : List ℕ) → P List.[] → Reading P begins owed ends 0 1 0
   unfolding resume
-  start begins owed ends =
-      record { deep = 16; frames = List.[]; level = refl; levels = refl; owes = omega arith; opened = (refl, refl); reads = refl }
+  start begins owed ends h =
+      record { deep = 16; frames = List.[]; level = refl; levels = refl; owes = omega arith; opened = (refl, refl); reads = refl; known = h }
 
-  module _ (begins owed ends : List ℕ) (open' left at : ℕ) (r : Reading begins owed ends open' left at) where
+  module _ {P : List Frame → Type 0} (begins owed ends : List ℕ) (open' left at : ℕ) (r : Reading P begins owed ends open' left at) where
+    -- ends from `at` on do not matter
+    pub ends-alike : {P' : List Frame → Type 0} (ends' : List ℕ) → Alike 0 ends ends' at → ((σ : List Frame) → P σ → P' σ) → Reading P' begins owed ends' open' left at
+    ends-alike ends' same knows = record {
+      deep = r .deep;
+      frames = r .frames;
+      level = r .level;
+      levels = r .levels;
+      owes = r .owes;
+      opened = open-keeps ends ends' begins begins owed owed (r .frames) (left - 1) at (r .opened) (λ i x. refl) (λ i x. refl) same;
+      reads = r .reads;
+      known = knows (r .frames) (r .known);
+    }
+
     ends-here : readTree (r .deep) at (drop at all) ≡ fault at → readTree 16 0 all ≡ fault at
     ends-here e = sym (r .reads) ∙ ap (resume (r .deep) (r .frames)) e ∙ resume-fault (r .deep) (r .frames) at
 
@@ -263,9 +278,10 @@ module _ (kinds ns : List ℕ) (limits : List Float) where
 
       module _ (ok : rowAllowed k n l ≡ true) (c : ℕ) (e : c ≡ children (kindOf k) n) where
         pub descends :
-            0 < c → length begins ≡ 16 → length owed ≡ 16 →
-            Reading (set begins open' at) (set owed open' (left - 1)) ends (open' + 1) c (at + 1)
-        descends pos lb lo =
+            {P' : List Frame → Type 0} → 0 < c → length begins ≡ 16 → length owed ≡ 16 →
+            ((σ : List Frame) (m : ℕ) → open' ≡ length σ → P σ → P' (List._∷_ (frame at (kindOf k) n l [] m) σ)) →
+            Reading P' (set begins open' at) (set owed open' (left - 1)) ends (open' + 1) c (at + 1)
+        descends pos lb lo knows =
             let σ = r .frames in
             let lev = r .level in
             let more : children (kindOf k) n ≡ suc (c - 1) = omega arith in
@@ -285,12 +301,14 @@ module _ (kinds ns : List ℕ) (limits : List Float) where
               owes = pos;
               opened = (row-here ok (omega arith), (omega arith, (refl, (here, below'))));
               reads = rw (add-one at) (sym (descend (r .deep - 1) at k n l (drop (suc at) all) σ low ok (c - 1) more) ∙ reads-row);
+              known = knows σ (c - 1) lev (r .known);
             }
 
         pub leaves :
-            c ≤ 0 → length ends ≡ 256 →
-            Closing begins owed (set ends at (at + 1)) open' (left - 1) (at + 1)
-        leaves none le =
+            {Q : Tree → ℕ → List Frame → Type 0} → c ≤ 0 → at < length ends →
+            ((σ : List Frame) → P σ → Q (made (kindOf k) n l []) at σ) →
+            Closing Q begins owed (set ends at (at + 1)) open' (left - 1) (at + 1)
+        leaves none le knows =
             let σ = r .frames in
             let ends' = set ends at (at + 1) in
             let here : getD ends' at 0 ≡ at + 1 = getD-set-same ends at (at + 1) 0 (omega arith) in
@@ -308,17 +326,32 @@ module _ (kinds ns : List ℕ) (limits : List Float) where
               placed = (row-here ok (sym zero'), omega arith);
               stop = here;
               reads = rw (level-up, add-one at) (ap (resume (suc (r .deep - 1)) σ) alone ∙ reads-row);
+              known = knows σ (r .known);
             }
 
-  module _ (begins owed ends : List ℕ) (open' left at : ℕ) (le : length ends ≡ 256) (low : at ≤ 256) where
+  -- one child more of the innermost node is read; the innermost node is read
+  abbrev pub Nexts : (Tree → ℕ → List Frame → Type 0) → (List Frame → Type 0) → ℕ → Type 0
+  Nexts Q P at = (p : ℕ) (k : Kind) (n : ℕ) (l : Float) (kids : Forest) (m m' : ℕ) (σ : List Frame) (t : Tree) (q : ℕ)
+      → at ≡ q + size t
+      → Q t q (List._∷_ (frame p k n l kids m) σ)
+      → P (List._∷_ (frame p k n l (t ∷ kids) m') σ)
+
+  abbrev pub Closes : (Tree → ℕ → List Frame → Type 0) → (Tree → ℕ → List Frame → Type 0) → ℕ → Type 0
+  Closes Q Q' open' = (p : ℕ) (k : Kind) (n : ℕ) (l : Float) (kids : Forest) (m : ℕ) (σ : List Frame) (t : Tree) (q : ℕ)
+      → open' - 1 ≡ length σ
+      → Q t q (List._∷_ (frame p k n l kids m) σ)
+      → Q' (made k n l (onto kids (t ∷ []))) p σ
+
+  module _ (begins owed ends : List ℕ) (open' left at : ℕ) (low : at ≤ length ends) where
     module _ (d : ℕ) (t : Tree) (q : ℕ) (placed : At kinds ns limits ends q t) (stop : getD ends q 0 ≡ at) where
       nexts-at :
+          (Q : Tree → ℕ → List Frame → Type 0) (P : List Frame → Type 0)
           (σ : List Frame) → open' ≡ length σ → d + length σ ≡ 16 → Open begins owed ends σ left q →
           resume d σ (got t at (drop at all)) ≡ readTree 16 0 all →
-          0 < left →
-          Reading begins owed ends open' left at
-      nexts-at List.[] lev ups (none, z) reads more = absurd (omega arith)
-      nexts-at (List._∷_ (frame p k n l kids m) σ) lev ups (r, (b, (o, (g, h)))) reads more =
+          Q t q σ → Nexts Q P at → 0 < left →
+          Reading P begins owed ends open' left at
+      nexts-at Q P List.[] lev ups (none, z) reads known knows more = absurd (omega arith)
+      nexts-at Q P (List._∷_ (frame p k n l kids m) σ) lev ups (r, (b, (o, (g, h)))) reads known knows more =
           let m' : m ≡ suc (left - 1) = omega arith in
           record {
             deep = d;
@@ -328,6 +361,7 @@ module _ (kinds ns : List ℕ) (limits : List Float) where
             owes = more;
             opened = (recount r (omega arith), ((q, (b, (placed, stop))), (refl, (g, h))));
             reads = sym (next d p k n l kids σ t at (drop at all) (left - 1)) ∙ (rw m' at reads);
+            known = knows p k n l kids m (left - 1) σ t q (omega (arith, stop, at-end kinds ns limits t ends q placed)) known;
           }
 
       -- the top node begins before its end
@@ -339,12 +373,13 @@ module _ (kinds ns : List ℕ) (limits : List Float) where
           omega (arith, behind-le kids ends (suc p) q b, at-end kinds ns limits t ends q placed)
 
       closes-at :
+          (Q Q' : Tree → ℕ → List Frame → Type 0)
           (σ : List Frame) → open' ≡ length σ → d + length σ ≡ 16 → Open begins owed ends σ left q →
           resume d σ (got t at (drop at all)) ≡ readTree 16 0 all →
-          0 < open' → left ≡ 0 →
-          Closing begins owed (set ends (getD begins (open' - 1) 0) at) (open' - 1) (getD owed (open' - 1) 0) at
-      closes-at List.[] lev ups opened reads pos none = absurd (omega arith)
-      closes-at (List._∷_ (frame p k n l kids m) σ) lev ups (r, (b, (o, (g, h)))) reads pos none =
+          Q t q σ → Closes Q Q' open' → 0 < open' → left ≡ 0 →
+          Closing Q' begins owed (set ends (getD begins (open' - 1) 0) at) (open' - 1) (getD owed (open' - 1) 0) at
+      closes-at Q Q' List.[] lev ups opened reads known knows pos none = absurd (omega arith)
+      closes-at Q Q' (List._∷_ (frame p k n l kids m) σ) lev ups (r, (b, (o, (g, h)))) reads known knows pos none =
           let top : open' - 1 ≡ length σ = omega arith in
           let g' : getD begins (open' - 1) 0 ≡ p = rw top g in
           let h' : Open begins owed ends σ (getD owed (open' - 1) 0) p = rw top h in
@@ -369,39 +404,42 @@ module _ (kinds ns : List ℕ) (limits : List Float) where
             placed = (recount r (omega (arith, count-onto kids (t ∷ []))), behind-ats kids (t ∷ []) ends' (suc p) q (getD ends' p 0) kids' (last, stop'));
             stop = here;
             reads = sym (close d p k n l kids σ t at (drop at all)) ∙ (rw none' at reads);
+            known = knows p k n l kids m σ t q top known;
           })
 
-    module _ (c : Closing begins owed ends open' left at) where
-      pub nexts : 0 < left → Reading begins owed ends open' left at
-      nexts = nexts-at (c .deep) (c .tree) (c .place) (c .placed) (c .stop) (c .frames) (c .level) (c .levels) (c .opened) (c .reads)
+    module _ {Q : Tree → ℕ → List Frame → Type 0} (c : Closing Q begins owed ends open' left at) where
+      pub nexts : {P : List Frame → Type 0} → Nexts Q P at → 0 < left → Reading P begins owed ends open' left at
+      nexts {P} = nexts-at (c .deep) (c .tree) (c .place) (c .placed) (c .stop) Q P (c .frames) (c .level) (c .levels) (c .opened) (c .reads) (c .known)
 
       pub begins-before : 0 < open' → getD begins (open' - 1) 0 < at
       begins-before = begins-at (c .deep) (c .tree) (c .place) (c .placed) (c .stop) (c .frames) (c .level) (c .opened)
 
       pub closes :
-          0 < open' → left ≡ 0 →
-          Closing begins owed (set ends (getD begins (open' - 1) 0) at) (open' - 1) (getD owed (open' - 1) 0) at
-      closes = closes-at (c .deep) (c .tree) (c .place) (c .placed) (c .stop) (c .frames) (c .level) (c .levels) (c .opened) (c .reads)
+          {Q' : Tree → ℕ → List Frame → Type 0} → Closes Q Q' open' → 0 < open' → left ≡ 0 →
+          Closing Q' begins owed (set ends (getD begins (open' - 1) 0) at) (open' - 1) (getD owed (open' - 1) 0) at
+      closes {Q'} = closes-at (c .deep) (c .tree) (c .place) (c .placed) (c .stop) Q Q' (c .frames) (c .level) (c .levels) (c .opened) (c .reads) (c .known)
 
   -- ---- the root is read
-  pub record Whole (ends : List ℕ) (at : ℕ) : Type 0 where
+  pub record Whole (Q : Tree → ℕ → List Frame → Type 0) (ends : List ℕ) (at : ℕ) : Type 0 where
     pub tree : Tree
     pub reads : readTree 16 0 all ≡ got tree at (drop at all)
     pub placed : At kinds ns limits ends 0 tree
     pub sized : at ≡ size tree
+    pub known : Q tree 0 List.[]
 
-  whole-at :
-      (begins owed ends : List ℕ) (left at d : ℕ) (σ : List Frame) (t : Tree) (q : ℕ) →
-      length σ ≡ 0 → Open begins owed ends σ left q → At kinds ns limits ends q t → getD ends q 0 ≡ at →
-      resume d σ (got t at (drop at all)) ≡ readTree 16 0 all →
-      Whole ends at
-  unfolding resume
-  whole-at begins owed ends left at d List.[] t q lev (none, opened) placed stop reads =
-      let root : At kinds ns limits ends 0 t = rw opened at placed in
-      record { tree = t; reads = sym reads; placed = root; sized = omega (arith, at-end kinds ns limits t ends q placed) }
-  whole-at begins owed ends left at d (List._∷_ f σ) t q lev opened placed stop reads = absurd (omega arith)
+  module _ (begins owed ends : List ℕ) where
+    whole-at :
+        (Q : Tree → ℕ → List Frame → Type 0) (left at d : ℕ) (σ : List Frame) (t : Tree) (q : ℕ) →
+        length σ ≡ 0 → Open begins owed ends σ left q → At kinds ns limits ends q t → getD ends q 0 ≡ at →
+        resume d σ (got t at (drop at all)) ≡ readTree 16 0 all → Q t q σ →
+        Whole Q ends at
+    unfolding resume
+    whole-at Q left at d List.[] t q lev (none, opened) placed stop reads known =
+        let root : At kinds ns limits ends 0 t = rw opened at placed in
+        record { tree = t; reads = sym reads; placed = root; sized = omega (arith, at-end kinds ns limits t ends q placed); known = rw opened at known }
+    whole-at Q left at d (List._∷_ f σ) t q lev opened placed stop reads known = absurd (omega arith)
 
-  pub whole : (begins owed ends : List ℕ) (open' left at : ℕ) → Closing begins owed ends open' left at → open' ≡ 0 → Whole ends at
-  whole begins owed ends open' left at c h =
-      let none : length (c .frames) ≡ 0 = omega (arith, c .level) in
-      whole-at begins owed ends left at (c .deep) (c .frames) (c .tree) (c .place) none (c .opened) (c .placed) (c .stop) (c .reads)
+    pub whole : {Q : Tree → ℕ → List Frame → Type 0} (open' left at : ℕ) → Closing Q begins owed ends open' left at → open' ≡ 0 → Whole Q ends at
+    whole {Q} open' left at c h =
+        let none : length (c .frames) ≡ 0 = omega (arith, c .level) in
+        whole-at Q left at (c .deep) (c .frames) (c .tree) (c .place) none (c .opened) (c .placed) (c .stop) (c .reads) (c .known)

@@ -34,17 +34,18 @@ pub record Kept (kinds ns : List ℕ) (limits : List Float) (State : Stand) (end
   pub room : open' < 16
   pub stays : (i : ℕ) → at ≤ i → getD ends i 0 ≡ getD ends₀ i 0
 
+-- nothing else is known of the frames
 abbrev pub Nodes : List ℕ → List ℕ → List Float → List ℕ → Stand
-Nodes kinds ns limits = Kept kinds ns limits (Reading kinds ns limits)
+Nodes kinds ns limits = Kept kinds ns limits (Reading kinds ns limits λ σ. Unit {0})
 
 abbrev pub Ended : List ℕ → List ℕ → List Float → List ℕ → Stand
-Ended kinds ns limits = Kept kinds ns limits (Closing kinds ns limits)
+Ended kinds ns limits = Kept kinds ns limits (Closing kinds ns limits λ t q σ. Unit {0})
 
 pub first :
     {kinds ns : List ℕ} {limits : List Float} {begins owed ends : List ℕ} →
     length begins ≡ 16 → length owed ≡ 16 → length ends ≡ 256 → Nodes kinds ns limits ends begins owed ends 0 1 0
 first {kinds = kinds} {ns = ns} {limits = limits} {begins = begins} {owed = owed} {ends = ends} lb lo le = record {
-  state = start kinds ns limits begins owed ends;
+  state = start kinds ns limits begins owed ends tt;
   begins-long = lb;
   owed-long = lo;
   ends-long = le;
@@ -86,7 +87,7 @@ module _ {kinds ns : List ℕ} {limits : List Float} {ends₀ begins owed ends :
   at-end v h = refused v (past kinds ns limits begins owed ends open' left at (v .state) h)
 
   module _ (v : Ended kinds ns limits ends₀ begins owed ends open' left at) (none : open' ≡ 0) where
-    abbrev w : Whole kinds ns limits ends at
+    abbrev w : Whole kinds ns limits (λ t q σ. Unit {0}) ends at
     w = whole kinds ns limits begins owed ends open' left at (v .state) none
 
     pub too-long : at < length (rows kinds ns limits) → Tabled kinds ns limits ends₀ ends (Bad at)
@@ -141,9 +142,9 @@ module _ {kinds ns : List ℕ} {limits : List Float} {ends₀ begins owed ends :
         e = row-children _ _ _ c (same ∙ is)
 
         module _ (pos : 0 < c) where
-          below : Reading kinds ns limits (set begins open' at) (set owed open' (left - 1)) ends (open' + 1) c (at + 1)
+          below : Reading kinds ns limits (λ σ. Unit {0}) (set begins open' at) (set owed open' (left - 1)) ends (open' + 1) c (at + 1)
           below =
-              descends kinds ns limits begins owed ends open' left at (v .state) low in-rows (v .room) ok c e pos (v .begins-long) (v .owed-long)
+              descends kinds ns limits begins owed ends open' left at (v .state) low in-rows (v .room) ok c e pos (v .begins-long) (v .owed-long) λ σ m h z. tt
 
           pub too-deep-at : 16 ≤ open' + 1 → Tabled kinds ns limits ends₀ ends (Bad (at + 1))
           unfolding table
@@ -169,7 +170,7 @@ module _ {kinds ns : List ℕ} {limits : List Float} {ends₀ begins owed ends :
             c ≤ 0 →
             Ended kinds ns limits (set ends at (at + 1)) begins owed (set ends at (at + 1)) open' (left - 1) (at + 1)
         ends-leaf none = record {
-          state = leaves kinds ns limits begins owed ends open' left at (v .state) low in-rows (v .room) ok c e none (v .ends-long);
+          state = leaves kinds ns limits begins owed ends open' left at (v .state) low in-rows (v .room) ok c e none (omega (arith, v .ends-long)) λ σ z. tt;
           begins-long = v .begins-long;
           owed-long = v .owed-long;
           ends-long = length-set ends at (at + 1) ∙ v .ends-long;
@@ -182,7 +183,7 @@ module _ {kinds ns : List ℕ} {limits : List Float} {ends₀ begins owed ends :
   module _ (v : Ended kinds ns limits ends₀ begins owed ends open' left at) where
     pub goes-on : 0 < left → Nodes kinds ns limits ends₀ begins owed ends open' left at
     goes-on more = record {
-      state = nexts kinds ns limits begins owed ends open' left at (v .ends-long) (v .low) (v .state) more;
+      state = nexts kinds ns limits begins owed ends open' left at (omega (arith, v .ends-long, v .low)) (v .state) (λ p k n l kids m m' σ t q h z. tt) more;
       begins-long = v .begins-long;
       owed-long = v .owed-long;
       ends-long = v .ends-long;
@@ -194,13 +195,13 @@ module _ {kinds ns : List ℕ} {limits : List Float} {ends₀ begins owed ends :
 
     module _ (pos : 0 < open') where
       pub begin-low : getD begins (open' - 1) 0 < at
-      begin-low = begins-before kinds ns limits begins owed ends open' left at (v .ends-long) (v .low) (v .state) pos
+      begin-low = begins-before kinds ns limits begins owed ends open' left at (omega (arith, v .ends-long, v .low)) (v .state) pos
 
       pub closes-one :
           left ≡ 0 →
           Ended kinds ns limits ends₀ begins owed (set ends (getD begins (open' - 1) 0) at) (open' - 1) (getD owed (open' - 1) 0) at
       closes-one none = record {
-        state = closes kinds ns limits begins owed ends open' left at (v .ends-long) (v .low) (v .state) pos none;
+        state = closes kinds ns limits begins owed ends open' left at (omega (arith, v .ends-long, v .low)) (v .state) (λ p k n l kids m σ t q h z. tt) pos none;
         begins-long = v .begins-long;
         owed-long = v .owed-long;
         ends-long = length-set ends (getD begins (open' - 1) 0) at ∙ v .ends-long;

@@ -1,6 +1,5 @@
 // The check of the lent answers.
-use crate::number::Number;
-use crate::number::number_of;
+use crate::number::is_number;
 ghost use mathlib.Core.Path.{_≡_};
 ghost use Rattle.rules.specs.Call.{answerAllowed};
 ghost use Rattle.tables.specs.Checks.{firstBad};
@@ -20,10 +19,7 @@ fn allowed(status: u8, leftover: f64) -> bool
     if 3 < status {
         return false;
     }
-    match number_of(leftover) {
-        Number::Good(_) => true,
-        Number::Bad => false,
-    }
+    is_number(leftover)
 }
 
 // A status other than 1 to 3, or a leftover that is no number; the run is as long as the shorter

@@ -2,7 +2,7 @@
 // cell the bits do, of which the sign is the top one.
 use rules::cleaned;
 ghost use mathlib.Core.Path.{_≡_};
-ghost use Rattle.rules.specs.Table.{zeroBits};
+ghost use Rattle.rules.specs.Table.{cleaned, number, zeroBits};
 ghost use Rattle.rules.specs.Cells.{elapsed};
 ghost use Rattle.tables.specs.Checks.{numberOf};
 
@@ -31,6 +31,20 @@ pub fn number_of(x: f64) -> Number
     } else {
         Number::Bad
     }
+}
+
+// Whether there is a number to use, told by the bits of x itself: those of minus zero are the sign alone.
+pub fn is_number(x: f64) -> bool
+    ensures { λ r. ⌜ r ≡ number (cleaned x) ⌝ }
+{
+    if x != x {
+        return false;
+    }
+    let bits = f64::to_bits(x);
+    if bits < INFINITY {
+        return true;
+    }
+    bits == SIGN
 }
 
 // All bits are 0.

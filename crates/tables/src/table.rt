@@ -1,6 +1,5 @@
 // The table check: one pass from left to right, with the open nodes on a stack of fixed size.
-use crate::number::Number;
-use crate::number::number_of;
+use crate::number::is_number;
 use rules::Kind;
 ghost use mathlib.Core.Path.{_≡_};
 ghost use mathlib.Core.Bool.{_&&_};
@@ -18,7 +17,7 @@ pub enum Checked {
 }
 
 // How many children a node that is allowed has.
-enum Row {
+pub enum Row {
     Children(u16),
     Bad,
 }
@@ -30,7 +29,7 @@ fn least(a: usize, b: usize) -> usize
 }
 
 // A run lent as several slices is as long as the shortest.
-fn rows_of(kinds: &[u8], ns: &[u16], limits: &[f64]) -> usize
+pub fn rows_of(kinds: &[u8], ns: &[u16], limits: &[f64]) -> usize
     ensures { λ r. ⌜ r ≡ length (rows (now (kinds .entry)) (now (ns .entry)) (now (limits .entry))) ⌝ }
 {
     least(kinds.len(), least(ns.len(), limits.len()))
@@ -43,10 +42,7 @@ fn limit_allowed(kind: Kind, limit: f64) -> bool
     if !kind.timed() {
         return limit == 0.0;
     }
-    match number_of(limit) {
-        Number::Good(_) => true,
-        Number::Bad => false,
-    }
+    is_number(limit)
 }
 
 // None are never too many.
@@ -62,7 +58,7 @@ fn count_allowed(kind: Kind, children: u16) -> bool
     children <= kind.most()
 }
 
-fn row_of(number: u8, n: u16, limit: f64) -> Row
+pub fn row_of(number: u8, n: u16, limit: f64) -> Row
     ensures { λ r. ⌜ r ≡ rowOf number n (cleaned limit) ⌝ }
 {
     if Kind::LAST < number {

@@ -14,17 +14,17 @@ abbrev known : tie.After-copy-cells → tie.After-slice-known13
 known c = c .before .before .before .before .before .before .before .before .before
 
 abbrev start : tie.After-copy-cells → tie.Start
-start c = known c .before .before .before .before .before .before .before .before .before .before .before .before .before .before .before .before .before .before .before
+start c = known c .before .before .before .before .before .before .before .before .before .before .before .before .before .before .before .before .before .before
 
 abbrev copied : tie.After-slice-known17 → tie.After-copy-cells
 copied c = c .before .before .before .before .before .before .before .before
 
 -- what the walk begins with, by either arm
 begun : (c : tie.Joined1) → let a = start (copied (c .before)) .args in
-    Begun (a .fresh) (a .kinds .now) (a .ends .now) (run (a .times .now) (a .places .now) (a .marks .now) (a .sinces .now)) (a .n) (c .if1 .work) (c .if1 .times)
+    Begun (a .fresh) (run (a .times .now) (a .places .now) (a .marks .now) (a .sinces .now)) (a .n) (c .if1 .times)
 begun c = ⊎-elim
-    (λ w. begun-fresh _ _ _ _ _ _ _ (w .0 .taken) (w .7 ∙ w .3 .ensures .0) (w .6 ∙ w .3 .ensures .1))
-    (λ w. begun-held _ _ _ _ _ _ _ (w .0 .left) (start (copied (c .before)) .pre .0 .cells-long) (w .6 ∙ w .4 .ensures) (w .5))
+    (λ w. begun-fresh _ _ _ _ (w .0 .taken) (w .5 ∙ w .2 .ensures))
+    (λ w. begun-held _ _ _ _ (w .0 .left) (start (copied (c .before)) .pre .0 .cells-long) (w .1))
     (c .if1 .came)
 
 -- the walk
@@ -42,10 +42,10 @@ abbrev stopped : tie.After-copy-times-arg2 → tie.After-enter
 stopped c = walked (c .before .before .before .before)
 
 -- what is shown behind it, and the walk to its end
-abbrev shown : tie.After-put-back-arg4 → tie.After-show-ended
+abbrev shown : tie.After-put-back-arg5 → tie.After-show-ended
 shown c = c .before .before .before .before .before .before
 
-abbrev ended : tie.After-put-back-arg4 → tie.After-enter
+abbrev ended : tie.After-put-back-arg5 → tie.After-enter
 ended c = walked (shown c .before .before .before)
 
 -- what came before either walk's end
@@ -53,25 +53,12 @@ abbrev spared : tie.After-enter → tie.After-copy-cells
 spared c = copied (joined c .before)
 
 -- ---- the needs
-load-fresh-requires : tie.Need-load-fresh-requires
-load-fresh-requires c κs =
-    let pre = start (copied (c .before .before .before)) .pre .0 in
-    (pre .few, pre .in-kinds, omega (arith, pre .few, pre .ends-long), pre .cells-long .times)
-
-load-requires : tie.Need-load-requires
-load-requires c κs =
-    let pre = start (copied (c .before .before .before .before)) .pre .0 in
-    record {
-      nodes = pre .few;
-      kinds-long = pre .in-kinds;
-      ends-long = omega (arith, pre .few, pre .ends-long);
-      places-long = pre .cells-long .places;
-      marks-long = pre .cells-long .marks;
-    }
+clear-times-requires : tie.Need-clear-times-requires
+clear-times-requires c κs = start (copied (c .before .before)) .pre .0 .cells-long .times
 
 -- either arm leaves the times as long as they were
 times-long : (c : tie.Joined1) → let a = start (copied (c .before)) .args in length (c .if1 .times) ≡ length (a .times .now)
-times-long c = ⊎-elim (λ w. ap length (w .6) ∙ w .3 .kept .1 .1 .1 .0) (λ w. ap length (w .5)) (c .if1 .came)
+times-long c = ⊎-elim (λ w. ap length (w .5) ∙ w .2 .kept .0) (λ w. ap length (w .1)) (c .if1 .came)
 
 enter-requires : tie.Need-enter-requires
 enter-requires c κs =
@@ -101,7 +88,7 @@ returns : tie.Need-returns
 returns c =
     let walk = stopping c in
     let enter = walk .enter in
-    let restored = put-back (at-start walk .pre .0) (enter .result) _ (enter .last .0) _ (enter .last .1 .1 .1 .1 .0) (begun (joined walk)) (enter .ensures .0) (enter .ensures .1 .0)
+    let restored = put-back (at-start walk .pre .0) (enter .result) (enter .last .0) _ (enter .last .1 .1 .1 .1 .0) (begun (joined walk)) (enter .ensures .0) (enter .ensures .1 .0)
     (omega (arith, at-start walk .fits .fuel)) _ (spared walk .copy-cells .ensures) (back c .before .before .before .enum-told .given .1) _ (c .told-stopped .ensures) _
     (back c .copy-times .ensures) in
     (restored, enter .ensures .1 .1)
@@ -130,7 +117,7 @@ returns-2 c =
     let enter = walk .enter in
     let back = put c .put-back in
     let counts = put c .before .before .before .before .before .before in
-    let whole = carried (at-start walk .pre .0) (enter .result) _ (enter .last .0) _ (enter .last .1 .1 .1 .1 .0) (begun (joined walk)) (enter .ensures .0) (enter .ensures .1 .0)
+    let whole = carried (at-start walk .pre .0) (enter .result) (enter .last .0) _ (enter .last .1 .1 .1 .1 .0) (begun (joined walk)) (enter .ensures .0) (enter .ensures .1 .0)
     (omega (arith, at-start walk .fits .fuel)) _ (spared walk .copy-cells .ensures) (goes-told _ (shown (put c .before) .before .before .match .keys2)) _
     (shown (put c .before) .show-ended .ensures) _ _ (c .before .lent .ensures)
     (c .told-done .ensures) _ (counts .counted .ensures) _ _ _ _ (back .ensures .0) (back .ensures .1 .0) (back .ensures .1 .1 .0) (back .ensures .1 .1 .1) in
@@ -141,8 +128,7 @@ carry-out-spec =
     tie.close
     (tie.spec
     (λ c κs. search needs)
-    load-fresh-requires
-    load-requires
+    clear-times-requires
     enter-requires
     (λ c. search needs)
     copy-times-requires

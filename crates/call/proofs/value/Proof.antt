@@ -23,9 +23,6 @@ call c =
 abbrev lent : tie.Start → Levels
 lent c = let a = c .args in levels (a .opens .now) (a .counts .now) (a .wholes .now) (a .rests .now)
 
-slice-aggregate-carry-out : tie.Need-slice-aggregate-carry-out
-slice-aggregate-carry-out c = sym (passed-open _ _ _ _ _ (c .before .before .before .before .checks .ensures 0) _ _ (c .before .before .n .given .1) .2 .ends-long)
-
 carry-out-requires : tie.Need-carry-out-requires
 carry-out-requires c κs =
     let opened = c .before .before .before .before .before .before .before .before .before .before .before .before .before .before .before in
@@ -62,7 +59,6 @@ value-spec =
     (λ c κs. search needs)
     (λ c. search needs)
     (λ c. search needs)
-    slice-aggregate-carry-out
     carry-out-requires
     (λ c. search needs)
     (λ c. search needs)

@@ -1,7 +1,7 @@
 -- This tick's number, or the one before.
 use borrow.Author.Needs.{needs}
-use Rattle.load.proofs.since.Statement.{statement}
-use Rattle.load.proofs.since.Tie as tie
+use Rattle.load.proofs.back.since.Statement.{statement}
+use Rattle.load.proofs.back.since.Tie as tie
 
 returns : tie.Need-returns
 returns c = rw (← c .before .anew-of .ensures, c .if1 .taken)

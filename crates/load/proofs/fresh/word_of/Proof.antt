@@ -1,0 +1,12 @@
+-- The sum of the parts.
+use Rattle.refine.specs.Words.{pack}
+use borrow.Author.Needs.{needs}
+use Rattle.load.proofs.fresh.word_of.Statement.{statement}
+use Rattle.load.proofs.fresh.word_of.Tie as tie
+
+returns : tie.Need-returns
+unfolding pack
+returns c = search needs
+
+pub word-of-spec : {M : Type 1} → statement M
+word-of-spec = tie.close (tie.spec (λ c. search needs) (λ c. search needs) (λ c. search needs) (λ c. search needs) returns)
