@@ -88,19 +88,19 @@ FAULTS = [
     ),
     (
         "the child at the place of a Sequence can be exchanged",
-        "exchange/src/way.rt",
+        "branch/src/way.rt",
         "i != or_last(place, n)",
         "true",
     ),
     (
         "a new branch has stood since tick 0",
-        "exchange/src/write.rt",
+        "branch/src/write.rt",
         "Source::New(_) => ticks,",
         "Source::New(_) => 0,",
     ),
     (
         "a branch in an ended child of WhenAll can be exchanged",
-        "exchange/src/way.rt",
+        "branch/src/way.rt",
         "if marks[child] == 1 {",
         "if marks[child] == 2 {",
     ),

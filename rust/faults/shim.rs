@@ -1,6 +1,6 @@
 //! The archive's interface over the code compiled as Rust: a slice passes as pointer and length.
 
-use lemboraw::Bound;
+use host::Bound;
 use rules::{ExchangeSaid, Record, Said};
 use std::slice::{from_raw_parts as lent, from_raw_parts_mut as lent_mut};
 
