@@ -14,8 +14,8 @@ ghost use Rattle.rules.specs.Outcome.{dt};
 ghost use Rattle.rules.specs.Levels.{levels, cleared};
 ghost use Rattle.work.specs.Flat.{out, lent, tick};
 ghost use Rattle.refine.specs.Words.{bit};
-ghost use Rattle.steps.specs.Enter.{updates};
-ghost use Rattle.steps.specs.Due.{entriesOf};
+ghost use Rattle.refusals.specs.Enter.{updates};
+ghost use Rattle.refusals.specs.Due.{entriesOf};
 
 // 1 for an update.
 fn update_bit(event: Event) -> u32

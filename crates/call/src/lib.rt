@@ -2,37 +2,25 @@
 // Whoever keeps the record gets it back with the answer.
 mod enter;
 
-use board::show_ended;
+use cells::copy_cells;
 use enter::enter;
-use load::put_back;
-use rules::Answer;
+use load::clear_times;
+use refusals::Gate;
+use refusals::checks;
+use refusals::entries_of;
 use rules::Event;
 use rules::Record;
-use steps::Gate;
-use steps::checks;
-use steps::clear_times;
-use steps::copy_cells;
-use steps::copy_times;
-use steps::counted;
-use steps::entries_of;
-use steps::lent;
-use steps::told_done;
-use steps::told_stopped;
-use work::Seen;
+use settle::lent;
+use settle::settled;
 ghost use mathlib.Core.Path.{_≡_};
 ghost use mathlib.Core.Bool.{cond};
 ghost use Prim.Native.Nat.{_≤_};
 ghost use Rattle.rules.specs.Call.{run, given, left};
 ghost use Rattle.rules.specs.Levels.{levels, cleared, flatLeft};
-ghost use Rattle.steps.specs.Due.{callOf, wholeCall, entriesOf, Due};
+ghost use Rattle.refusals.specs.Due.{callOf, wholeCall, entriesOf, Due};
+pub use settle::Called;
 
-pub struct Called {
-    pub answer: Answer,
-    pub record: Record,
-}
-
-// A walk that a question or too little fuel ends leaves cells and board as they were: only times were
-// changed in place, and come back from the spare.
+// The walk in place, with the cells at entry in the spare, and what it leaves.
 fn carry_out(
     record: Record,
     kinds: &[u8],
@@ -106,21 +94,21 @@ fn carry_out(
         fuel,
         flat,
     );
-    let seen = result.seen;
-    if let Seen::Stopped = seen {
-        copy_times(spare_times, times, n);
-        return Called {
-            answer: told_stopped(work, ns, result),
-            record,
-        };
-    }
-    show_ended(work, n);
-    let counted = counted(record, result);
-    put_back(work, places, marks, sinces, board, n, counted.ticks);
-    Called {
-        answer: told_done(work, result, fuel, lent(statuses, leftovers)),
-        record: counted,
-    }
+    settled(
+        record,
+        ns,
+        work,
+        result,
+        times,
+        places,
+        marks,
+        sinces,
+        spare_times,
+        board,
+        n,
+        fuel,
+        lent(statuses, leftovers),
+    )
 }
 
 // A tick or a restart: the checks, then the walk, of the cells at entry or as from a fresh tree. With `flat` it walks without

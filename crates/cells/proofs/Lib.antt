@@ -2,3 +2,4 @@ pub mod Held
 mod Run
 mod Still
 mod Turn
+mod Copies

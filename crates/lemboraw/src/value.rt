@@ -8,7 +8,7 @@ ghost use mathlib.Core.Path.{_≡_};
 ghost use Rattle.rules.specs.Outcome.{eventOf};
 ghost use Rattle.rules.specs.Call.{run, given};
 ghost use Rattle.rules.specs.Levels.{levels, withRoom};
-ghost use Rattle.steps.specs.Due.{callOf};
+ghost use Rattle.refusals.specs.Due.{callOf};
 ghost use Rattle.host.specs.Host.{told, hostLeft, toldFlat, hostFlatLeft};
 
 // A tick or a restart without recursion, in lent room.

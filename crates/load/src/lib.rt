@@ -1,8 +1,7 @@
-// The working array: table and cells are looked at, and it is written; and it is put back.
-mod back;
+// The working array is written: table and cells are looked at in one pass that refuses or writes it.
 mod fresh;
 mod pass;
 
-pub use back::put_back;
+pub use fresh::clear_times;
 pub use pass::Scanned;
 pub use pass::scan;

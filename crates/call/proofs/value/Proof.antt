@@ -4,7 +4,7 @@ use native.Mathlib.Omega.{arith}
 use borrow.Author.Needs.{needs}
 use Rattle.rules.specs.Call.{Given, given, run}
 use Rattle.rules.specs.Levels.{Levels, levels}
-use Rattle.steps.proofs.Gates.{passed-refused, passed-open, passed-on}
+use Rattle.refusals.proofs.Gates.{passed-refused, passed-open, passed-on}
 use Rattle.call.proofs.value.Statement.{statement}
 use Rattle.call.proofs.value.Tie as tie
 

@@ -6,7 +6,7 @@ use contract.Running.{givenOf, tables, tablesOf}
 use denote.Triple.Spec.{tripleOf}
 use denote.Triple.Table.{entered, cited}
 use Rattle.rules.specs.Levels.{tickFlat}
-use Rattle.steps.specs.Due.{callOf}
+use Rattle.refusals.specs.Due.{callOf}
 use Rattle.host.specs.Host.{hostTickFlat}
 use Rattle.lemboraw.proofs.Roomed.{meets}
 use Rattle.lemboraw.proofs.value.flat_said as core

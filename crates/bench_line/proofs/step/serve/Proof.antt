@@ -12,7 +12,7 @@ use Rattle.frames.specs.declared.Call.the-variants.{Tick, Restart}
 use Rattle.frames.specs.declared.Event.{Event}
 use Rattle.rules.specs.declared.event.Event as events
 use Rattle.rules.specs.Call.{Given, Left, run, given}
-use Rattle.steps.specs.Due as due
+use Rattle.refusals.specs.Due as due
 use Rattle.bench_line.specs.Bench.{State, rows, eventOf, freshRun, freshBoard, callOf, served}
 use Rattle.bench_line.specs.Held.{stateOf, restartsOf, Leaves}
 use Rattle.bench_line.proofs.step.serve.Statement.{statement}

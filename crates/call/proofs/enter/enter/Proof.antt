@@ -8,7 +8,7 @@ use lib.ListN.{length, take, drop}
 use lib.Seq.{length-take-le, take-at, drop-at}
 use borrow.Author.Needs.{needs}
 use Rattle.rules.specs.Levels.{Levels, levels, entries, cleared}
-use Rattle.steps.specs.Due.{entriesOf}
+use Rattle.refusals.specs.Due.{entriesOf}
 use Rattle.call.proofs.enter.enter.Statement.{statement}
 use Rattle.call.proofs.enter.enter.Tie as tie
 

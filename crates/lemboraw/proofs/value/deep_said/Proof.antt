@@ -2,7 +2,7 @@
 use borrow.Author.Needs.{needs}
 use Rattle.rules.specs.declared.event.Event.{Event}
 use Rattle.rules.specs.Call.{Left, given, run}
-use Rattle.steps.specs.Due.{callOf}
+use Rattle.refusals.specs.Due.{callOf}
 use Rattle.host.proofs.Laws.{deep-told}
 use Rattle.lemboraw.proofs.value.deep_said.Statement.{statement}
 use Rattle.lemboraw.proofs.value.deep_said.Tie as tie

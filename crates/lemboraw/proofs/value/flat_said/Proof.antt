@@ -3,7 +3,7 @@ use borrow.Author.Needs.{needs}
 use Rattle.rules.specs.declared.event.Event.{Event}
 use Rattle.rules.specs.Call.{given, run}
 use Rattle.rules.specs.Levels.{FlatLeft, levels, withRoom}
-use Rattle.steps.specs.Due.{callOf}
+use Rattle.refusals.specs.Due.{callOf}
 use Rattle.host.proofs.Laws.{flat-told}
 use Rattle.lemboraw.proofs.value.flat_said.Statement.{statement}
 use Rattle.lemboraw.proofs.value.flat_said.Tie as tie

@@ -1,4 +1,0 @@
-pub mod Onto
-pub mod Due
-pub mod Enter
-pub mod Told
