@@ -27,14 +27,16 @@ carry-out-requires : tie.Need-carry-out-requires
 carry-out-requires c κs =
     let opened = c .before .before .before .before .before .before .before .before .before .before .before .before .before .before .before in
     let checks = opened .before .before in
-    let passed = passed-open _ _ _ _ _ (checks .checks .ensures (start checks .args .fuel)) _ _ (opened .n .given .1) in
+    let s = start checks in
+    let passed = passed-open (s .args .fresh) (room checks .entries-of .result) (call s) _ _ (checks .checks .ensures (s .args .fuel)) _ _ (opened .n .given .1) in
     (passed .2, omega (arith, room checks .entries-of .ensures, passed .0))
 
 returns : tie.Need-returns
 returns c =
     let checks = c .before .before .before in
     let s = start checks in
-    passed-refused _ _ (call s) _ _ (checks .checks .ensures (s .args .fuel)) _ (c .before .answer .given .1) (s .args .flat) (lent s) (sym (room checks .entries-of .ensures))
+    passed-refused (s .args .fresh) (room checks .entries-of .result) (call s) _ _ (checks .checks .ensures (s .args .fuel)) _ (c .before .answer .given .1)
+    (s .args .flat) (lent s) (sym (room checks .entries-of .ensures))
 
 -- the slices come back in their order
 abbrev carried : tie.After-slice-known26 → tie.After-carry-out
@@ -48,7 +50,8 @@ returns-2 c =
     let opened = carried c .before .before .before .before .before .before .before .before .before .before .before .before .before .before .before .before in
     let checks = opened .before .before in
     let s = start checks in
-    passed-on _ _ (call s) _ _ (checks .checks .ensures (s .args .fuel)) _ _ _ (opened .n .given .1) (carry-out .ensures .0) (s .args .flat) (lent s) _ (sym (room checks .entries-of .ensures))
+    passed-on (s .args .fresh) (room checks .entries-of .result) (call s) _ _ (checks .checks .ensures (s .args .fuel)) _ _ _ (opened .n .given .1)
+    (carry-out .ensures .0) (s .args .flat) (lent s) _ (sym (room checks .entries-of .ensures))
     (carry-out .ensures .1)
 
 pub value-spec : {M : Type 1} → statement M
