@@ -52,7 +52,7 @@ FAULTS = [
     ),
     (
         "a restart goes on from the times as they stand",
-        "steps/src/copy.rt",
+        "load/src/fresh.rt",
         "        times[i] = 0.0;\n",
         "",
     ),
@@ -70,7 +70,7 @@ FAULTS = [
     ),
     (
         "a since is the tick count before the tick",
-        "call/src/lib.rt",
+        "settle/src/lib.rt",
         "board, n, counted.ticks)",
         "board, n, record.ticks)",
     ),
@@ -118,7 +118,7 @@ FAULTS = [
     ),
     (
         "a tree that has finished needs no levels",
-        "steps/src/gate.rt",
+        "refusals/src/gate.rt",
         "if entries < 16 {",
         "if entries < 16 && (fresh || !record.finished) {",
     ),

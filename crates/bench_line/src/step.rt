@@ -7,12 +7,12 @@ ghost use Rattle.rules.specs.Call.{run};
 ghost use Rattle.bench_line.specs.Bench.{rows, eventOf, lineNumber, printed, served};
 ghost use Rattle.bench_line.specs.Held.{stateOf, restartsOf, Long, Rooms, Prints, Keeps, Tells, Stops, Leaves, Steps};
 use crate::said::said;
-use call::Called;
 use frames::Call;
 use frames::Event;
 use frames::Frame;
 use frames::Input;
 use frames::Written;
+use rules::Called;
 use rules::Record;
 
 // Room for every table: one node more than it may have, so that the 257th is refused by the tick.

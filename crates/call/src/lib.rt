@@ -8,6 +8,7 @@ use load::clear_times;
 use refusals::Gate;
 use refusals::checks;
 use refusals::entries_of;
+use rules::Called;
 use rules::Event;
 use rules::Record;
 use settle::lent;
@@ -18,8 +19,6 @@ ghost use Prim.Native.Nat.{_≤_};
 ghost use Rattle.rules.specs.Call.{run, given, left};
 ghost use Rattle.rules.specs.Levels.{levels, cleared, flatLeft};
 ghost use Rattle.refusals.specs.Due.{callOf, wholeCall, entriesOf, Due};
-pub use settle::Called;
-
 // The walk in place, with the cells at entry in the spare, and what it leaves.
 fn carry_out(
     record: Record,

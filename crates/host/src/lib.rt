@@ -1,6 +1,6 @@
 // Answers, events and kinds as the numbers that a host sees.
-use call::Called;
 use rules::BoundAnswer;
+use rules::Called;
 use rules::Event;
 use rules::Kind;
 use rules::Record;

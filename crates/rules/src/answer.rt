@@ -11,6 +11,12 @@ pub struct Record {
     pub ticks: u64,
 }
 
+// An answer, and the record behind it.
+pub struct Called {
+    pub answer: Answer,
+    pub record: Record,
+}
+
 // How many ticks ago a cell was made fresh: the tick count less its number, with wrap.
 pub fn age(ticks: u64, since: u64) -> u64
     ensures { λ r. ⌜ r ≡ age ticks since ⌝ }

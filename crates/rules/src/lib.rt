@@ -9,6 +9,7 @@ mod status;
 
 pub use answer::Answer;
 pub use answer::BoundAnswer;
+pub use answer::Called;
 pub use answer::Record;
 pub use answer::Said;
 pub use answer::age;

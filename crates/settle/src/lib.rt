@@ -5,7 +5,7 @@ mod told;
 
 use back::put_back;
 use cells::copy_times;
-use rules::Answer;
+use rules::Called;
 use rules::Record;
 use show::show_ended;
 use told::counted;
@@ -20,11 +20,6 @@ ghost use Rattle.rules.specs.Call.{run};
 ghost use Rattle.cells.specs.Long.{Long};
 ghost use Rattle.settle.specs.Settled.{settled, settledAs};
 pub use told::lent;
-
-pub struct Called {
-    pub answer: Answer,
-    pub record: Record,
-}
 
 // A walk of n nodes that a question or too little fuel ends leaves cells and board as they were: only times were changed in
 // place, and come back from the spare.
