@@ -73,8 +73,8 @@ abbrev pub times : List ℕ → List Float
 times bits = map (ofBits binary64) bits
 
 abbrev pub callOf : Call → Given → Left
-callOf Tick g = tickCall g
-callOf Restart g = restartCall g
+callOf Tick g = tickCall binary64 g
+callOf Restart g = restartCall binary64 g
 
 -- a tick or a restart of the tree; nothing is printed of its spare and board, so each call is lent new ones
 unfoldable pub served : State → Call → Event → ℕ → List ℕ → List Float → Left

@@ -8,7 +8,7 @@ use native.Mathlib.Numerals.{add-one}
 use native.Mathlib.Omega.{arith}
 use borrow.Author.Tests.{leb-true}
 use lib.Dec.{leb, eqb}
-use lib.Ieee.{Float, nan, binary64}
+use lib.Ieee.{Float, Format, nan}
 use lib.ListN.{getD, length}
 use Rattle.rules.specs.declared.behavior.Kind.{Kind}
 use Rattle.rules.specs.declared.behavior.Kind.the-variants.{After}
@@ -35,7 +35,7 @@ and-second true b e = e
 and-second false b e = cc
 
 -- ---- where trees end
-module _ (kinds ns : List ℕ) (limits : List Float) (ends : List ℕ) where
+module _ (F : Format) (kinds ns : List ℕ) (limits : List Float) (ends : List ℕ) where
   pub ends-after : (q : ℕ) (t : Tree) → At kinds ns limits ends q t → q < getD ends q 0
   ends-after q t h = omega (arith, at-end kinds ns limits t ends q h, size-pos t)
 
@@ -53,22 +53,22 @@ module _ (kinds ns : List ℕ) (limits : List Float) (ends : List ℕ) where
   -- the children of the node at q
   pub children-stand :
       (q : ℕ) (k : Kind) (n : ℕ) (l : Float) (c : Cell) (b : ℕ) (ts : Forest) →
-      Stands kinds ns limits ends q (node k n l c b ts) →
-      Stand kinds ns limits ends (suc q) (count ts) ts (getD ends q 0)
+      Stands F kinds ns limits ends q (node k n l c b ts) →
+      Stand F kinds ns limits ends (suc q) (count ts) ts (getD ends q 0)
   unfolding boundable
-  children-stand q k n l c b ts h = record { held = h .held .1; whole = and-second (rowBounded k (count ts) l) (boundables binary64 ts) (h .whole); are = refl }
+  children-stand q k n l c b ts h = record { held = h .held .1; whole = and-second (rowBounded F k (count ts) l) (boundables F ts) (h .whole); are = refl }
 
   -- one tree, and those behind it
-  pub one-stands : (q many : ℕ) (t : Tree) (ts : Forest) (stop : ℕ) → Stand kinds ns limits ends q many (t ∷ ts) stop → Stands kinds ns limits ends q t
+  pub one-stands : (q many : ℕ) (t : Tree) (ts : Forest) (stop : ℕ) → Stand F kinds ns limits ends q many (t ∷ ts) stop → Stands F kinds ns limits ends q t
   unfolding boundable
-  one-stands q many t ts stop h = record { held = h .held .0; whole = and-first (boundable binary64 t) (boundables binary64 ts) (h .whole) }
+  one-stands q many t ts stop h = record { held = h .held .0; whole = and-first (boundable F t) (boundables F ts) (h .whole) }
 
   pub rest-stand :
       (q many : ℕ) (t : Tree) (ts : Forest) (stop : ℕ) →
-      Stand kinds ns limits ends q many (t ∷ ts) stop →
-      Stand kinds ns limits ends (getD ends q 0) (many - 1) ts stop
+      Stand F kinds ns limits ends q many (t ∷ ts) stop →
+      Stand F kinds ns limits ends (getD ends q 0) (many - 1) ts stop
   unfolding boundable
-  rest-stand q many t ts stop h = record { held = h .held .1; whole = and-second (boundable binary64 t) (boundables binary64 ts) (h .whole); are = omega (arith, h .are) }
+  rest-stand q many t ts stop h = record { held = h .held .1; whole = and-second (boundable F t) (boundables F ts) (h .whole); are = omega (arith, h .are) }
 
   -- ---- what the row at q says of its node
   module _ (q : ℕ) (k : Kind) (n : ℕ) (l : Float) (many : ℕ) (r : Row kinds ns limits q k n l many) where
@@ -88,20 +88,20 @@ module _ (kinds ns : List ℕ) (limits : List Float) (ends : List ℕ) where
 
   timed-whole :
       (q : ℕ) (k : Kind) (n : ℕ) (l : Float) (c : Cell) (b : ℕ) (ts : Forest) →
-      Stands kinds ns limits ends q (node k n l c b ts) → timed k ≡ true →
-      wholeTime binary64 l ≡ true
+      Stands F kinds ns limits ends q (node k n l c b ts) → timed k ≡ true →
+      wholeTime F l ≡ true
   unfolding boundable
   timed-whole q k n l c b ts h t =
-      let row = and-first (rowBounded k (count ts) l) (boundables binary64 ts) (h .whole) in
-      rw t at (and-first (cond (timed k) (wholeTime binary64 l) true) (not (is k After && eqb (count ts) 0)) row)
+      let row = and-first (rowBounded F k (count ts) l) (boundables F ts) (h .whole) in
+      rw t at (and-first (cond (timed k) (wholeTime F l) true) (not (is k After && eqb (count ts) 0)) row)
 
   -- ---- a node that is worked out, and what is known of it: its kind, its own ticks, its number of children
   module _ (d q : ℕ) (kind : Kind) (own : Ticks) (many : ℕ)
       (in-limits : q < length limits)
       (kind-is : kind ≡ kindOf (getD kinds q 0))
-      (own-is : wholeTime binary64 (cleaned (getD limits q nan)) ≡ true → own ≡ clipped (within (ownTicks d (cleaned (getD limits q nan)))))
+      (own-is : wholeTime F (cleaned (getD limits q nan)) ≡ true → own ≡ clipped (within (ownTicks d (cleaned (getD limits q nan)))))
       (many-is : many ≡ children kind (getD ns q 0)) where
-    module _ (k : Kind) (n : ℕ) (l : Float) (c : Cell) (b : ℕ) (ts : Forest) (h : Stands kinds ns limits ends q (node k n l c b ts)) where
+    module _ (k : Kind) (n : ℕ) (l : Float) (c : Cell) (b : ℕ) (ts : Forest) (h : Stands F kinds ns limits ends q (node k n l c b ts)) where
       same-kind : kind ≡ k
       same-kind = kind-is ∙ h .held .0 .kind
 
@@ -113,7 +113,7 @@ module _ (kinds ns : List ℕ) (limits : List Float) (ends : List ℕ) where
           let e : cleaned (getD limits q nan) ≡ l = ap (λ (x : Float). cleaned x) (any-default limits q nan zeroTime in-limits) ∙ h .held .0 .limit in
           rw e at (own-is (rw e (timed-whole q k n l c b ts h t)))
 
-    pub alone-bound : (r : Ticks) → Alone kind own r → many ≡ 0 → (t : Tree) → Stands kinds ns limits ends q t → r ≡ clipped (bound d t)
+    pub alone-bound : (r : Ticks) → Alone kind own r → many ≡ 0 → (t : Tree) → Stands F kinds ns limits ends q t → r ≡ clipped (bound d t)
     alone-bound r a z (node k n l c b []) h =
         let a' : Alone k own r = subst (λ (k : Kind). Alone k own r) (same-kind k n l c b [] h) a in
         a' d n l c b (omega (arith, few q k n l 0 (h .held .0))) (same-own k n l c b [] h)
@@ -123,16 +123,16 @@ module _ (kinds ns : List ℕ) (limits : List Float) (ends : List ℕ) where
         some m e = omega arith
 
     pub together-bound : (first rest : Ticks) (join : Join) (r : Ticks) → Together kind own first rest r → (many ≡ 0 → ⊥) → join ≡ joinOf kind
-        → ((t : Tree) → Stands kinds ns limits ends (q + 1) t → first ≡ clipped (bound d t))
-        → ((ts : Forest) (stop : ℕ) → Stand kinds ns limits ends (getD ends (q + 1) 0) (many - 1) ts stop → rest ≡ clipped (joined join d ts))
-        → (t : Tree) → Stands kinds ns limits ends q t → r ≡ clipped (bound d t)
+        → ((t : Tree) → Stands F kinds ns limits ends (q + 1) t → first ≡ clipped (bound d t))
+        → ((ts : Forest) (stop : ℕ) → Stand F kinds ns limits ends (getD ends (q + 1) 0) (many - 1) ts stop → rest ≡ clipped (joined join d ts))
+        → (t : Tree) → Stands F kinds ns limits ends q t → r ≡ clipped (bound d t)
     together-bound first rest join r a z e f g (node k n l c b []) h = absurd (z (sym (same-count k n l c b [] h)))
     together-bound first rest join r a z e f g (node k n l c b (t ∷ ts)) h =
         let kk = same-kind k n l c b (t ∷ ts) h in
         let a' : Together k own first rest r = subst (λ (k : Kind). Together k own first rest r) kk a in
-        let s : Stand kinds ns limits ends (q + 1) (suc (count ts)) (t ∷ ts) (getD ends q 0) = rw add-one (children-stand q k n l c b (t ∷ ts) h) in
+        let s : Stand F kinds ns limits ends (q + 1) (suc (count ts)) (t ∷ ts) (getD ends q 0) = rw add-one (children-stand q k n l c b (t ∷ ts) h) in
         let rest = rest-stand (q + 1) (suc (count ts)) t ts (getD ends q 0) s in
-        let s' : Stand kinds ns limits ends (getD ends (q + 1) 0) (many - 1) ts (getD ends q 0) = rw (← same-count k n l c b (t ∷ ts) h) rest in
+        let s' : Stand F kinds ns limits ends (getD ends (q + 1) 0) (many - 1) ts (getD ends q 0) = rw (← same-count k n l c b (t ∷ ts) h) rest in
         a' d n l c b t ts (omega (arith, enough q k n l (suc (count ts)) (h .held .0))) (same-own k n l c b (t ∷ ts) h)
         (f t (one-stands (q + 1) (suc (count ts)) t ts (getD ends q 0) s))
         (rw (e, kk) at (g ts (getD ends q 0) s'))
@@ -146,7 +146,7 @@ module _ (kinds ns : List ℕ) (limits : List Float) (ends : List ℕ) where
     pub below : q < getD ends q 0
     pub end-fits : getD ends q 0 ≤ 256
 
-  pub inside : (q : ℕ) → Ready kinds ns limits ends q → Inside q
+  pub inside : (q : ℕ) → Ready F kinds ns limits ends q → Inside q
   inside q r =
       let h = ends-after q (r .tree) (r .stands .held) in
       let m = r .room in
@@ -154,24 +154,24 @@ module _ (kinds ns : List ℕ) (limits : List Float) (ends : List ℕ) where
 
   -- ---- a node's children may be worked out
   pub record Children (q many : ℕ) : Type 0 where
-    pub first : Ready kinds ns limits ends (q + 1)
-    pub rest : Readys kinds ns limits ends (getD ends (q + 1) 0) (many - 1)
+    pub first : Ready F kinds ns limits ends (q + 1)
+    pub rest : Readys F kinds ns limits ends (getD ends (q + 1) 0) (many - 1)
     pub inside : q + 1 < getD ends q 0
     pub first-inside : getD ends (q + 1) 0 ≤ getD ends q 0
     pub first-after : q + 1 < getD ends (q + 1) 0
     pub rest-inside : after ends (many - 1) (getD ends (q + 1) 0) ≡ getD ends q 0
 
   pub children-ready :
-      (q : ℕ) (kind : Kind) (many : ℕ) → Ready kinds ns limits ends q →
+      (q : ℕ) (kind : Kind) (many : ℕ) → Ready F kinds ns limits ends q →
       kind ≡ kindOf (getD kinds q 0) → many ≡ children kind (getD ns q 0) → (many ≡ 0 → ⊥) →
       Children q many
   children-ready q kind many r k-is m-is z = go (r .tree) (r .stands)
     where
-      go : (t : Tree) → Stands kinds ns limits ends q t → Children q many
+      go : (t : Tree) → Stands F kinds ns limits ends q t → Children q many
       go (node k n l c b []) h = absurd (z (m-is ∙ rw (k-is, h .held .0 .kind, h .held .0 .number) (sym (h .held .0 .kids))))
       go (node k n l c b (t ∷ ts)) h =
           let m : many ≡ suc (count ts) = m-is ∙ rw (k-is, h .held .0 .kind, h .held .0 .number) (sym (h .held .0 .kids)) in
-          let s : Stand kinds ns limits ends (q + 1) many (t ∷ ts) (getD ends q 0) = rw (add-one, m) (children-stand q k n l c b (t ∷ ts) h) in
+          let s : Stand F kinds ns limits ends (q + 1) many (t ∷ ts) (getD ends q 0) = rw (add-one, m) (children-stand q k n l c b (t ∷ ts) h) in
           let s' = rest-stand (q + 1) many t ts (getD ends q 0) s in
           let one = one-stands (q + 1) many t ts (getD ends q 0) s in
           let up = ends-after (q + 1) t (one .held) in
@@ -190,7 +190,7 @@ module _ (kinds ns : List ℕ) (limits : List Float) (ends : List ℕ) where
     -- what is left of ts, and what has been counted of it
     pub record Left (ts : Forest) (stop at left : ℕ) (all : Ticks) : Type 0 where
       pub trees : Forest
-      pub stand : Stand kinds ns limits ends at left trees stop
+      pub stand : Stand F kinds ns limits ends at left trees stop
       pub later : from ≤ at
       pub sofar : Lim
       pub counted : all ≡ clipped sofar
@@ -198,7 +198,7 @@ module _ (kinds ns : List ℕ) (limits : List Float) (ends : List ℕ) where
 
     pub left-start :
         (all : Ticks) → all ≡ clipped (noneL join) →
-        (ts : Forest) (stop : ℕ) → Stand kinds ns limits ends from count₀ ts stop →
+        (ts : Forest) (stop : ℕ) → Stand F kinds ns limits ends from count₀ ts stop →
         Left ts stop from count₀ all
     left-start all e ts stop s = record { trees = ts; stand = s; later = le-refl from; sofar = noneL join; counted = e; same = refl }
 
@@ -216,7 +216,7 @@ module _ (kinds ns : List ℕ) (limits : List Float) (ends : List ℕ) where
     -- one tree more
     pub left-next :
         (ts : Forest) (stop at left : ℕ) (all one new : Ticks) → 0 < left →
-        ((t : Tree) → Stands kinds ns limits ends at t → one ≡ clipped (bound d t)) →
+        ((t : Tree) → Stands F kinds ns limits ends at t → one ≡ clipped (bound d t)) →
         new ≡ clipped (joinL join (lim all) (lim one)) →
         Left ts stop at left all →
         Left ts stop (getD ends at 0) (left - 1) new
@@ -224,7 +224,7 @@ module _ (kinds ns : List ℕ) (limits : List Float) (ends : List ℕ) where
     left-next ts stop at left all one new p f g h = go (h .trees) (h .stand) (h .same)
       where
         go :
-            (us : Forest) → Stand kinds ns limits ends at left us stop →
+            (us : Forest) → Stand F kinds ns limits ends at left us stop →
             onto join d (h .sofar) us ≡ onto join d (noneL join) ts →
             Left ts stop (getD ends at 0) (left - 1) new
         go [] s e = absurd (none left p (s .are))
@@ -244,14 +244,14 @@ module _ (kinds ns : List ℕ) (limits : List Float) (ends : List ℕ) where
 
     -- the next tree may be worked out
     pub record Next (at : ℕ) : Type 0 where
-      pub ready : Ready kinds ns limits ends at
+      pub ready : Ready F kinds ns limits ends at
       pub inside : getD ends at 0 ≤ after ends count₀ from
       pub later : from ≤ at
 
-    pub left-ready : (at left : ℕ) (all : Ticks) → 0 < left → (r : Readys kinds ns limits ends from count₀) → Left (r .trees) (r .stop) at left all → Next at
+    pub left-ready : (at left : ℕ) (all : Ticks) → 0 < left → (r : Readys F kinds ns limits ends from count₀) → Left (r .trees) (r .stop) at left all → Next at
     left-ready at left all p r h = go (h .trees) (h .stand)
       where
-        go : (us : Forest) → Stand kinds ns limits ends at left us (r .stop) → Next at
+        go : (us : Forest) → Stand F kinds ns limits ends at left us (r .stop) → Next at
         go [] s = absurd (none left p (s .are))
           where
             none : (m : ℕ) → 0 < m → 0 ≡ m → ⊥

@@ -3,7 +3,7 @@ use mathlib.Core.Path.{_≡_}
 use mathlib.Core.Bool.{true}
 use mathlib.Core.List.{List}
 use Prim.Native.Nat.{ℕ, zero, suc, _^_, _≤_}
-use lib.Ieee.{Float, binary64}
+use lib.Ieee.{Float, Format}
 use lib.ListN.{getD, length}
 use Rattle.rules.specs.Tree.{Tree, Forest, count}
 use Rattle.rules.specs.Bound.{boundable, boundables}
@@ -21,16 +21,16 @@ pub record Room (kinds ns : List ℕ) (limits : List Float) (stop : ℕ) : Type 
   pub in-limits : stop ≤ length limits
   pub in-ends : stop ≤ 256
 
-module _ (kinds ns : List ℕ) (limits : List Float) (ends : List ℕ) where
+module _ (F : Format) (kinds ns : List ℕ) (limits : List Float) (ends : List ℕ) where
   -- the tree begins at q
   pub record Stands (q : ℕ) (t : Tree) : Type 0 where
     pub held : At kinds ns limits ends q t
-    pub whole : boundable binary64 t ≡ true
+    pub whole : boundable F t ≡ true
 
   -- so many trees from q to stop
   pub record Stand (q many : ℕ) (ts : Forest) (stop : ℕ) : Type 0 where
     pub held : Ats kinds ns limits ends q ts stop
-    pub whole : boundables binary64 ts ≡ true
+    pub whole : boundables F ts ≡ true
     pub are : count ts ≡ many
 
   pub record Ready (q : ℕ) : Type 0 where

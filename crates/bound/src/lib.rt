@@ -25,8 +25,8 @@ ghost use Rattle.bound.specs.Ready.{Room, Step, Stands, Stand, Ready, Re
 // The ticks of the subtree at a place, from the leaves of the tree upward.
 fn ticks(kinds: &[u8], ns: &[u16], limits: &[f64], ends: &[u16; 256], step: u64, at: usize) -> Ticks
     requires { ⌜ Step step ⌝ }
-    requires { ⌜ Ready (now kinds) (now ns) (now limits) (now ends) at ⌝ }
-    ensures { λ r. ⌜ ((t : Tree) → Stands (now (kinds .entry)) (now (ns .entry)) (now (limits .entry)) (now (ends .entry)) at t → r ≡ clipped (bound step t)) ⌝ }
+    requires { ⌜ Ready binary64 (now kinds) (now ns) (now limits) (now ends) at ⌝ }
+    ensures { λ r. ⌜ ((t : Tree) → Stands binary64 (now (kinds .entry)) (now (ns .entry)) (now (limits .entry)) (now (ends .entry)) at t → r ≡ clipped (bound step t)) ⌝ }
 {
     let kind = Kind::of(kinds[at]);
     let own = own_ticks(limits[at], step);
@@ -61,8 +61,11 @@ fn trees(
     count: u16,
 ) -> Ticks
     requires { ⌜ Step step ⌝ }
-    requires { ⌜ Readys (now kinds) (now ns) (now limits) (now ends) from count ⌝ }
-    ensures { λ r. ⌜ ((ts : Forest) (stop : ℕ) → Stand (now (kinds .entry)) (now (ns .entry)) (now (limits .entry)) (now (ends .entry)) from count ts stop → r ≡ clipped (joined join step ts)) ⌝ }
+    requires { ⌜ Readys binary64 (now kinds) (now ns) (now limits) (now ends) from count ⌝ }
+    ensures { λ r. ⌜
+        ((ts : Forest) (stop : ℕ) → Stand binary64 (now (kinds .entry)) (now (ns .entry)) (now (limits .entry)) (now (ends .entry)) from count ts stop
+        → r ≡ clipped (joined join step ts))
+        ⌝ }
 {
     let mut all = join.none();
     let mut at = from;
@@ -94,7 +97,7 @@ fn all_bounded(kinds: &[u8], ns: &[u16], limits: &[f64], count: usize) -> bool
 
 // The finish bound of a table for a step, or why there is none to tell.
 pub fn finish_bound(kinds: &[u8], ns: &[u16], limits: &[f64], step: f64) -> BoundAnswer
-    ensures { λ r. ⌜ r ≡ boundCall (now (kinds .entry)) (now (ns .entry)) (now (limits .entry)) step ⌝ }
+    ensures { λ r. ⌜ r ≡ boundCall binary64 (now (kinds .entry)) (now (ns .entry)) (now (limits .entry)) step ⌝ }
 {
     let mut ends = [0u16; 256];
     match check_table(kinds, ns, limits, &mut ends) {

@@ -139,7 +139,7 @@ module _ {fresh : Bool} {g : Given} {ws₀ : List ℕ} {n : ℕ} (due : Due fres
   tree = begun fresh n (due .tree) (g .cells')
 
   abbrev outcome : Out Tree
-  outcome = walkWith g tree
+  outcome = walkWith binary64 g tree
 
   sized : (cs : List Cell) → size (withCells (due .tree) cs .0) ≡ n
   sized cs = size-shape (withCells (due .tree) cs .0) (due .tree) (with-shape (due .tree) cs) ∙ due .sized

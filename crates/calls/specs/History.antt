@@ -7,6 +7,7 @@ use mathlib.Core.List
 use Prim.Native.Nat.{ℕ, suc}
 use lib.Dec.{T, leb}
 use lib.ListN.{length}
+use lib.Ieee.{Format}
 use Rattle.rules.specs.declared.answer.Answer.{Answer}
 use Rattle.rules.specs.declared.answer.Answer.the-variants as says
 use Rattle.rules.specs.declared.answer.Record.{Record}
@@ -72,13 +73,13 @@ behind a st = cond (a .fresh) 0 (st .carried)
 abbrev pub afterLeft : ℕ → Standing → Left → Standing
 afterLeft k st l = cond (isTicked (l .answer)) (stands (l .record') (l .cells') (suc k)) st
 
-unfoldable pub after : Standing → Call → Standing
-after st a = afterLeft (behind a st) st (leftBy a)
+unfoldable pub after : Format → Standing → Call → Standing
+after F st a = afterLeft (behind a st) st (leftBy F a)
 
-unfoldable pub afterAll : Standing → List Call → Standing
+unfoldable pub afterAll : Format → Standing → List Call → Standing
 unfolding after
-afterAll st List.[] = st
-afterAll st (List._∷_ a cs) = afterAll (after st a) cs
+afterAll F st List.[] = st
+afterAll F st (List._∷_ a cs) = afterAll F (after F st a) cs
 
 -- ---- a call of the tree t takes up what stands
 -- its table, unless that is refused; a tick the record and, if enough are lent, the cells of the table's nodes too

@@ -6,7 +6,7 @@ use mathlib.Core.List.{List, map, _++_}
 use mathlib.Core.List
 use Prim.Native.Nat.{ℕ, _-_, min}
 use native.Mathlib.Omega.{arith}
-use lib.Ieee.{Float}
+use lib.Ieee.{Float, Format}
 use lib.ListN.{length, take, drop, replicate, length-append, length-take, length-drop, length-replicate}
 use Rattle.rules.specs.declared.status.Status.{Status}
 use Rattle.rules.specs.declared.event.Event.{Event}
@@ -52,7 +52,7 @@ module _ (t : Tree) (since since' : List ℕ) (r : Run) (same : length since ≡
       ap (λ (k : ℕ). run (column timeOf t (drop n (r .times))) (column placeOf t (drop n (r .places))) (column markOf t (drop n (r .marks))) (replicate k 0)) long
 
 -- ---- one call
-module _ (g : Given) where
+module _ (F : Format) (g : Given) where
   -- from each test on, the call and the one without the numbers
   abbrev Same : Left → Left → Type 0
   Same l l' = apart l ≡ apart l'
@@ -107,23 +107,23 @@ module _ (g : Given) where
       by-table (bad p) = refused-alike (BadTable p)
       by-table (good t) = rw (short-alike (size t)) (by-length t (tooShort g (size t)))
 
-  by-finished : (t : Tree) (b : Bool) → Same (cond b (refused g Finished) (walked g t (walkFrom g t))) (cond b (refused (without g) Finished) (walked (without g) t (walkFrom g t)))
+  by-finished : (t : Tree) (b : Bool) → Same (cond b (refused g Finished) (walked g t (walkFrom F g t))) (cond b (refused (without g) Finished) (walked (without g) t (walkFrom F g t)))
   by-finished t true = refused-alike Finished
-  by-finished t false = walked-alike t (walkFrom g t)
+  by-finished t false = walked-alike t (walkFrom F g t)
 
   by-cells : (t : Tree) (f : Found)
-      → Same (elim f [ faulty p ↦ refused g (BadCell p) | none _ ↦ onInputs g (cond (g .record' .finished) (refused g Finished) (walked g t (walkFrom g t))) ])
-      (elim f [ faulty p ↦ refused (without g) (BadCell p) | none _ ↦ onInputs (without g) (cond (g .record' .finished) (refused (without g) Finished) (walked (without g) t (walkFrom g t))) ])
+      → Same (elim f [ faulty p ↦ refused g (BadCell p) | none _ ↦ onInputs g (cond (g .record' .finished) (refused g Finished) (walked g t (walkFrom F g t))) ])
+      (elim f [ faulty p ↦ refused (without g) (BadCell p) | none _ ↦ onInputs (without g) (cond (g .record' .finished) (refused (without g) Finished) (walked (without g) t (walkFrom F g t))) ])
   by-cells t (faulty p) = refused-alike (BadCell p)
   by-cells t (none i) = inputs-alike _ _ (by-finished t (g .record' .finished))
 
-  tick-alike : Same (tickCall g) (tickCall (without g))
+  tick-alike : Same (tickCall F g) (tickCall F (without g))
   unfolding tickCall
   tick-alike = table-alike _ _ λ t. by-cells (atEntry g t) (badCell false false 0 (atEntry g t))
 
-  restart-alike : Same (restartCall g) (restartCall (without g))
+  restart-alike : Same (restartCall F g) (restartCall F (without g))
   unfolding restartCall
-  restart-alike = table-alike _ _ λ t. inputs-alike _ _ (walked-alike (atEntry g t) (walkFrom g (fresh t)))
+  restart-alike = table-alike _ _ λ t. inputs-alike _ _ (walked-alike (atEntry g t) (walkFrom F g (fresh t)))
 
 -- ---- every run of calls, each of which takes up all that the last one left
 -- what a host brings to a call
@@ -143,23 +143,23 @@ callAfter l a = record {
   fresh = a .restarts;
 }
 
-unfoldable pub lefts : Left → List Turn → List Left
-lefts l List.[] = List.[]
-lefts l (List._∷_ a turns) = let next = leftBy (callAfter l a) in List._∷_ next (lefts next turns)
+unfoldable pub lefts : Format → Left → List Turn → List Left
+lefts F l List.[] = List.[]
+lefts F l (List._∷_ a turns) = let next = leftBy F (callAfter l a) in List._∷_ next (lefts F next turns)
 
-call-apart : (l : Left) (a : Turn) → apart (leftBy (callAfter l a)) ≡ apart (leftBy (callAfter (apart l) a))
-call-apart l a = on (callAfter l a .given') (a .restarts)
+call-apart : (F : Format) (l : Left) (a : Turn) → apart (leftBy F (callAfter l a)) ≡ apart (leftBy F (callAfter (apart l) a))
+call-apart F l a = on (callAfter l a .given') (a .restarts)
   where
-    on : (g : Given) (b : Bool) → apart (cond b (restartCall g) (tickCall g)) ≡ apart (cond b (restartCall (without g)) (tickCall (without g)))
-    on g true = restart-alike g
-    on g false = tick-alike g
+    on : (g : Given) (b : Bool) → apart (cond b (restartCall F g) (tickCall F g)) ≡ apart (cond b (restartCall F (without g)) (tickCall F (without g)))
+    on g true = restart-alike F g
+    on g false = tick-alike F g
 
-pub call-alike : (l l' : Left) (a : Turn) → apart l ≡ apart l' → apart (leftBy (callAfter l a)) ≡ apart (leftBy (callAfter l' a))
-call-alike l l' a e = call-apart l a ∙ ap (λ (z : Left). apart (leftBy (callAfter z a))) e ∙ sym (call-apart l' a)
+pub call-alike : (F : Format) (l l' : Left) (a : Turn) → apart l ≡ apart l' → apart (leftBy F (callAfter l a)) ≡ apart (leftBy F (callAfter l' a))
+call-alike F l l' a e = call-apart F l a ∙ ap (λ (z : Left). apart (leftBy F (callAfter z a))) e ∙ sym (call-apart F l' a)
 
-pub runs-alike : (l l' : Left) (turns : List Turn) → apart l ≡ apart l' → map apart (lefts l turns) ≡ map apart (lefts l' turns)
+pub runs-alike : (F : Format) (l l' : Left) (turns : List Turn) → apart l ≡ apart l' → map apart (lefts F l turns) ≡ map apart (lefts F l' turns)
 unfolding lefts
-runs-alike l l' List.[] e = refl
-runs-alike l l' (List._∷_ a turns) e =
-    let next = call-alike l l' a e in
-    λ i. List._∷_ (next i) (runs-alike (leftBy (callAfter l a)) (leftBy (callAfter l' a)) turns next i)
+runs-alike F l l' List.[] e = refl
+runs-alike F l l' (List._∷_ a turns) e =
+    let next = call-alike F l l' a e in
+    λ i. List._∷_ (next i) (runs-alike F (leftBy F (callAfter l a)) (leftBy F (callAfter l' a)) turns next i)

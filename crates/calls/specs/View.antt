@@ -4,6 +4,7 @@ use mathlib.Core.Path.{_≡_, refl, subst}
 use mathlib.Core.Bool.{Bool, true, false, cond}
 use Prim.Native.Nat.{ℕ}
 use lib.Dec.{T}
+use lib.Ieee.{Format}
 use Rattle.rules.specs.declared.answer.Answer.{Answer}
 use Rattle.rules.specs.declared.answer.Answer.the-variants.{Ticked, Asked, Finished, BadTable, TooShort, BadTime, BadAnswer, OutOfFuel, BadCell, NoRoom}
 use Rattle.rules.specs.Tree.{Tree, fresh, size}
@@ -26,8 +27,8 @@ ticks g = record { given' = g; fresh = false }
 abbrev pub restarts : Given → Call
 restarts g = record { given' = g; fresh = true }
 
-abbrev pub leftBy : Call → Left
-leftBy a = cond (a .fresh) (restartCall (a .given')) (tickCall (a .given'))
+abbrev pub leftBy : Format → Call → Left
+leftBy F a = cond (a .fresh) (restartCall F (a .given')) (tickCall F (a .given'))
 
 -- the tree that the cells at entry hold
 abbrev pub heldBy : Tree → Given → Tree
@@ -37,11 +38,11 @@ heldBy t g = held t (g .cells')
 abbrev pub startOf : Tree → Call → Tree
 startOf t a = cond (a .fresh) (fresh t) (heldBy t (a .given'))
 
-abbrev pub walk : Tree → Call → Out Tree
-walk t a = walkFrom (a .given') (startOf t a)
+abbrev pub walk : Format → Tree → Call → Out Tree
+walk F t a = walkFrom F (a .given') (startOf t a)
 
-abbrev pub walkedBy : Tree → Call → Left
-walkedBy t a = walked (a .given') (heldBy t (a .given')) (walk t a)
+abbrev pub walkedBy : Format → Tree → Call → Left
+walkedBy F t a = walked (a .given') (heldBy t (a .given')) (walk F t a)
 
 pub start-shape : (t : Tree) (a : Call) → shape (startOf t a) ≡ shape t
 start-shape t a = on (a .fresh)
@@ -98,66 +99,68 @@ not-walked a BadTime h = tt
 not-walked a (BadAnswer i) h = tt
 not-walked a Finished h = tt
 
-pub data View (a : Call) : Left → Type 0 where
-  walking : (t : Tree) → Walked a t → View a (walkedBy t a)
-  refusing : (b : Answer) → Why a b → View a (refused (a .given') b)
+pub data View (F : Format) (a : Call) : Left → Type 0 where
+  walking : (t : Tree) → Walked a t → View F a (walkedBy F t a)
+  refusing : (b : Answer) → Why a b → View F a (refused (a .given') b)
 
--- ---- the refusals of both
-module _ (a : Call) where
-  abbrev g : Given
-  g = a .given'
+module _ (F : Format) where
+  -- ---- the refusals of both
+  module _ (a : Call) where
+    abbrev g : Given
+    g = a .given'
 
-  on-inputs : (due : Left) → (timeAllowed (g .event) ≡ true → (i : ℕ) → badAnswer 0 (g .statuses) (g .leftovers) ≡ none i → View a due) → View a (onInputs g due)
-  on-inputs due f = by-time (timeAllowed (g .event)) refl
+    on-inputs : (due : Left) → (timeAllowed (g .event) ≡ true → (i : ℕ) → badAnswer 0 (g .statuses) (g .leftovers) ≡ none i → View F a due) → View F a (onInputs g due)
+    on-inputs due f = by-time (timeAllowed (g .event)) refl
+      where
+        by-answers : timeAllowed (g .event) ≡ true → (o : Found) → badAnswer 0 (g .statuses) (g .leftovers) ≡ o
+            → View F a (elim o [ faulty i ↦ refused g (BadAnswer i) | none _ ↦ due ])
+        by-answers time (faulty i) e = refusing (BadAnswer i) e
+        by-answers time (none i) e = f time i e
+
+        by-time : (b : Bool) → timeAllowed (g .event) ≡ b
+            → View F a (cond b (elim (badAnswer 0 (g .statuses) (g .leftovers)) [ faulty i ↦ refused g (BadAnswer i) | none _ ↦ due ]) (refused g BadTime))
+        by-time true e = by-answers e (badAnswer 0 (g .statuses) (g .leftovers)) refl
+        by-time false e = refusing BadTime e
+
+    on-table : (due : Tree → Left) → ((t : Tree) → table (g .kinds) (g .ns) (g .limits) ≡ good t → tooShort g (size t) ≡ false → View F a (due t)) → View F a (onTable g due)
+    on-table due f = by-table (table (g .kinds) (g .ns) (g .limits)) refl
+      where
+        by-length : (t : Tree) → table (g .kinds) (g .ns) (g .limits) ≡ good t → (b : Bool) → tooShort g (size t) ≡ b → View F a (cond b (refused g TooShort) (due t))
+        by-length t e true s = refusing TooShort (t, e, s)
+        by-length t e false s = f t e s
+
+        by-table : (o : Table) → table (g .kinds) (g .ns) (g .limits) ≡ o
+            → View F a (elim o [ bad p ↦ refused g (BadTable p) | good t ↦ cond (tooShort g (size t)) (refused g TooShort) (due t) ])
+        by-table (good t) e = by-length t e (tooShort g (size t)) refl
+        by-table (bad p) e = refusing (BadTable p) e
+
+  -- ---- each call
+  by-finished : (g : Given) (t : Tree) → (g .record' .finished ≡ false → Walked (ticks g) t) → (b : Bool) → g .record' .finished ≡ b
+      → View F (ticks g) (cond b (refused g Finished) (walkedBy F t (ticks g)))
+  by-finished g t w true e = refusing Finished (e, refl)
+  by-finished g t w false e = walking t (w e)
+
+  by-cells : (g : Given) (t : Tree) → table (g .kinds) (g .ns) (g .limits) ≡ good t → tooShort g (size t) ≡ false → (f : Found) → badCell false false 0 (heldBy t g) ≡ f
+      → View F (ticks g) (elim f [
+        | faulty p ↦ refused g (BadCell p)
+        | none _ ↦ onInputs g (cond (g .record' .finished) (refused g Finished) (walkedBy F t (ticks g)))
+      ])
+  by-cells g t e s (faulty p) c = refusing (BadCell p) (t, e, s, c, refl)
+  by-cells g t e s (none at) c = on-inputs (ticks g) _ λ time i ans.
+      by-finished g t (λ unfinished. record { table-good = e; long-enough = s; cells-good = (at, c); time-good = time; answers-good = (i, ans); not-finished = λ e. unfinished })
+      (g .record' .finished) refl
+
+  pub view : (a : Call) → View F a (leftBy F a)
+  unfolding tickCall restartCall
+  view a = on (a .given') (a .fresh)
     where
-      by-answers : timeAllowed (g .event) ≡ true → (o : Found) → badAnswer 0 (g .statuses) (g .leftovers) ≡ o
-          → View a (elim o [ faulty i ↦ refused g (BadAnswer i) | none _ ↦ due ])
-      by-answers time (faulty i) e = refusing (BadAnswer i) e
-      by-answers time (none i) e = f time i e
-
-      by-time : (b : Bool) → timeAllowed (g .event) ≡ b
-          → View a (cond b (elim (badAnswer 0 (g .statuses) (g .leftovers)) [ faulty i ↦ refused g (BadAnswer i) | none _ ↦ due ]) (refused g BadTime))
-      by-time true e = by-answers e (badAnswer 0 (g .statuses) (g .leftovers)) refl
-      by-time false e = refusing BadTime e
-
-  on-table : (due : Tree → Left) → ((t : Tree) → table (g .kinds) (g .ns) (g .limits) ≡ good t → tooShort g (size t) ≡ false → View a (due t)) → View a (onTable g due)
-  on-table due f = by-table (table (g .kinds) (g .ns) (g .limits)) refl
-    where
-      by-length : (t : Tree) → table (g .kinds) (g .ns) (g .limits) ≡ good t → (b : Bool) → tooShort g (size t) ≡ b → View a (cond b (refused g TooShort) (due t))
-      by-length t e true s = refusing TooShort (t, e, s)
-      by-length t e false s = f t e s
-
-      by-table : (o : Table) → table (g .kinds) (g .ns) (g .limits) ≡ o
-          → View a (elim o [ bad p ↦ refused g (BadTable p) | good t ↦ cond (tooShort g (size t)) (refused g TooShort) (due t) ])
-      by-table (good t) e = by-length t e (tooShort g (size t)) refl
-      by-table (bad p) e = refusing (BadTable p) e
-
--- ---- each call
-by-finished : (g : Given) (t : Tree) → (g .record' .finished ≡ false → Walked (ticks g) t) → (b : Bool) → g .record' .finished ≡ b → View (ticks g) (cond b (refused g Finished) (walkedBy t (ticks g)))
-by-finished g t w true e = refusing Finished (e, refl)
-by-finished g t w false e = walking t (w e)
-
-by-cells : (g : Given) (t : Tree) → table (g .kinds) (g .ns) (g .limits) ≡ good t → tooShort g (size t) ≡ false → (f : Found) → badCell false false 0 (heldBy t g) ≡ f
-    → View (ticks g) (elim f [
-      | faulty p ↦ refused g (BadCell p)
-      | none _ ↦ onInputs g (cond (g .record' .finished) (refused g Finished) (walkedBy t (ticks g)))
-    ])
-by-cells g t e s (faulty p) c = refusing (BadCell p) (t, e, s, c, refl)
-by-cells g t e s (none at) c = on-inputs (ticks g) _ λ time i ans.
-    by-finished g t (λ unfinished. record { table-good = e; long-enough = s; cells-good = (at, c); time-good = time; answers-good = (i, ans); not-finished = λ e. unfinished })
-    (g .record' .finished) refl
-
-pub view : (a : Call) → View a (leftBy a)
-unfolding tickCall restartCall
-view a = on (a .given') (a .fresh)
-  where
-    on : (g : Given) (fresh : Bool) → View (record { given' = g; fresh = fresh }) (leftBy (record { given' = g; fresh = fresh }))
-    on g false = on-table (ticks g) _ λ t e s. by-cells g t e s (badCell false false 0 (heldBy t g)) refl
-    on g true = on-table (restarts g) _ λ t e s. on-inputs (restarts g) _ λ time i ans. walking t (record {
-      table-good = e;
-      long-enough = s;
-      cells-good = fresh-fine t false 0;
-      time-good = time;
-      answers-good = (i, ans);
-      not-finished = λ q. absurd (subst T q tt);
-    })
+      on : (g : Given) (fresh : Bool) → View F (record { given' = g; fresh = fresh }) (leftBy F (record { given' = g; fresh = fresh }))
+      on g false = on-table (ticks g) _ λ t e s. by-cells g t e s (badCell false false 0 (heldBy t g)) refl
+      on g true = on-table (restarts g) _ λ t e s. on-inputs (restarts g) _ λ time i ans. walking t (record {
+        table-good = e;
+        long-enough = s;
+        cells-good = fresh-fine t false 0;
+        time-good = time;
+        answers-good = (i, ans);
+        not-finished = λ q. absurd (subst T q tt);
+      })

@@ -2,6 +2,7 @@
 use mathlib.Core.Path.{_≡_, sym, ap, _∙_, subst}
 use mathlib.Core.Bool.{false}
 use lib.Dec.{T}
+use lib.Ieee.{Format}
 use Rattle.rules.specs.declared.answer.Answer.{Answer}
 use Rattle.rules.specs.declared.answer.Answer.the-variants.{Ticked, Asked, Finished, BadTable, TooShort, BadTime, BadAnswer, OutOfFuel, BadCell, NoRoom}
 use Rattle.rules.specs.Tree.{Tree, size}
@@ -36,9 +37,9 @@ clash a t BadTime w y = subst T (sym (w .time-good) ∙ y) tt
 clash a t (BadAnswer i) w y = subst IsNone (sym (w .answers-good .1) ∙ y) tt
 clash a t Finished w y = subst T (sym (y .0) ∙ w .not-finished (y .1)) tt
 
-pub walks : (a : Call) (t : Tree) → Walked a t → leftBy a ≡ walkedBy t a
-walks a t w = on (leftBy a) (view a)
+pub walks : (F : Format) (a : Call) (t : Tree) → Walked a t → leftBy F a ≡ walkedBy F t a
+walks F a t w = on (leftBy F a) (view F a)
   where
-    on : (l : Left) → View a l → l ≡ walkedBy t a
+    on : (l : Left) → View F a l → l ≡ walkedBy F t a
     on l (refusing b y) = absurd (clash a t b w y)
-    on l (walking u v) = ap (λ (z : Tree). walkedBy z a) (the-tree a t w u (v .table-good))
+    on l (walking u v) = ap (λ (z : Tree). walkedBy F z a) (the-tree a t w u (v .table-good))

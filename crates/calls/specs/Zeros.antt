@@ -4,7 +4,7 @@ use mathlib.Core.Bool.{Bool, true, false, cond}
 use mathlib.Core.List.{List, map}
 use mathlib.Core.List
 use Prim.Native.Nat.{ℕ, zero, suc, _-_}
-use lib.Ieee.{Float, nan, inf, fin, binary64}
+use lib.Ieee.{Float, Format, nan, inf, fin}
 use lib.ListN.{length}
 use Rattle.rules.specs.declared.event.Event.{Event}
 use Rattle.rules.specs.declared.event.Event.the-variants.{Update, Other}
@@ -82,13 +82,13 @@ bad-twice i (List._∷_ s ss) (List._∷_ l ls) = rw (twice l) (ap (λ (o : Foun
 
 -- ---- calls that differ in nothing that is used
 -- what is due of a tick once its cells are looked at
-abbrev CellsDue : Given → Tree → Found → Left
-CellsDue g t f = elim f [
+abbrev CellsDue : Format → Given → Tree → Found → Left
+CellsDue F g t f = elim f [
   | faulty p ↦ refused g (BadCell p)
-  | none _ ↦ onInputs g (cond (g .record' .finished) (refused g Finished) (walked g t (walkFrom g t)))
+  | none _ ↦ onInputs g (cond (g .record' .finished) (refused g Finished) (walked g t (walkFrom F g t)))
 ]
 
-module _ (g : Given) (e : Event) (ls xs : List Float)
+module _ (F : Format) (g : Given) (e : Event) (ls xs : List Float)
     (tables : table (g .kinds) (g .ns) ls ≡ table (g .kinds) (g .ns) (g .limits))
     (events : cleanedEvent e ≡ cleanedEvent (g .event))
     (allowed : timeAllowed e ≡ timeAllowed (g .event))
@@ -100,8 +100,8 @@ module _ (g : Given) (e : Event) (ls xs : List Float)
   walked-alike t (asks n x) = refl
   walked-alike t short = refl
 
-  walk-alike : (t u : Tree) → walked (lending g e ls xs) t (walkFrom (lending g e ls xs) u) ≡ walked g t (walkFrom g u)
-  walk-alike t u = walked-alike t (walkFrom (lending g e ls xs) u) ∙ λ i. walked g t (tick binary64 mostDeep u (events i) (world (g .fuel) (lent i)))
+  walk-alike : (t u : Tree) → walked (lending g e ls xs) t (walkFrom F (lending g e ls xs) u) ≡ walked g t (walkFrom F g u)
+  walk-alike t u = walked-alike t (walkFrom F (lending g e ls xs) u) ∙ λ i. walked g t (tick F mostDeep u (events i) (world (g .fuel) (lent i)))
 
   inputs-alike : (l l' : Left) → l ≡ l' → onInputs (lending g e ls xs) l ≡ onInputs g l'
   inputs-alike l l' same = λ i. cond (allowed i)
@@ -117,35 +117,35 @@ module _ (g : Given) (e : Event) (ls xs : List Float)
     | good t ↦ cond (tooShort g (size t)) (refused g TooShort) (same t i)
   ]
 
-  cells-alike : (t : Tree) (f : Found) → CellsDue (lending g e ls xs) t f ≡ CellsDue g t f
+  cells-alike : (t : Tree) (f : Found) → CellsDue F (lending g e ls xs) t f ≡ CellsDue F g t f
   cells-alike t (faulty p) = refl
   cells-alike t (none i) = inputs-alike _ _ (ap (λ (l : Left). cond (g .record' .finished) (refused g Finished) l) (walk-alike t t))
 
-  pub ticks-alike : tickCall (lending g e ls xs) ≡ tickCall g
+  pub ticks-alike : tickCall F (lending g e ls xs) ≡ tickCall F g
   unfolding tickCall
   ticks-alike = table-alike _ _ (λ t. cells-alike (atEntry g t) (badCell false false 0 (atEntry g t)))
 
-  pub restarts-alike : restartCall (lending g e ls xs) ≡ restartCall g
+  pub restarts-alike : restartCall F (lending g e ls xs) ≡ restartCall F g
   unfolding restartCall
   restarts-alike = table-alike _ _ (λ t. inputs-alike _ _ (walk-alike (atEntry g t) (fresh t)))
 
 -- ---- a tick, a restart and a bound
-pub same-tick : (g : Given) → tickCall (cleanedCall g) ≡ tickCall g
-same-tick g = ticks-alike g (cleanedEvent (g .event)) (map cleaned (g .limits)) (map cleaned (g .leftovers)) (table-twice (g .kinds) (g .ns) (g .limits))
+pub same-tick : (F : Format) (g : Given) → tickCall F (cleanedCall g) ≡ tickCall F g
+same-tick F g = ticks-alike F g (cleanedEvent (g .event)) (map cleaned (g .limits)) (map cleaned (g .leftovers)) (table-twice (g .kinds) (g .ns) (g .limits))
     (event-twice (g .event)) (time-twice (g .event)) (answers-twice (g .statuses) (g .leftovers)) (bad-twice 0 (g .statuses) (g .leftovers))
 
-pub same-restart : (g : Given) → restartCall (cleanedCall g) ≡ restartCall g
-same-restart g = restarts-alike g (cleanedEvent (g .event)) (map cleaned (g .limits)) (map cleaned (g .leftovers)) (table-twice (g .kinds) (g .ns) (g .limits))
+pub same-restart : (F : Format) (g : Given) → restartCall F (cleanedCall g) ≡ restartCall F g
+same-restart F g = restarts-alike F g (cleanedEvent (g .event)) (map cleaned (g .limits)) (map cleaned (g .leftovers)) (table-twice (g .kinds) (g .ns) (g .limits))
     (event-twice (g .event)) (time-twice (g .event)) (answers-twice (g .statuses) (g .leftovers)) (bad-twice 0 (g .statuses) (g .leftovers))
 
-pub same-bound : (kinds ns : List ℕ) (limits : List Float) (d : Float) → boundCall kinds ns (map cleaned limits) d ≡ boundCall kinds ns limits d
+pub same-bound : (F : Format) (kinds ns : List ℕ) (limits : List Float) (d : Float) → boundCall F kinds ns (map cleaned limits) d ≡ boundCall F kinds ns limits d
 unfolding boundCall
-same-bound kinds ns limits d = rw (boundCall, table-twice kinds ns limits)
+same-bound F kinds ns limits d = rw (boundCall, table-twice kinds ns limits)
 
 -- with the event alone cleaned
-pub same-event : (fresh : Bool) (g : Given) → cond fresh restartCall tickCall (withEvent (cleanedEvent (g .event)) g) ≡ cond fresh restartCall tickCall g
-same-event true g = restarts-alike g (cleanedEvent (g .event)) (g .limits) (g .leftovers) refl (event-twice (g .event)) (time-twice (g .event)) refl refl
-same-event false g = ticks-alike g (cleanedEvent (g .event)) (g .limits) (g .leftovers) refl (event-twice (g .event)) (time-twice (g .event)) refl refl
+pub same-event : (F : Format) (fresh : Bool) (g : Given) → cond fresh (restartCall F) (tickCall F) (withEvent (cleanedEvent (g .event)) g) ≡ cond fresh (restartCall F) (tickCall F) g
+same-event F true g = restarts-alike F g (cleanedEvent (g .event)) (g .limits) (g .leftovers) refl (event-twice (g .event)) (time-twice (g .event)) refl refl
+same-event F false g = ticks-alike F g (cleanedEvent (g .event)) (g .limits) (g .leftovers) refl (event-twice (g .event)) (time-twice (g .event)) refl refl
 
 pub same-walk : (g : Given) (e : Event) (t : Tree) (o : Out Tree) → walked (withEvent e g) t o ≡ walked g t o
 same-walk g e t (done s r t' (world f ans)) = refl

@@ -77,7 +77,7 @@ fn down(
 ) -> Stand
     requires { ⌜ Held (stand .deep) (stand .level) (levels (now opens) (now counts) (now wholes) (now rests)) ⌝ }
     ensures { λ r. ⌜
-        Downs (lent (now (now (limits .entry))) (now (now (statuses .entry))) (now (now (leftovers .entry))))
+        Downs binary64 (lent (now (now (limits .entry))) (now (now (statuses .entry))) (now (now (leftovers .entry))))
         (stand .deep) (stand .level) (stand .left)
         (levels (now (opens .entry)) (now (counts .entry)) (now (wholes .entry)) (now (rests .entry))) (now (work .entry)) (now (times .entry))
         (r .deep) (r .level) (r .seen) (r .left)
@@ -154,7 +154,7 @@ fn up(
 ) -> Stand
     requires { ⌜ Held (stand .deep) (stand .level) (levels (now opens) (now counts) (now wholes) (now rests)) ⌝ }
     ensures { λ r. ⌜
-        Ups (lent (now (now (limits .entry))) (now (now (statuses .entry))) (now (now (leftovers .entry))))
+        Ups binary64 (lent (now (now (limits .entry))) (now (now (statuses .entry))) (now (now (leftovers .entry))))
         (levels (now (opens .entry)) (now (counts .entry)) (now (wholes .entry)) (now (rests .entry)))
         (stand .deep) (stand .level) (stand .seen) (stand .left) (now (work .entry)) (now (times .entry))
         (r .due) (r .deep) (r .level) (r .seen) (r .left) (now (work .exit)) (now (times .exit))

@@ -16,6 +16,7 @@ use work::kind_of;
 ghost use mathlib.Core.Path.{_≡_};
 ghost use mathlib.Core.Bool.{true};
 ghost use Prim.Native.Nat.{ℕ, _<_, _≤_};
+ghost use lib.Ieee.{binary64};
 ghost use lib.ListN.{length, getD};
 ghost use Rattle.rules.specs.Levels.{levels};
 ghost use Rattle.engine.specs.Stands.{nodeAs, decoratorLevel, Held};
@@ -63,7 +64,7 @@ pub fn open_decorators(
     requires { ⌜ 0 < deep ⌝ }
     requires { ⌜ Held deep (decoratorAt (now work) p dt) (levels (now opens) (now counts) (now wholes) (now rests)) ⌝ }
     ensures { λ r. ⌜
-        Opens deep p dt (levels (now (opens .entry)) (now (counts .entry)) (now (wholes .entry)) (now (rests .entry))) (now (work .entry))
+        Opens binary64 deep p dt (levels (now (opens .entry)) (now (counts .entry)) (now (wholes .entry)) (now (rests .entry))) (now (work .entry))
         r (levels (now (opens .exit)) (now (counts .exit)) (now (wholes .exit)) (now (rests .exit))) (now (work .exit))
         ⌝ }
 {
@@ -102,7 +103,7 @@ pub fn close_decorators(
     requires { ⌜ (deep ≤ 16) × (deep ≤ length (now opens)) × (deep ≤ length (now wholes)) ⌝ }
     requires { ⌜ ((j : ℕ) → j < deep → nodeAs (getD (now opens) j 0) < 256) ⌝ }
     ensures { λ r. ⌜
-        Closes (now (now (limits .entry))) (now (opens .entry)) (now (wholes .entry))
+        Closes binary64 (now (now (limits .entry))) (now (opens .entry)) (now (wholes .entry))
         deep (result .seen) (result .left) (now (work .entry)) (now (times .entry))
         (r .deep) (r .seen) (r .left) (now (work .exit)) (now (times .exit))
         ⌝ }

@@ -5,7 +5,7 @@ use mathlib.Core.Bool.{false}
 use mathlib.Core.List.{List}
 use Prim.Native.Nat.{ℕ}
 use lib.Dec.{T}
-use lib.Ieee.{Float, binary64}
+use lib.Ieee.{Float, Format}
 use Rattle.rules.specs.declared.answer.Record.{Record}
 use Rattle.rules.specs.Tree.{Tree, fresh, size}
 use Rattle.rules.specs.Table.{good, table}
@@ -30,16 +30,17 @@ use Rattle.finish.specs.Public.{FinishesBy, finishes-from}
 use Rattle.finish.specs.Exchanges.{exchange-valid}
 
 -- ---- a state stays a state
-module _ (g : GivenExchange) (w : Passed g) where
-  abbrev pub resultTree : Tree
-  resultTree = resultOf g (w .tree) (w .branch)
+abbrev pub resultTree : (g : GivenExchange) → Passed g → Tree
+resultTree g w = resultOf g (w .tree) (w .branch)
 
-  pub exchange-state : StateIn (w .tree) (g .cells') → StateIn (renewed resultTree) (runIn (exchangeCall g .room'))
+module _ (F : Format) (g : GivenExchange) (w : Passed g) where
+  pub exchange-state : StateIn F (w .tree) (g .cells') → StateIn F (renewed (resultTree g w)) (runIn (exchangeCall g .room'))
   exchange-state v =
+      let result = resultTree g w in
       let all = sound-with (w .tree) _ (sound (g .kinds) (g .ns) (g .limits) (w .tree) (w .is)) in
-      let state : State binary64 (renewed resultTree) resultTree =
-      (sym (clear-shape (fresh resultTree) ∙ fresh-shape resultTree), exchange-valid binary64 (w .branch) (held (w .tree) (g .cells')) (g .place) all (v .1) (w .spot)) in
-      subst (State binary64 (renewed resultTree)) (sym (holds g w)) state
+      let state : State F (renewed result) result =
+      (sym (clear-shape (fresh result) ∙ fresh-shape result), exchange-valid F (w .branch) (held (w .tree) (g .cells')) (g .place) all (v .1) (w .spot)) in
+      subst (State F (renewed result)) (sym (holds g w)) state
 
 -- ---- how a tree came to stand
 -- an exchange takes up what stands of the tree t
@@ -48,76 +49,77 @@ pub record TakesUp (t : Tree) (st : Standing) (g : GivenExchange) : Type 0 where
   pub the-record : g .record' ≡ st .record'
   pub the-cells : firstCells (size t) (g .cells') ≡ firstCells (size t) (st .cells')
 
-pub data Came : Tree → Standing → Type 0 where
-  started : (kinds ns : List ℕ) (limits : List Float) (t : Tree) (r : Record) (c : Run) → table kinds ns limits ≡ good t → T (boundable binary64 t) → r .finished ≡ false
-      → FreshCells t c → Came t (stands r c 0)
-  restarted : (kinds ns : List ℕ) (limits : List Float) (t : Tree) (st : Standing) (g : Given) → table kinds ns limits ≡ good t → T (boundable binary64 t)
-      → T (isTicked (restartCall g .answer)) → Asked (WholeTick t 0) st (restarts g) → after st (restarts g) .record' .finished ≡ false → Came t (after st (restarts g))
-  ticked : {t : Tree} {st : Standing} → Came t st → T (boundable binary64 t) → (cs : List Call) → WholeHistory t 0 st cs → afterAll st cs .record' .finished ≡ false
-      → Came t (afterAll st cs)
-  exchanged : {t : Tree} {st : Standing} → Came t st → (g : GivenExchange) → TakesUp t st g → (w : Passed g)
-      → Came (renewed (resultTree g w)) (stands (st .record') (runIn (exchangeCall g .room')) 0)
+pub data Came (F : Format) : Tree → Standing → Type 0 where
+  started : (kinds ns : List ℕ) (limits : List Float) (t : Tree) (r : Record) (c : Run) → table kinds ns limits ≡ good t → T (boundable F t) → r .finished ≡ false
+      → FreshCells t c → Came F t (stands r c 0)
+  restarted : (kinds ns : List ℕ) (limits : List Float) (t : Tree) (st : Standing) (g : Given) → table kinds ns limits ≡ good t → T (boundable F t)
+      → T (isTicked (restartCall F g .answer)) → Asked F (WholeTick F t 0) st (restarts g) → after F st (restarts g) .record' .finished ≡ false → Came F t (after F st (restarts g))
+  ticked : {t : Tree} {st : Standing} → Came F t st → T (boundable F t) → (cs : List Call) → WholeHistory F t 0 st cs → afterAll F st cs .record' .finished ≡ false
+      → Came F t (afterAll F st cs)
+  exchanged : {t : Tree} {st : Standing} → Came F t st → (g : GivenExchange) → TakesUp t st g → (w : Passed g)
+      → Came F (renewed (resultTree g w)) (stands (st .record') (runIn (exchangeCall g .room')) 0)
 
-record Stood (t : Tree) (st : Standing) : Type 0 where
+record Stood (F : Format) (t : Tree) (st : Standing) : Type 0 where
   kinds : List ℕ
   ns : List ℕ
   limits : List Float
   is : table kinds ns limits ≡ good t
   unfinished : st .record' .finished ≡ false
-  a-state : StateIn t (st .cells')
+  a-state : StateIn F t (st .cells')
 
-stood : {t : Tree} {st : Standing} → Came t st → Stood t st
-stood (started kinds ns limits t r c e b u f) = record {
+stood : (F : Format) {t : Tree} {st : Standing} → Came F t st → Stood F t st
+stood F (started kinds ns limits t r c e b u f) = record {
   kinds = kinds;
   ns = ns;
   limits = limits;
   is = e;
   unfinished = u;
-  a-state = rw (fresh-held kinds ns limits t c e f) (new-state kinds ns limits t e b);
+  a-state = rw (fresh-held kinds ns limits t c e f) (new-state F kinds ns limits t e b);
 }
-stood (restarted kinds ns limits t st g e b y h u) = record {
+stood F (restarted kinds ns limits t st g e b y h u) = record {
   kinds = kinds;
   ns = ns;
   limits = limits;
   is = e;
   unfinished = u;
-  a-state = state-restarted kinds ns limits t e b st g y h u;
+  a-state = state-restarted F kinds ns limits t e b st g y h u;
 }
-stood (ticked {t} {st} p b cs whole u) =
-    let s = stood p in
+stood F (ticked {t} {st} p b cs whole u) =
+    let s = stood F p in
     record {
       kinds = s .kinds;
       ns = s .ns;
       limits = s .limits;
       is = s .is;
       unfinished = u;
-      a-state = states (s .kinds) (s .ns) (s .limits) t (s .is) b st (s .unfinished) (s .a-state) cs whole u;
+      a-state = states F (s .kinds) (s .ns) (s .limits) t (s .is) b st (s .unfinished) (s .a-state) cs whole u;
     }
-stood (exchanged {t} {st} p g up w) =
-    let s = stood p in
+stood F (exchanged {t} {st} p g up w) =
+    let s = stood F p in
     let same : w .tree ≡ t = up .the-table (w .tree) (w .is) in
     let old : held t (g .cells') ≡ held t (st .cells') = held-first t (g .cells') (st .cells') (up .the-cells) in
-    let before : StateIn t (g .cells') = rw old (s .a-state) in
+    let before : StateIn F t (g .cells') = rw old (s .a-state) in
     record {
       kinds = _;
       ns = _;
       limits = _;
       is = reads g w;
       unfinished = s .unfinished;
-      a-state = exchange-state g w (rw same before);
+      a-state = exchange-state F g w (rw same before);
     }
 
 -- ---- the tree has finished at or before the N-th tick from there on
 pub finishes-still :
+    (F : Format)
     {t : Tree} {st : Standing}
-    (came : Came t st)
+    (came : Came F t st)
     (kinds ns : List ℕ) (limits : List Float)
     (the-table : table kinds ns limits ≡ good t)
     (step : Float) (N : ℕ)
-    (the-bound : FinishBound kinds ns limits t step N)
+    (the-bound : FinishBound F kinds ns limits t step N)
     (cs : List Call)
-    (whole : WholeHistory t (num step) (stands (st .record') (st .cells') 0) cs)
-    → FinishesBy N (afterAll (stands (st .record') (st .cells') 0) cs)
-finishes-still {t} {st} came kinds ns limits e step N b cs whole =
-    let s = stood came in
-    finishes-from kinds ns limits t e step N b (st .record') (s .unfinished) (st .cells') (s .a-state) cs whole
+    (whole : WholeHistory F t (num step) (stands (st .record') (st .cells') 0) cs)
+    → FinishesBy N (afterAll F (stands (st .record') (st .cells') 0) cs)
+finishes-still F {t} {st} came kinds ns limits e step N b cs whole =
+    let s = stood F came in
+    finishes-from F kinds ns limits t e step N b (st .record') (s .unfinished) (st .cells') (s .a-state) cs whole

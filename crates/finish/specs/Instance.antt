@@ -1,4 +1,4 @@
--- A worked instance: Timeout(2, Action) with d = 1, each tick lent the answers (Running, 0) and (Running, 0.5). The second is not used, so it need
+-- A worked instance in f64: Timeout(2, Action) with d = 1, each tick lent the answers (Running, 0) and (Running, 0.5). The second is not used, so it need
 -- not be whole, and the tree gives up at the second tick.
 use mathlib.Core.Path.{_≡_, refl}
 use mathlib.Core.Bool.{true, false}
@@ -6,7 +6,7 @@ use mathlib.Core.List.{List, [], _∷_}
 use Prim.Native.Nat.{ℕ}
 use native.Mathlib.Omega.{arith}
 use lib.IntN.{pos, negsuc}
-use lib.Ieee.{Float, fin, toUnsigned, whole}
+use lib.Ieee.{Float, binary64, fin, toUnsigned, whole}
 use Rattle.rules.specs.declared.event.Event.the-variants.{Update}
 use Rattle.rules.specs.declared.answer.Record.{Record}
 use Rattle.rules.specs.declared.behavior.Kind.the-variants.{Action, Timeout}
@@ -59,13 +59,13 @@ abbrev first : Given
 first = tickOf fresh zeros
 
 abbrev second : Given
-second = tickOf (tickCall first .record') (tickCall first .cells')
+second = tickOf (tickCall binary64 first .record') (tickCall binary64 first .cells')
 
 abbrev both : List Call
 both = ticks first ∷ ticks second ∷ []
 
 -- a tick takes up what stands, and is whole as far as its answers are used
-covered : WholeHistory tree 1 (stands fresh zeros 0) both
+covered : WholeHistory binary64 tree 1 (stands fresh zeros 0) both
 unfolding tickCall afterAll wholeTime num toUnsigned whole kindOf size column
 covered = (
   record {
@@ -83,11 +83,11 @@ covered = (
   ),
 )
 
-pub gives-up : FinishesBy 2 (afterAll (stands fresh zeros 0) both)
+pub gives-up : FinishesBy 2 (afterAll binary64 (stands fresh zeros 0) both)
 unfolding boundCall num toUnsigned whole kindOf size cells
-gives-up = finishes kinds ns limits tree refl one 2 (is-told refl) fresh refl zeros (refl, (refl, tt)) both covered
+gives-up = finishes binary64 kinds ns limits tree refl one 2 (is-told refl) fresh refl zeros (refl, (refl, tt)) both covered
 
 -- and it takes both ticks
-pub at-the-second : (afterAll (stands fresh zeros 0) both .record' .finished ≡ true) × (afterAll (stands fresh zeros 0) both .carried ≡ 2)
+pub at-the-second : (afterAll binary64 (stands fresh zeros 0) both .record' .finished ≡ true) × (afterAll binary64 (stands fresh zeros 0) both .carried ≡ 2)
 unfolding tickCall afterAll kindOf size column
 at-the-second = (refl, refl)

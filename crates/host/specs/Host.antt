@@ -3,6 +3,7 @@ use mathlib.Core.Bool.{Bool, cond}
 use mathlib.Core.List.{List}
 use Prim.Native.Nat.{ℕ}
 use lib.Dec.{leb}
+use lib.Ieee.{binary64}
 use Rattle.rules.specs.declared.answer.Record.{Record}
 use Rattle.rules.specs.declared.answer.Said.{Said}
 use Rattle.rules.specs.declared.exchanged.ExchangeSaid.{ExchangeSaid}
@@ -29,10 +30,10 @@ abbrev pub told : Left → HostLeft
 told l = hostLeft (saidOf (l .answer)) (l .record') (l .cells') (l .spare) (l .board)
 
 unfoldable pub hostTick : Given → HostLeft
-hostTick g = told (tickCall g)
+hostTick g = told (tickCall binary64 g)
 
 unfoldable pub hostRestart : Given → HostLeft
-hostRestart g = told (restartCall g)
+hostRestart g = told (restartCall binary64 g)
 
 -- what a call without recursion leaves
 pub record HostFlatLeft : Type 0 where
@@ -46,10 +47,10 @@ abbrev pub toldFlat : FlatLeft → HostFlatLeft
 toldFlat l = record { host = told (l .left'); levels' = l .levels' }
 
 unfoldable pub hostTickFlat : Given → Levels → HostFlatLeft
-hostTickFlat g r = toldFlat (tickFlat g r)
+hostTickFlat g r = toldFlat (tickFlat binary64 g r)
 
 unfoldable pub hostRestartFlat : Given → Levels → HostFlatLeft
-hostRestartFlat g r = toldFlat (restartFlat g r)
+hostRestartFlat g r = toldFlat (restartFlat binary64 g r)
 
 -- what an exchange leaves
 pub record HostExchanged : Type 0 where

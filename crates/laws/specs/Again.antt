@@ -8,7 +8,7 @@ use native.Mathlib.Nat.{add-zero}
 use native.Mathlib.Omega.{arith}
 use lib.Dec.{T}
 use lib.ListN.{length, length-append}
-use lib.Ieee.{Float, binary64}
+use lib.Ieee.{Float, Format}
 use Rattle.rules.specs.declared.answer.Answer.{Answer}
 use Rattle.rules.specs.declared.answer.Answer.the-variants.{Ticked, Asked, Finished, BadTable, TooShort, BadTime, BadAnswer, OutOfFuel, BadCell, NoRoom}
 use Rattle.rules.specs.Tree.{Tree}
@@ -45,7 +45,7 @@ again k ss ls g = record {
 abbrev pub againBy : ℕ → List ℕ → List Float → Call → Call
 againBy k ss ls a = record { given' = again k ss ls (a .given'); fresh = a .fresh }
 
-module _ (a : Call) (k : ℕ) (ss : List ℕ) (ls : List Float) (even : Paired (a .given' .statuses) (a .given' .leftovers)) (i j : ℕ) (allowed : badAnswer i ss ls ≡ none j) where
+module _ (F : Format) (a : Call) (k : ℕ) (ss : List ℕ) (ls : List Float) (even : Paired (a .given' .statuses) (a .given' .leftovers)) (i j : ℕ) (allowed : badAnswer i ss ls ≡ none j) where
   abbrev g : Given
   g = a .given'
 
@@ -61,8 +61,8 @@ module _ (a : Call) (k : ℕ) (ss : List ℕ) (ls : List Float) (even : Paired (
     not-finished = w .not-finished;
   }
 
-  walk-again : (t : Tree) → walk t (againBy k ss ls a) ≡ tick binary64 mostDeep (startOf t a) (cleanedEvent (g .event)) (world (g .fuel + k) (answers (g .statuses) (g .leftovers) ++ answers ss ls))
-  walk-again t = ap (λ (z : Answers). tick binary64 mostDeep (startOf t a) (cleanedEvent (g .event)) (world (g .fuel + k) z)) (answers-append (g .statuses) ss (g .leftovers) ls even)
+  walk-again : (t : Tree) → walk F t (againBy k ss ls a) ≡ tick F mostDeep (startOf t a) (cleanedEvent (g .event)) (world (g .fuel + k) (answers (g .statuses) (g .leftovers) ++ answers ss ls))
+  walk-again t = ap (λ (z : Answers). tick F mostDeep (startOf t a) (cleanedEvent (g .event)) (world (g .fuel + k) z)) (answers-append (g .statuses) ss (g .leftovers) ls even)
 
   visits : (a b : ℕ) → a + k - (b + k) ≡ a - b
   visits a b = omega arith
@@ -84,16 +84,16 @@ module _ (a : Call) (k : ℕ) (ss : List ℕ) (ls : List Float) (even : Paired (
   left-again t short o' h a = absurd a
 
   -- answered 0: the same again, in all that it says and leaves
-  pub same-again : T (isTicked (leftBy a .answer)) → leftBy (againBy k ss ls a) ≡ leftBy a
-  same-again h = on (leftBy a) (view a) h
+  pub same-again : T (isTicked (leftBy F a .answer)) → leftBy F (againBy k ss ls a) ≡ leftBy F a
+  same-again h = on (leftBy F a) (view F a) h
     where
-      on : (l : Left) → View a l → T (isTicked (l .answer)) → leftBy (againBy k ss ls a) ≡ l
+      on : (l : Left) → View F a l → T (isTicked (l .answer)) → leftBy F (againBy k ss ls a) ≡ l
       on l (refusing b y) h = absurd (subst T (not-ticked b (not-walked a b y)) h)
       on l (walking t w) h =
-          walks (againBy k ss ls a) t (walked-again t w)
+          walks F (againBy k ss ls a) t (walked-again t w)
           ∙ ap (λ (u : Out Tree). walked (again k ss ls g) (heldBy t g) u) (walk-again t)
-          ∙ left-again (heldBy t g) (walk t a) (tick binary64 mostDeep (startOf t a) (cleanedEvent (g .event)) (world (g .fuel + k) (answers (g .statuses) (g .leftovers) ++ answers ss ls)))
-          (tick-more k (answers ss ls) binary64 mostDeep (startOf t a) (cleanedEvent (g .event)) (g .fuel) (answers (g .statuses) (g .leftovers))) h
+          ∙ left-again (heldBy t g) (walk F t a) (tick F mostDeep (startOf t a) (cleanedEvent (g .event)) (world (g .fuel + k) (answers (g .statuses) (g .leftovers) ++ answers ss ls)))
+          (tick-more k (answers ss ls) F mostDeep (startOf t a) (cleanedEvent (g .event)) (g .fuel) (answers (g .statuses) (g .leftovers))) h
 
 -- ---- one answer more
 -- all answers lent were used, or a next question is asked, or the fuel is used up; no refusal
@@ -127,7 +127,7 @@ no-more used left e = zero-of (length used) (length left) (ap length e ∙ lengt
     zero-of : (a b : ℕ) → 0 ≡ a + b → b ≡ 0
     zero-of a b q = omega arith
 
-module _ (a : Call) (s : ℕ) (l : Float) (even : Paired (a .given' .statuses) (a .given' .leftovers)) (allowed : T (answerAllowed s l)) where
+module _ (F : Format) (a : Call) (s : ℕ) (l : Float) (even : Paired (a .given' .statuses) (a .given' .leftovers)) (allowed : T (answerAllowed s l)) where
   abbrev pub one : Call
   one = againBy 0 (List._∷_ s List.[]) (List._∷_ l List.[]) a
 
@@ -137,7 +137,7 @@ module _ (a : Call) (s : ℕ) (l : Float) (even : Paired (a .given' .statuses) (
   one-allowed : (j : ℕ) × (badAnswer 0 (List._∷_ s List.[]) (List._∷_ l List.[]) ≡ none j)
   one-allowed = none-if 0 (List._∷_ s List.[]) (List._∷_ l List.[]) (allowed, tt)
 
-  all-used : (t : Tree) (o o' : Out Tree) → Answered (statusOf s, cleaned l) List.[] binary64 o o' → isAsked (walked g' t o .answer)
+  all-used : (t : Tree) (o o' : Out Tree) → Answered (statusOf s, cleaned l) List.[] F o o' → isAsked (walked g' t o .answer)
       → Progress (suc (length (answers (g' .statuses) (g' .leftovers)))) (walked (one .given') t o' .answer)
   unfolding answers
   all-used t (done s' r t' (world f ans)) o' h a = absurd a
@@ -153,11 +153,11 @@ module _ (a : Call) (s : ℕ) (l : Float) (even : Paired (a .given' .statuses) (
           → length (answers (g' .statuses ++ List._∷_ s List.[]) (g' .leftovers ++ List._∷_ l List.[])) - 0 ≡ suc n
       count n q = omega arith
 
-  walk-one : (t : Tree) → walk t one
-      ≡ tick binary64 mostDeep (startOf t a) (cleanedEvent (g' .event)) (world (g' .fuel) (answers (g' .statuses) (g' .leftovers) ++ List._∷_ (statusOf s, cleaned l) List.[]))
+  walk-one : (t : Tree) → walk F t one
+      ≡ tick F mostDeep (startOf t a) (cleanedEvent (g' .event)) (world (g' .fuel) (answers (g' .statuses) (g' .leftovers) ++ List._∷_ (statusOf s, cleaned l) List.[]))
   unfolding answers
-  walk-one t = walk-again a 0 (List._∷_ s List.[]) (List._∷_ l List.[]) even 0 (one-allowed .0) (one-allowed .1) t
-      ∙ ap (λ (f : ℕ). tick binary64 mostDeep (startOf t a) (cleanedEvent (g' .event)) (world f (answers (g' .statuses) (g' .leftovers) ++ List._∷_ (statusOf s, cleaned l) List.[])))
+  walk-one t = walk-again F a 0 (List._∷_ s List.[]) (List._∷_ l List.[]) even 0 (one-allowed .0) (one-allowed .1) t
+      ∙ ap (λ (f : ℕ). tick F mostDeep (startOf t a) (cleanedEvent (g' .event)) (world f (answers (g' .statuses) (g' .leftovers) ++ List._∷_ (statusOf s, cleaned l) List.[])))
       (add-zero (g' .fuel))
 
   asked-not : (b : Answer) → NotWalked b → isAsked b → ⊥
@@ -173,15 +173,15 @@ module _ (a : Call) (s : ℕ) (l : Float) (even : Paired (a .given' .statuses) (
   asked-not NoRoom h q = q
 
   -- asked: with one answer more, all answers are used, or a next question is asked, or the fuel is used up
-  pub answered-again : isAsked (leftBy a .answer) → Progress (suc (length (answers (g' .statuses) (g' .leftovers)))) (leftBy one .answer)
-  answered-again h = on (leftBy a) (view a) h
+  pub answered-again : isAsked (leftBy F a .answer) → Progress (suc (length (answers (g' .statuses) (g' .leftovers)))) (leftBy F one .answer)
+  answered-again h = on (leftBy F a) (view F a) h
     where
-      on : (k : Left) → View a k → isAsked (k .answer) → Progress (suc (length (answers (g' .statuses) (g' .leftovers)))) (leftBy one .answer)
+      on : (k : Left) → View F a k → isAsked (k .answer) → Progress (suc (length (answers (g' .statuses) (g' .leftovers)))) (leftBy F one .answer)
       on k (refusing b y) h = absurd (asked-not b (not-walked a b y) h)
       on k (walking t w) h =
           subst (λ (u : Left). Progress (suc (length (answers (g' .statuses) (g' .leftovers)))) (u .answer))
-          (sym (walks one t (walked-again a 0 (List._∷_ s List.[]) (List._∷_ l List.[]) even 0 (one-allowed .0) (one-allowed .1) t w)
+          (sym (walks F one t (walked-again F a 0 (List._∷_ s List.[]) (List._∷_ l List.[]) even 0 (one-allowed .0) (one-allowed .1) t w)
           ∙ ap (λ (u : Out Tree). walked (one .given') (heldBy t g') u) (walk-one t)))
-          (all-used (heldBy t g') (walk t a)
-          (tick binary64 mostDeep (startOf t a) (cleanedEvent (g' .event)) (world (g' .fuel) (answers (g' .statuses) (g' .leftovers) ++ List._∷_ (statusOf s, cleaned l) List.[])))
-          (answer-taken (statusOf s, cleaned l) List.[] binary64 mostDeep (startOf t a) (cleanedEvent (g' .event)) (g' .fuel) (answers (g' .statuses) (g' .leftovers))) h)
+          (all-used (heldBy t g') (walk F t a)
+          (tick F mostDeep (startOf t a) (cleanedEvent (g' .event)) (world (g' .fuel) (answers (g' .statuses) (g' .leftovers) ++ List._∷_ (statusOf s, cleaned l) List.[])))
+          (answer-taken (statusOf s, cleaned l) List.[] F mostDeep (startOf t a) (cleanedEvent (g' .event)) (g' .fuel) (answers (g' .statuses) (g' .leftovers))) h)

@@ -8,7 +8,7 @@ use Prim.Native.Nat.{ℕ, suc}
 use native.Mathlib.Nat.{zero-add}
 use native.Mathlib.Omega.{arith}
 use lib.Dec.{T, leb}
-use lib.Ieee.{Float, Format, binary64}
+use lib.Ieee.{Float, Format}
 use Rattle.rules.specs.declared.event.Event.{Event}
 use Rattle.rules.specs.declared.event.Event.the-variants.{Update, Other}
 use Rattle.rules.specs.declared.answer.Answer.the-variants.{BadCell}
@@ -91,7 +91,7 @@ pub fresh-accepted : (t : Tree) → Accepted (fresh t)
 fresh-accepted t = accepted-of (fresh t) (fresh-live t)
 
 -- ---- calls
-module _ (kinds ns : List ℕ) (limits : List Float) (t : Tree) (e : table kinds ns limits ≡ good t) where
+module _ (F : Format) (kinds ns : List ℕ) (limits : List Float) (t : Tree) (e : table kinds ns limits ≡ good t) where
   abbrev OfTable : Call → Type 0
   OfTable a = (u : Tree) → table (a .given' .kinds) (a .given' .ns) (a .given' .limits) ≡ good u → u ≡ t
 
@@ -102,49 +102,49 @@ module _ (kinds ns : List ℕ) (limits : List Float) (t : Tree) (e : table kinds
   walk-good a before short h k y = absurd y
 
   -- a call answered 0: a tick's cells were looked at, a restart's are fresh
-  left-good : (a : Call) → OfTable a → (l : Left) → View a l → T (isTicked (l .answer)) → Live (held t (l .cells'))
+  left-good : (a : Call) → OfTable a → (l : Left) → View F a l → T (isTicked (l .answer)) → Live (held t (l .cells'))
   left-good a one l (refusing b n) y = absurd (subst T (not-ticked b (not-walked a b n)) y)
   left-good a one l (walking u w) y =
       let g = a .given' in
       let q : u ≡ t = one u (w .table-good) in
       let live = live-of (startOf t a) (w .cells-good .0) (rw q at (w .cells-good .1)) in
-      rw q (walk-good a (heldBy t g) (walk t a)
-      (tick-live binary64 mostDeep (startOf t a) (cleanedEvent (g .event)) (world (g .fuel) (answers (g .statuses) (g .leftovers)))
+      rw q (walk-good a (heldBy t g) (walk F t a)
+      (tick-live F mostDeep (startOf t a) (cleanedEvent (g .event)) (world (g .fuel) (answers (g .statuses) (g .leftovers)))
       (rw (start-shape t a) (tabled-right t (tabled kinds ns limits t e .0))) live
       (event-elapsed (g .event) (w .time-good)) (answers-elapsed 0 (w .answers-good .0) (g .statuses) (g .leftovers) (w .answers-good .1)))
-      (tick-keeps binary64 mostDeep (startOf t a) (cleanedEvent (g .event)) (world (g .fuel) (answers (g .statuses) (g .leftovers)))) (rw q at y))
+      (tick-keeps F mostDeep (startOf t a) (cleanedEvent (g .event)) (world (g .fuel) (answers (g .statuses) (g .leftovers)))) (rw q at y))
 
-  call-good : (st : Standing) (a : Call) → OfTable a → Live (held t (st .cells')) → Live (held t (after st a .cells'))
+  call-good : (st : Standing) (a : Call) → OfTable a → Live (held t (st .cells')) → Live (held t (after F st a .cells'))
   unfolding after
-  call-good st a one v = on (isTicked (leftBy a .answer)) (left-good a one (leftBy a) (view a))
+  call-good st a one v = on (isTicked (leftBy F a .answer)) (left-good a one (leftBy F a) (view F a))
     where
-      on : (b : Bool) → (T b → Live (held t (leftBy a .cells'))) → Live (held t (cond b (stands (leftBy a .record') (leftBy a .cells') (suc (behind a st))) st .cells'))
+      on : (b : Bool) → (T b → Live (held t (leftBy F a .cells'))) → Live (held t (cond b (stands (leftBy F a .record') (leftBy F a .cells') (suc (behind a st))) st .cells'))
       on true f = f tt
       on false f = v
 
-  calls-good : (st : Standing) (cs : List Call) → TakeUps t st cs → Live (held t (st .cells')) → Live (held t (afterAll st cs .cells'))
+  calls-good : (st : Standing) (cs : List Call) → TakeUps F t st cs → Live (held t (st .cells')) → Live (held t (afterAll F st cs .cells'))
   unfolding afterAll
   calls-good st List.[] up v = v
-  calls-good st (List._∷_ a cs) up v = calls-good (after st a) cs (up .2) (call-good st a (up .0 .the-table) v)
+  calls-good st (List._∷_ a cs) up v = calls-good (after F st a) cs (up .2) (call-good st a (up .0 .the-table) v)
 
   -- fresh cells, then any calls: the cells are accepted
-  pub reached-accepted : (st : Standing) → FreshCells t (st .cells') → (cs : List Call) → TakeUps t st cs → Accepted (held t (afterAll st cs .cells'))
+  pub reached-accepted : (st : Standing) → FreshCells t (st .cells') → (cs : List Call) → TakeUps F t st cs → Accepted (held t (afterAll F st cs .cells'))
   reached-accepted st f cs up =
-      accepted-of (held t (afterAll st cs .cells')) (calls-good st cs up
+      accepted-of (held t (afterAll F st cs .cells')) (calls-good st cs up
       (rw (fresh-held kinds ns limits t (st .cells') e f) (rw (tabled-fresh t (tabled kinds ns limits t e .0)) at (live-clear (fresh t) (fresh-live t)))))
 
   -- any cells, a restart answered 0, then any calls: the same
-  pub restarted-accepted : (st : Standing) (g : Given) → OfTable (restarts g) → T (isTicked (restartCall g .answer)) → (cs : List Call) → TakeUps t (after st (restarts g)) cs
-      → Accepted (held t (afterAll (after st (restarts g)) cs .cells'))
+  pub restarted-accepted : (st : Standing) (g : Given) → OfTable (restarts g) → T (isTicked (restartCall F g .answer)) → (cs : List Call) → TakeUps F t (after F st (restarts g)) cs
+      → Accepted (held t (afterAll F (after F st (restarts g)) cs .cells'))
   unfolding after
-  restarted-accepted st g one y cs up = accepted-of (held t (afterAll (after st (restarts g)) cs .cells')) (calls-good (after st (restarts g)) cs up restarted)
+  restarted-accepted st g one y cs up = accepted-of (held t (afterAll F (after F st (restarts g)) cs .cells')) (calls-good (after F st (restarts g)) cs up restarted)
     where
-      on : (b : Bool) → T b → Live (held t (restartCall g .cells')) → Live (held t (cond b (stands (restartCall g .record') (restartCall g .cells') 1) st .cells'))
+      on : (b : Bool) → T b → Live (held t (restartCall F g .cells')) → Live (held t (cond b (stands (restartCall F g .record') (restartCall F g .cells') 1) st .cells'))
       on true y v = v
       on false y v = absurd y
 
-      restarted : Live (held t (after st (restarts g) .cells'))
-      restarted = on (isTicked (restartCall g .answer)) y (left-good (restarts g) one (restartCall g) (view (restarts g)) y)
+      restarted : Live (held t (after F st (restarts g) .cells'))
+      restarted = on (isTicked (restartCall F g .answer)) y (left-good (restarts g) one (restartCall F g) (view F (restarts g)) y)
 
 -- ---- and answer 9 is never given to them
 abbrev IsFaulty : Found → Type 0
@@ -156,19 +156,31 @@ walked-not-bad g t (done s r t' (world f ans)) p q = let z : _≡_ {A = ℕ} 0 1
 walked-not-bad g t (asks n x) p q = let z : _≡_ {A = ℕ} 0 1 = cc in omega arith
 walked-not-bad g t short p q = let z : _≡_ {A = ℕ} 0 1 = cc in omega arith
 
-module _ (t : Tree) (st : Standing) (g : Given) (up : TakesUp t st (ticks g)) (a : Accepted (held t (st .cells'))) where
+module _ (F : Format) (t : Tree) (st : Standing) (g : Given) (up : TakesUp t st (ticks g)) (a : Accepted (held t (st .cells'))) where
   found-none : (p : ℕ) → Why (ticks g) (BadCell p) → ⊥
   found-none p h =
       let q : h .0 ≡ t = up .the-table (h .0) (h .1) in
       subst IsFaulty (sym (h .3) ∙ ap (λ (u : Tree). badCell false false 0 (heldBy u g)) q ∙ ap (badCell false false 0) (same-tree t st (ticks g) up refl (rw q at (h .2))) ∙ a) tt
 
-  by-view : (l : Left) → View (ticks g) l → (p : ℕ) → l .answer ≡ BadCell p → ⊥
+  by-view : (l : Left) → View F (ticks g) l → (p : ℕ) → l .answer ≡ BadCell p → ⊥
   by-view l (refusing b n) p q = found-none p (subst (Why (ticks g)) q n)
-  by-view l (walking u w) p q = walked-not-bad g (heldBy u g) (walk u (ticks g)) p q
+  by-view l (walking u w) p q = walked-not-bad g (heldBy u g) (walk F u (ticks g)) p q
 
-  pub accepted-not-bad : (p : ℕ) → tickCall g .answer ≡ BadCell p → ⊥
-  accepted-not-bad p q = by-view (tickCall g) (view (ticks g)) p q
+  pub accepted-not-bad : (p : ℕ) → tickCall F g .answer ≡ BadCell p → ⊥
+  accepted-not-bad p q = by-view (tickCall F g) (view F (ticks g)) p q
 
-pub never-bad-cell : (kinds ns : List ℕ) (limits : List Float) (t : Tree) → table kinds ns limits ≡ good t → (st : Standing) → FreshCells t (st .cells') → (cs : List Call) → TakeUps t st cs
-    → (g : Given) → TakesUp t (afterAll st cs) (ticks g) → (p : ℕ) → tickCall g .answer ≡ BadCell p → ⊥
-never-bad-cell kinds ns limits t e st f cs up g next = accepted-not-bad t (afterAll st cs) g next (reached-accepted kinds ns limits t e st f cs up)
+pub never-bad-cell :
+    (F : Format)
+    (kinds ns : List ℕ)
+    (limits : List Float)
+    (t : Tree)
+    (the-table : table kinds ns limits ≡ good t)
+    (st : Standing)
+    (all-zero : FreshCells t (st .cells'))
+    (cs : List Call)
+    (up : TakeUps F t st cs)
+    (g : Given)
+    (next : TakesUp t (afterAll F st cs) (ticks g))
+    (p : ℕ)
+    → tickCall F g .answer ≡ BadCell p → ⊥
+never-bad-cell F kinds ns limits t e st f cs up g next = accepted-not-bad F t (afterAll F st cs) g next (reached-accepted F kinds ns limits t e st f cs up)

@@ -1,7 +1,7 @@
 -- The 16 levels of a call's walk are never what ends it: with any number that the tree is no deeper than, it is the same walk.
 use mathlib.Core.Path.{_≡_}
 use Prim.Native.Nat.{ℕ, _≤_}
-use lib.Ieee.{binary64}
+use lib.Ieee.{Format}
 use Rattle.rules.specs.Tree.{Tree, depth}
 use Rattle.rules.specs.Outcome.{world}
 use Rattle.rules.specs.State.{tick}
@@ -12,10 +12,10 @@ use Rattle.calls.specs.Tables.{tabled}
 use Rattle.calls.specs.View.{Call, startOf, walk, start-shape, Walked}
 use Rattle.laws.specs.Alone.{depth-free}
 
-pub deep-enough : (a : Call) (t : Tree) → Walked a t → (d : ℕ) → depth t ≤ d
-    → walk t a ≡ tick binary64 d (startOf t a) (cleanedEvent (a .given' .event)) (world (a .given' .fuel) (answers (a .given' .statuses) (a .given' .leftovers)))
-deep-enough a t w d h =
+pub deep-enough : (F : Format) (a : Call) (t : Tree) → Walked a t → (d : ℕ) → depth t ≤ d
+    → walk F t a ≡ tick F d (startOf t a) (cleanedEvent (a .given' .event)) (world (a .given' .fuel) (answers (a .given' .statuses) (a .given' .leftovers)))
+deep-enough F a t w d h =
     let g = a .given' in
     let q : depth (startOf t a) ≡ depth t = depth-shape (startOf t a) t (start-shape t a) in
-    depth-free binary64 mostDeep d (startOf t a) (cleanedEvent (g .event)) (world (g .fuel) (answers (g .statuses) (g .leftovers)))
+    depth-free F mostDeep d (startOf t a) (cleanedEvent (g .event)) (world (g .fuel) (answers (g .statuses) (g .leftovers)))
     (rw q (tabled (g .kinds) (g .ns) (g .limits) t (w .table-good) .1)) (rw q h)

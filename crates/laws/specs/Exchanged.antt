@@ -7,6 +7,7 @@ use mathlib.Core.List
 use Prim.Native.Nat.{ℕ, _≤_, _<_}
 use borrow.Author.Tests.{leb-true, ltb-true}
 use lib.Dec.{T, leb, ltb}
+use lib.Ieee.{Format}
 use lib.ListN.{take, drop}
 use Rattle.rules.specs.declared.exchanged.Exchanged.{Exchanged as Answer}
 use Rattle.rules.specs.declared.exchanged.Exchanged.the-variants.{Done, Finished, BadTable, BadBranch, TooShort, BadCell, NoNode, StateHeld, TooLarge, ShortRoom}
@@ -208,15 +209,15 @@ module _ (g : GivenExchange) (w : Passed g) where
     pub limits : k .limits ≡ take (size result) (to .limits)
     pub cells' : k .cells' ≡ runIn to
 
-  module _ (k : Given) (up : TakesUp k) where
+  module _ (F : Format) (k : Given) (up : TakesUp k) where
     -- 5 and 6, 2, and then the walk of t
     abbrev walksOf : Tree → Left
-    walksOf t = onInputs k (cond (k .record' .finished) (refused k answer.Finished) (walked k t (walkFrom k t)))
+    walksOf t = onInputs k (cond (k .record' .finished) (refused k answer.Finished) (walked k t (walkFrom F k t)))
 
     abbrev dueOf : Tree → Left
     dueOf t = elim (badCell false false 0 (atEntry k t)) [ faulty p ↦ refused k (answer.BadCell p) | none _ ↦ walksOf (atEntry k t) ]
 
-    tick-is : tickCall k ≡ onTable k dueOf
+    tick-is : tickCall F k ≡ onTable k dueOf
     unfolding tickCall
     tick-is = refl
 
@@ -229,7 +230,7 @@ module _ (g : GivenExchange) (w : Passed g) where
     due-is : dueOf (renewed result) ≡ walksOf result
     due-is = rw (dueOf, entry-is, accepted .1) (ap walksOf entry-is)
 
-    pub next-tick : tooShort k (size result) ≡ false → tickCall k ≡ walksOf result
+    pub next-tick : tooShort k (size result) ≡ false → tickCall F k ≡ walksOf result
     next-tick long =
         let same : size (renewed result) ≡ size result = size-shape (renewed result) result (clear-shape (fresh result) ∙ fresh-shape result) in
         tick-is ∙ rw (onTable, table-is) (rw (same, long) due-is)

@@ -7,7 +7,7 @@ use mathlib.Core.List
 use Prim.Native.Nat.{ℕ, _-_}
 use lib.Dec.{T}
 use lib.ListN.{length}
-use lib.Ieee.{Float, binary64}
+use lib.Ieee.{Float, Format}
 use Rattle.rules.specs.declared.answer.Answer.{Answer}
 use Rattle.rules.specs.declared.answer.Answer.the-variants.{Ticked, Asked, Finished, BadTable, TooShort, BadTime, BadAnswer, OutOfFuel, BadCell}
 use Rattle.rules.specs.declared.answer.Record.{Record}
@@ -49,37 +49,37 @@ ruledInputs h g due = cond (timeAllowed (g .event))
     (BadTime, h)
 
 -- a tick: 3 and 4, 9, 5 and 6, 2, and then the walk of the tree held
-abbrev pub ruledTick : Tree → Held → Given → Answer × Held
-ruledTick t h g = ruledTable t h g (elim (badCell false false 0 (h .1)) [
+abbrev pub ruledTick : Format → Tree → Held → Given → Answer × Held
+ruledTick F t h g = ruledTable t h g (elim (badCell false false 0 (h .1)) [
   | faulty p ↦ (BadCell p, h)
-  | none _ ↦ ruledInputs h g (cond (h .0 .finished) (Finished, h) (ran g h (walkFrom g (h .1))))
+  | none _ ↦ ruledInputs h g (cond (h .0 .finished) (Finished, h) (ran g h (walkFrom F g (h .1))))
 ])
 
 -- a restart: 3 and 4, 5 and 6, and then the walk of the tree made fresh, whatever is held
-abbrev pub ruledRestart : Tree → Held → Given → Answer × Held
-ruledRestart t h g = ruledTable t h g (ruledInputs h g (ran g h (walkFrom g (fresh t))))
+abbrev pub ruledRestart : Format → Tree → Held → Given → Answer × Held
+ruledRestart F t h g = ruledTable t h g (ruledInputs h g (ran g h (walkFrom F g (fresh t))))
 
-abbrev pub ruled : Tree → Held → Call → Answer × Held
-ruled t h a = cond (a .fresh) (ruledRestart t h (a .given')) (ruledTick t h (a .given'))
+abbrev pub ruled : Format → Tree → Held → Call → Answer × Held
+ruled F t h a = cond (a .fresh) (ruledRestart F t h (a .given')) (ruledTick F t h (a .given'))
 
-unfoldable pub ruledAll : Tree → Held → List Call → List Said × Held
-ruledAll t h List.[] = (List.[], h)
-ruledAll t h (List._∷_ a cs) = let x = ruled t h a in let y = ruledAll t (x .1) cs in (List._∷_ (saidOf (x .0)) (y .0), y .1)
+unfoldable pub ruledAll : Format → Tree → Held → List Call → List Said × Held
+ruledAll F t h List.[] = (List.[], h)
+ruledAll F t h (List._∷_ a cs) = let x = ruled F t h a in let y = ruledAll F t (x .1) cs in (List._∷_ (saidOf (x .0)) (y .0), y .1)
 
 -- ---- the calls: what each says, and what stands after it. Each takes up what the last one left; a restart may find any cells
-abbrev pub saidBy : Call → Said
-saidBy a = saidOf (leftBy a .answer)
+abbrev pub saidBy : Format → Call → Said
+saidBy F a = saidOf (leftBy F a .answer)
 
-abbrev pub TakeUps : Tree → Standing → List Call → Type 0
-TakeUps t st List.[] = Unit {0}
-TakeUps t st (List._∷_ a cs) = TakesUp t st a × (a .given' .record' ≡ st .record') × TakeUps t (after st a) cs
+abbrev pub TakeUps : Format → Tree → Standing → List Call → Type 0
+TakeUps F t st List.[] = Unit {0}
+TakeUps F t st (List._∷_ a cs) = TakesUp t st a × (a .given' .record' ≡ st .record') × TakeUps F t (after F st a) cs
 
 -- the record, and the tree that the cells hold
 abbrev pub heldIn : Tree → Standing → Held
 heldIn t st = (st .record', held t (st .cells'))
 
 -- ---- one call
-module _ (t : Tree) (st : Standing) (a : Call) (up : TakesUp t st a) (the-record : a .given' .record' ≡ st .record') where
+module _ (F : Format) (t : Tree) (st : Standing) (a : Call) (up : TakesUp t st a) (the-record : a .given' .record' ≡ st .record') where
   abbrev g : Given
   g = a .given'
 
@@ -95,8 +95,8 @@ module _ (t : Tree) (st : Standing) (a : Call) (up : TakesUp t st a) (the-record
   by-walk u v q (asks n x) k = refl
   by-walk u v q short k = refl
 
-  walks-so : (u v : Tree) → shape v ≡ shape t → Says (walked g u (walkFrom g v)) (ran g (heldIn t st) (walkFrom g v))
-  walks-so u v q = by-walk u v q (walkFrom g v) (tick-keeps binary64 mostDeep v (cleanedEvent (g .event)) (world (g .fuel) (answers (g .statuses) (g .leftovers))))
+  walks-so : (u v : Tree) → shape v ≡ shape t → Says (walked g u (walkFrom F g v)) (ran g (heldIn t st) (walkFrom F g v))
+  walks-so u v q = by-walk u v q (walkFrom F g v) (tick-keeps F mostDeep v (cleanedEvent (g .event)) (world (g .fuel) (answers (g .statuses) (g .leftovers))))
 
   -- the call and the rules from each test on
   on-inputs : (l : Left) (x : Answer × Held) → Says l x → Says (onInputs g l) (ruledInputs (heldIn t st) g x)
@@ -129,50 +129,60 @@ module _ (t : Tree) (st : Standing) (a : Call) (up : TakesUp t st a) (the-record
   abbrev u : Tree
   u = held t (st .cells')
 
-  by-finished : (b b' : Bool) → b ≡ b' → Says (cond b (refused g Finished) (walked g u (walkFrom g u))) (cond b' (Finished, heldIn t st) (ran g (heldIn t st) (walkFrom g u)))
+  by-finished : (b b' : Bool) → b ≡ b' → Says (cond b (refused g Finished) (walked g u (walkFrom F g u))) (cond b' (Finished, heldIn t st) (ran g (heldIn t st) (walkFrom F g u)))
   by-finished true true e = refl
   by-finished true false e = absurd (subst T e tt)
   by-finished false true e = absurd (subst T (sym e) tt)
   by-finished false false e = walks-so u u (held-shape t (st .cells'))
 
   abbrev callCells : Tree → Found → Left
-  callCells v f = elim f [ faulty p ↦ refused g (BadCell p) | none _ ↦ onInputs g (cond (g .record' .finished) (refused g Finished) (walked g v (walkFrom g v))) ]
+  callCells v f = elim f [ faulty p ↦ refused g (BadCell p) | none _ ↦ onInputs g (cond (g .record' .finished) (refused g Finished) (walked g v (walkFrom F g v))) ]
 
   abbrev ruleCells : Found → Answer × Held
   ruleCells f = elim f [
     | faulty p ↦ (BadCell p, heldIn t st)
-    | none _ ↦ ruledInputs (heldIn t st) g (cond (st .record' .finished) (Finished, heldIn t st) (ran g (heldIn t st) (walkFrom g u)))
+    | none _ ↦ ruledInputs (heldIn t st) g (cond (st .record' .finished) (Finished, heldIn t st) (ran g (heldIn t st) (walkFrom F g u)))
   ]
 
   by-cells : (f : Found) → Says (callCells u f) (ruleCells f)
   by-cells (faulty p) = refl
   by-cells (none i) = on-inputs _ _ (by-finished (g .record' .finished) (st .record' .finished) (ap (λ (r : Record). r .finished) the-record))
 
-  tick-follows : a .fresh ≡ false → Says (tickCall g) (ruledTick t (heldIn t st) g)
+  tick-follows : a .fresh ≡ false → Says (tickCall F g) (ruledTick F t (heldIn t st) g)
   unfolding tickCall
   tick-follows e = on-table _ _ λ s. subst (λ (v : Tree). Says (callCells v (badCell false false 0 v)) (ruleCells (badCell false false 0 u)))
       (sym (same-tree t st a up e s)) (by-cells (badCell false false 0 u))
 
   -- ---- a restart
-  restart-follows : Says (restartCall g) (ruledRestart t (heldIn t st) g)
+  restart-follows : Says (restartCall F g) (ruledRestart F t (heldIn t st) g)
   unfolding restartCall
   restart-follows = on-table _ _ λ s. on-inputs _ _ (walks-so (heldBy t g) (fresh t) (fresh-shape t))
 
-  call-follows : Says (leftBy a) (ruled t (heldIn t st) a)
+  call-follows : Says (leftBy F a) (ruled F t (heldIn t st) a)
   call-follows = on (a .fresh) (λ e. e)
     where
-      on : (b : Bool) → (b ≡ false → a .fresh ≡ false) → Says (cond b (restartCall g) (tickCall g)) (cond b (ruledRestart t (heldIn t st) g) (ruledTick t (heldIn t st) g))
+      on : (b : Bool) → (b ≡ false → a .fresh ≡ false) → Says (cond b (restartCall F g) (tickCall F g)) (cond b (ruledRestart F t (heldIn t st) g) (ruledTick F t (heldIn t st) g))
       on true f = restart-follows
       on false f = tick-follows (f refl)
 
 -- ---- every sequence
 -- from the tree that the cells hold
-pub follows : (t : Tree) (st : Standing) (cs : List Call) → TakeUps t st cs → (map saidBy cs, heldIn t (afterAll st cs)) ≡ ruledAll t (heldIn t st) cs
+pub follows : (F : Format) (t : Tree) (st : Standing) (cs : List Call) → TakeUps F t st cs → (map (saidBy F) cs, heldIn t (afterAll F st cs)) ≡ ruledAll F t (heldIn t st) cs
 unfolding afterAll after ruledAll
-follows t st List.[] up = refl
-follows t st (List._∷_ a cs) up = rw (← call-follows t st a (up .0) (up .1), ← follows t (after st a) cs (up .2))
+follows F t st List.[] up = refl
+follows F t st (List._∷_ a cs) up = rw (← call-follows F t st a (up .0) (up .1), ← follows F t (after F st a) cs (up .2))
 
 -- from fresh cells, the table's tree
-pub follows-fresh : (kinds ns : List ℕ) (limits : List Float) (t : Tree) → table kinds ns limits ≡ good t → (st : Standing) → FreshCells t (st .cells') → (cs : List Call) → TakeUps t st cs
-    → (map saidBy cs, heldIn t (afterAll st cs)) ≡ ruledAll t (st .record', t) cs
-follows-fresh kinds ns limits t e st f cs up = follows t st cs up ∙ ap (λ (u : Tree). ruledAll t (st .record', u) cs) (fresh-held kinds ns limits t (st .cells') e f)
+pub follows-fresh :
+    (F : Format)
+    (kinds ns : List ℕ)
+    (limits : List Float)
+    (t : Tree)
+    (the-table : table kinds ns limits ≡ good t)
+    (st : Standing)
+    (all-zero : FreshCells t (st .cells'))
+    (cs : List Call)
+    (up : TakeUps F t st cs)
+    → (map (saidBy F) cs, heldIn t (afterAll F st cs)) ≡ ruledAll F t (st .record', t) cs
+follows-fresh F kinds ns limits t e st f cs up =
+    follows F t st cs up ∙ ap (λ (u : Tree). ruledAll F t (st .record', u) cs) (fresh-held kinds ns limits t (st .cells') e f)

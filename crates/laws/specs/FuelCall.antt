@@ -4,7 +4,7 @@ use mathlib.Core.Bool.{Bool, true, _&&_}
 use Prim.Native.Nat.{ℕ, _≤_}
 use native.Mathlib.Omega.{arith}
 use lib.Dec.{T}
-use lib.Ieee.{binary64}
+use lib.Ieee.{Format}
 use lib.Ieee.Fits.{and-l, and-r}
 use Rattle.rules.specs.declared.answer.Answer.the-variants.{OutOfFuel}
 use Rattle.rules.specs.Tree.{Tree, node, Forest, [], _∷_, size}
@@ -43,21 +43,21 @@ walked-not-out g t (done s r t' (world f ans)) h q = let z : _≡_ {A = ℕ} 0 1
 walked-not-out g t (asks n x) h q = let z : _≡_ {A = ℕ} 0 1 = cc in omega arith
 walked-not-out g t short h q = h refl
 
-module _ (a : Call) (t : Tree) (e : table (a .given' .kinds) (a .given' .ns) (a .given' .limits) ≡ good t) (w : T (loopless t)) (f : size t ≤ a .given' .fuel) where
+module _ (F : Format) (a : Call) (t : Tree) (e : table (a .given' .kinds) (a .given' .ns) (a .given' .limits) ≡ good t) (w : T (loopless t)) (f : size t ≤ a .given' .fuel) where
   abbrev g : Given
   g = a .given'
 
   plain-start : Plain mostDeep (shape (startOf t a))
   plain-start = let r = tabled (g .kinds) (g .ns) (g .limits) t e in rw (start-shape t a) (tabled-right t (r .0), rw (depth-of t) at (r .1), no-loops t w)
 
-  by-view : (l : Left) → View a l → l .answer ≡ OutOfFuel → ⊥
+  by-view : (l : Left) → View F a l → l .answer ≡ OutOfFuel → ⊥
   by-view l (refusing b n) z = subst (Why a) z n
   by-view l (walking u v) z =
       let q : u ≡ t = one-tree (table (g .kinds) (g .ns) (g .limits)) t u e (v .table-good) in
-      walked-not-out g (heldBy t g) (walk t a)
-      (never-short binary64 mostDeep (startOf t a) (cleanedEvent (g .event)) (g .fuel) (answers (g .statuses) (g .leftovers)) plain-start
+      walked-not-out g (heldBy t g) (walk F t a)
+      (never-short F mostDeep (startOf t a) (cleanedEvent (g .event)) (g .fuel) (answers (g .statuses) (g .leftovers)) plain-start
       (live-of (startOf t a) (v .cells-good .0) (rw q at (v .cells-good .1)))
       (rw (size-shape (startOf t a) t (start-shape t a)) f)) (rw q at z)
 
-  pub fuel-enough : leftBy a .answer ≡ OutOfFuel → ⊥
-  fuel-enough q = by-view (leftBy a) (view a) q
+  pub fuel-enough : leftBy F a .answer ≡ OutOfFuel → ⊥
+  fuel-enough q = by-view (leftBy F a) (view F a) q

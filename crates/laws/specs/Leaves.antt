@@ -1,6 +1,7 @@
 -- What a call leaves, a tick or a restart: a refusal leaves everything; answers 7 and 1 leave all but the spare, which holds the cells at entry.
 use mathlib.Core.Path.{_≡_, refl, subst}
 use lib.Dec.{T}
+use lib.Ieee.{Format}
 use Rattle.rules.specs.declared.answer.Answer.{Answer}
 use Rattle.rules.specs.declared.answer.Answer.the-variants.{Ticked, Asked, Finished, BadTable, TooShort, BadTime, BadAnswer, OutOfFuel, BadCell, NoRoom}
 use Rattle.rules.specs.Tree.{Tree}
@@ -39,12 +40,12 @@ walked-leaves g t e (done s r t' (world f ans)) = tt
 walked-leaves g t e (asks n x) = (t, e, refl)
 walked-leaves g t e short = (t, e, refl)
 
-by-view : (a : Call) (l : Left) → View a l → Leaves (a .given') l (l .answer)
-by-view a l (refusing b n) = refused-leaves (a .given') b (not-walked a b n)
-by-view a l (walking t w) = walked-leaves (a .given') t (w .table-good) (walk t a)
+by-view : (F : Format) (a : Call) (l : Left) → View F a l → Leaves (a .given') l (l .answer)
+by-view F a l (refusing b n) = refused-leaves (a .given') b (not-walked a b n)
+by-view F a l (walking t w) = walked-leaves (a .given') t (w .table-good) (walk F t a)
 
-pub leaves : (a : Call) → Leaves (a .given') (leftBy a) (leftBy a .answer)
-leaves a = by-view a (leftBy a) (view a)
+pub leaves : (F : Format) (a : Call) → Leaves (a .given') (leftBy F a) (leftBy F a .answer)
+leaves F a = by-view F a (leftBy F a) (view F a)
 
 -- ---- a restart is never answered 9, 2 or 13
 abbrev pub OfRestart : Answer → Type 0
@@ -76,9 +77,9 @@ walked-restart g t (done s r t' (world f ans)) = tt
 walked-restart g t (asks n x) = tt
 walked-restart g t short = tt
 
-pub restart-says : (g : Given) → OfRestart (restartCall g .answer)
-restart-says g = on (restartCall g) (view (restarts g))
+pub restart-says : (F : Format) (g : Given) → OfRestart (restartCall F g .answer)
+restart-says F g = on (restartCall F g) (view F (restarts g))
   where
-    on : (l : Left) → View (restarts g) l → OfRestart (l .answer)
+    on : (l : Left) → View F (restarts g) l → OfRestart (l .answer)
     on l (refusing b n) = refused-restart g b n
-    on l (walking t w) = walked-restart g (heldBy t g) (walk t (restarts g))
+    on l (walking t w) = walked-restart g (heldBy t g) (walk F t (restarts g))

@@ -6,7 +6,7 @@ use Prim.Native.Nat.{ℕ, zero, suc, _≤_}
 use native.Mathlib.Nat.{le-of-suc-le-suc}
 use native.Mathlib.Omega.{arith}
 use lib.Dec.{T}
-use lib.Ieee.{Float, Format, binary64}
+use lib.Ieee.{Float, Format}
 use Rattle.rules.specs.declared.event.Event.{Event}
 use Rattle.rules.specs.declared.answer.Answer.{Answer}
 use Rattle.rules.specs.declared.answer.Answer.the-variants.{Ticked, Asked, Finished, BadTable, TooShort, BadTime, BadAnswer, OutOfFuel, BadCell, NoRoom}
@@ -80,44 +80,44 @@ module _ (n : ℕ) (x : Float) (F : Format) where
       on o o' (ends short u' h) = h
 
 -- ---- the walk of a call
-abbrev pub walkOr : Out Tree → Tree → Call → Out Tree
-walkOr out t a = tickOr out binary64 mostDeep (startOf t a) (cleanedEvent (a .given' .event)) (world (a .given' .fuel) (answers (a .given' .statuses) (a .given' .leftovers)))
+abbrev pub walkOr : Format → Out Tree → Tree → Call → Out Tree
+walkOr F out t a = tickOr out F mostDeep (startOf t a) (cleanedEvent (a .given' .event)) (world (a .given' .fuel) (answers (a .given' .statuses) (a .given' .leftovers)))
 
-pub walk-or : (a : Call) (t : Tree) → Walked a t → (n : ℕ) (x : Float) → walkOr (asks n x) t a ≡ instead (asks n x) (walk t a)
-walk-or a t w n x =
+pub walk-or : (F : Format) (a : Call) (t : Tree) → Walked a t → (n : ℕ) (x : Float) → walkOr F (asks n x) t a ≡ instead (asks n x) (walk F t a)
+walk-or F a t w n x =
     let g = a .given' in
     let r = tabled (g .kinds) (g .ns) (g .limits) t (w .table-good) in
-    only-fuel n x binary64 mostDeep (startOf t a) (cleanedEvent (g .event)) (world (g .fuel) (answers (g .statuses) (g .leftovers)))
+    only-fuel n x F mostDeep (startOf t a) (cleanedEvent (g .event)) (world (g .fuel) (answers (g .statuses) (g .leftovers)))
     (rw (start-shape t a) (tabled-right t (r .0), rw (depth-of t) at (r .1))) (live-of (startOf t a) (w .cells-good .0) (w .cells-good .1))
     (event-elapsed (g .event) (w .time-good)) (answers-elapsed 0 (w .answers-good .0) (g .statuses) (g .leftovers) (w .answers-good .1))
 
 -- 7: the visit that finds no fuel left is met, and its outcome, whichever, is that of the walk. 0 and 1: it is not met
-abbrev pub ByFuel : Call → Tree → Answer → Type 0
-ByFuel a t OutOfFuel = (n : ℕ) (x : Float) → walkOr (asks n x) t a ≡ asks n x
-ByFuel a t (Ticked s r v u) = (n : ℕ) (x : Float) → walkOr (asks n x) t a ≡ walk t a
-ByFuel a t (Asked m y) = (n : ℕ) (x : Float) → walkOr (asks n x) t a ≡ walk t a
-ByFuel a t Finished = ⊥
-ByFuel a t (BadTable p) = ⊥
-ByFuel a t TooShort = ⊥
-ByFuel a t BadTime = ⊥
-ByFuel a t (BadAnswer i) = ⊥
-ByFuel a t (BadCell p) = ⊥
-ByFuel a t NoRoom = ⊥
+abbrev pub ByFuel : Format → Call → Tree → Answer → Type 0
+ByFuel F a t OutOfFuel = (n : ℕ) (x : Float) → walkOr F (asks n x) t a ≡ asks n x
+ByFuel F a t (Ticked s r v u) = (n : ℕ) (x : Float) → walkOr F (asks n x) t a ≡ walk F t a
+ByFuel F a t (Asked m y) = (n : ℕ) (x : Float) → walkOr F (asks n x) t a ≡ walk F t a
+ByFuel F a t Finished = ⊥
+ByFuel F a t (BadTable p) = ⊥
+ByFuel F a t TooShort = ⊥
+ByFuel F a t BadTime = ⊥
+ByFuel F a t (BadAnswer i) = ⊥
+ByFuel F a t (BadCell p) = ⊥
+ByFuel F a t NoRoom = ⊥
 
-pub by-fuel : (a : Call) (t : Tree) → Walked a t → ByFuel a t (leftBy a .answer)
-by-fuel a t w = subst (λ (l : Left). ByFuel a t (l .answer)) (sym (walks a t w)) (on (walk t a) refl (walk-or a t w))
+pub by-fuel : (F : Format) (a : Call) (t : Tree) → Walked a t → ByFuel F a t (leftBy F a .answer)
+by-fuel F a t w = subst (λ (l : Left). ByFuel F a t (l .answer)) (sym (walks F a t w)) (on (walk F t a) refl (walk-or F a t w))
   where
-    on : (o : Out Tree) → walk t a ≡ o → ((n : ℕ) (x : Float) → walkOr (asks n x) t a ≡ instead (asks n x) o) → ByFuel a t (walked (a .given') (heldBy t (a .given')) o .answer)
+    on : (o : Out Tree) → walk F t a ≡ o → ((n : ℕ) (x : Float) → walkOr F (asks n x) t a ≡ instead (asks n x) o) → ByFuel F a t (walked (a .given') (heldBy t (a .given')) o .answer)
     on (done s r t' (world f ans)) q h = rw (← q) at h
     on (asks m y) q h = rw (← q) at h
     on short q h = h
 
 -- so a call is answered 7 only where that visit ends its walk
-pub seven-is-fuel : (a : Call) → leftBy a .answer ≡ OutOfFuel
-    → (t : Tree) × (table (a .given' .kinds) (a .given' .ns) (a .given' .limits) ≡ good t) × ((n : ℕ) (x : Float) → walkOr (asks n x) t a ≡ asks n x)
-seven-is-fuel a q = on (leftBy a) (view a) q
+pub seven-is-fuel : (F : Format) (a : Call) → leftBy F a .answer ≡ OutOfFuel
+    → (t : Tree) × (table (a .given' .kinds) (a .given' .ns) (a .given' .limits) ≡ good t) × ((n : ℕ) (x : Float) → walkOr F (asks n x) t a ≡ asks n x)
+seven-is-fuel F a q = on (leftBy F a) (view F a) q
   where
-    on : (l : Left) → View a l → l .answer ≡ OutOfFuel
-        → (t : Tree) × (table (a .given' .kinds) (a .given' .ns) (a .given' .limits) ≡ good t) × ((n : ℕ) (x : Float) → walkOr (asks n x) t a ≡ asks n x)
+    on : (l : Left) → View F a l → l .answer ≡ OutOfFuel
+        → (t : Tree) × (table (a .given' .kinds) (a .given' .ns) (a .given' .limits) ≡ good t) × ((n : ℕ) (x : Float) → walkOr F (asks n x) t a ≡ asks n x)
     on l (refusing b y) e = absurd (subst (Why a) e y)
-    on l (walking t w) e = (t, w .table-good, subst (ByFuel a t) q (by-fuel a t w))
+    on l (walking t w) e = (t, w .table-good, subst (ByFuel F a t) q (by-fuel F a t w))

@@ -12,6 +12,7 @@ use rules::age;
 use value::deep_said;
 use value::flat_said;
 ghost use mathlib.Core.Path.{_≡_};
+ghost use lib.Ieee.{binary64};
 ghost use Rattle.rules.specs.Outcome.{eventOf};
 ghost use Rattle.rules.specs.Call.{run, given, age};
 ghost use Rattle.rules.specs.Levels.{levels};
@@ -348,7 +349,7 @@ pub extern "C" fn lemboraw_memory(kind: u8, on: bool) -> u8
 // The finish bound of a table at a step.
 #[no_mangle]
 pub extern "C" fn lemboraw_bound(kinds: &[u8], ns: &[u16], limits: &[f64], step: f64) -> Bound
-    ensures { λ r. ⌜ r ≡ boundOf (boundCall (now (kinds .entry)) (now (ns .entry)) (now (limits .entry)) step) ⌝ }
+    ensures { λ r. ⌜ r ≡ boundOf (boundCall binary64 (now (kinds .entry)) (now (ns .entry)) (now (limits .entry)) step) ⌝ }
 {
     let answer = finish_bound(kinds, ns, limits, step);
     bound_of(answer)

@@ -5,7 +5,7 @@ use Prim.Native.Nat.{ℕ, _≤_}
 use native.Mathlib.Omega.{arith}
 use borrow.Author.Tests.{ne-eqb}
 use lib.Dec.{eqb}
-use lib.Ieee.{Float, binary64}
+use lib.Ieee.{Float, Format}
 use Rattle.rules.specs.declared.behavior.Kind.the-variants.{Wait, WaitForever, Action, Invert, AlwaysSucceed, Timeout, Select, If, Sequence}
 use Rattle.rules.specs.declared.behavior.Kind.the-variants.{MemorylessSequence, MemorylessSelector, While, WhileAll, WhenAll, WhenAny, After, Race}
 use Rattle.rules.specs.declared.behavior.Kind.{Kind}
@@ -125,13 +125,13 @@ module _ (own first rest : Ticks) where
 timed-not-after : (k : Kind) → timed k ≡ true → is k After ≡ false
 timed-not-after k h = ne-eqb (code k) 15 (λ e. true≢false (sym (rw e at h)))
 
-module _ (k : Kind) (n : ℕ) (l : Float) (t : Bool) (p : t ≡ timed k) where
-  pub row-timed : (b : Bool) → t ≡ true → wholeTime binary64 l ≡ b → b ≡ rowBounded k n l
+module _ (F : Format) (k : Kind) (n : ℕ) (l : Float) (t : Bool) (p : t ≡ timed k) where
+  pub row-timed : (b : Bool) → t ≡ true → wholeTime F l ≡ b → b ≡ rowBounded F k n l
   row-timed true q w = rw (sym p ∙ q, w, timed-not-after k (sym p ∙ q))
   row-timed false q w = rw (sym p ∙ q, w)
 
-  pub row-after : t ≡ false → k ≡ After → not (eqb n 0) ≡ rowBounded k n l
+  pub row-after : t ≡ false → k ≡ After → not (eqb n 0) ≡ rowBounded F k n l
   row-after q e = rw e
 
-  pub row-other : t ≡ false → is k After ≡ false → true ≡ rowBounded k n l
+  pub row-other : t ≡ false → is k After ≡ false → true ≡ rowBounded F k n l
   row-other q e = rw (sym p ∙ q, e)

@@ -3,7 +3,7 @@ use mathlib.Core.Path.{_≡_}
 use mathlib.Core.Bool.{Bool, true, cond, not, _&&_}
 use Prim.Native.Nat.{ℕ, _≤_}
 use lib.Dec.{eqb}
-use lib.Ieee.{Float, binary64}
+use lib.Ieee.{Float, Format}
 use Rattle.rules.specs.declared.behavior.Kind.{Kind}
 use Rattle.rules.specs.declared.behavior.Kind.the-variants.{Wait, WaitForever, Action, Invert, AlwaysSucceed, Timeout, Select, If, Sequence}
 use Rattle.rules.specs.declared.behavior.Kind.the-variants.{MemorylessSequence, MemorylessSelector, While, WhileAll, WhenAll, WhenAny, After, Race}
@@ -68,5 +68,5 @@ Together k own first rest r =
     → r ≡ clipped (bound d (node k n l c b (t ∷ ts)))
 
 -- the row of a tree that has a bound
-abbrev pub rowBounded : Kind → ℕ → Float → Bool
-rowBounded k n l = cond (timed k) (wholeTime binary64 l) true && not (is k After && eqb n 0)
+abbrev pub rowBounded : Format → Kind → ℕ → Float → Bool
+rowBounded F k n l = cond (timed k) (wholeTime F l) true && not (is k After && eqb n 0)

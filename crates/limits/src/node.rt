@@ -3,6 +3,7 @@ use crate::ticks::Ticks;
 use crate::whole::Whole;
 use rules::Kind;
 ghost use mathlib.Core.Path.{_≡_};
+ghost use lib.Ieee.{binary64};
 ghost use Rattle.rules.specs.Table.{cleaned};
 ghost use Rattle.limits.specs.Ticks.{lim, clipped};
 ghost use Rattle.limits.specs.Node.{joinOf, noneL, joinL, Alone, Together, rowBounded};
@@ -84,7 +85,7 @@ pub fn together(kind: Kind, own: Ticks, first: Ticks, rest: Ticks) -> Ticks
 
 // A whole limit, where the kind has one, and no After without children.
 pub fn bounded(kind: Kind, n: u16, limit: f64) -> bool
-    ensures { λ r. ⌜ r ≡ rowBounded kind n (cleaned limit) ⌝ }
+    ensures { λ r. ⌜ r ≡ rowBounded binary64 kind n (cleaned limit) ⌝ }
 {
     if kind.timed() {
         match Whole::of_limit(limit) {

@@ -21,7 +21,7 @@ impl Whole {
     pub const MOST: u64 = 1099511627776;
 
     pub fn of(x: f64) -> Whole
-        ensures { λ r. ⌜ r ≡ wholeOf x ⌝ }
+        ensures { λ r. ⌜ r ≡ wholeOf binary64 x ⌝ }
     {
         if x > -1.0 {
             if x < 18446744073709551616.0 {
@@ -39,7 +39,7 @@ impl Whole {
 
     // A limit as it is lent: minus zero is taken as plus zero.
     pub fn of_limit(limit: f64) -> Whole
-        ensures { λ r. ⌜ r ≡ wholeOf (cleaned limit) ⌝ }
+        ensures { λ r. ⌜ r ≡ wholeOf binary64 (cleaned limit) ⌝ }
     {
         Whole::of(cleaned(limit))
     }

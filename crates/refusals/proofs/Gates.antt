@@ -6,7 +6,7 @@ use Prim.Native.Nat.{ℕ, _≤_, _<_}
 use native.Mathlib.Omega.{arith}
 use borrow.Author.Tests.{leb-true, lt-ltb, le-ltb}
 use lib.Dec.{leb}
-use lib.Ieee.{Float}
+use lib.Ieee.{Float, binary64}
 use lib.ListN.{length, replicate}
 use Rattle.rules.specs.declared.answer.Answer.{Answer}
 use Rattle.rules.specs.declared.answer.Answer.the-variants.{BadTable, TooShort, BadCell, BadTime, BadAnswer, Finished, NoRoom}
@@ -76,13 +76,13 @@ unused-test false e h = refl
 
 used-alike : (fresh : Bool) (g : Given) → callOf fresh (withEvent (cleanedEvent (g .event)) g) ≡ callOf fresh g
 unfolding callOf
-used-alike true g = same-event true g
-used-alike false g = same-event false g
+used-alike true g = same-event binary64 true g
+used-alike false g = same-event binary64 false g
 
 -- ---- a tick and a restart: what is due of a table's tree once its memory is found long enough, and what once its cells and its inputs pass
 abbrev endOf : Bool → Given → Tree → Left
-endOf true g t = walked g (atEntry g t) (walkFrom g (fresh t))
-endOf false g t = cond (g .record' .finished) (refused g Finished) (walked g (atEntry g t) (walkFrom g (atEntry g t)))
+endOf true g t = walked g (atEntry g t) (walkFrom binary64 g (fresh t))
+endOf false g t = cond (g .record' .finished) (refused g Finished) (walked g (atEntry g t) (walkFrom binary64 g (atEntry g t)))
 
 abbrev dueOf : Bool → Given → Tree → Left
 dueOf true g t = onInputs g (endOf true g t)
@@ -98,7 +98,7 @@ end-finished fresh g t e f = rw (e, f)
 
 -- the walk starts from the cells at entry, or from fresh ones
 starts : (anew : Bool) (g : Given) (n : ℕ) (t : Tree) → begun true n t (g .cells') ≡ fresh t → (anew ≡ false → g .record' .finished ≡ false)
-    → endOf anew g t ≡ walked g (atEntry g t) (walkFrom g (begun anew n t (g .cells')))
+    → endOf anew g t ≡ walked g (atEntry g t) (walkFrom binary64 g (begun anew n t (g .cells')))
 starts true g n t z f = rw z
 starts false g n t z f = rw (f refl)
 
@@ -273,10 +273,10 @@ module _ {fresh : Bool} {k : ℕ} {g : Given} {ws : List ℕ} {n : ℕ} where
     clean = withEvent (cleanedEvent (g .event)) g
 
     walks : (fresh ≡ false → g .record' .finished ≡ false)
-        → callOf fresh clean ≡ walked clean (atEntry g the-tree) (walkWith clean (begun fresh n the-tree (g .cells')))
+        → callOf fresh clean ≡ walked clean (atEntry g the-tree) (walkWith binary64 clean (begun fresh n the-tree (g .cells')))
     walks f =
         used-alike fresh g ∙ passes ∙ starts fresh g n the-tree (starts-fresh (t .timed .held .fit)) f
-        ∙ sym (same-walk g (cleanedEvent (g .event)) (atEntry g the-tree) (walkFrom g (begun fresh n the-tree (g .cells'))))
+        ∙ sym (same-walk g (cleanedEvent (g .event)) (atEntry g the-tree) (walkFrom binary64 g (begun fresh n the-tree (g .cells'))))
 
     due-clean : (fresh ≡ false → g .record' .finished ≡ false) → Due fresh clean ws n
     due-clean f =
@@ -317,6 +317,6 @@ module _ (fresh : Bool) (k : ℕ) (g : Given) (ws : List ℕ) (o : Gate) (p : Pa
       let passed = passed-open n u e in
       let due = passed .2 in
       let walk : ofWalk (callOf fresh g .answer) ≡ true = rw (← passed .1, due .walks) (of-walk (withEvent u g) (held (due .tree) (g .cells'))
-      (walkWith (withEvent u g) (begun fresh n (due .tree) (g .cells')))) in
+      (walkWith binary64 (withEvent u g) (begun fresh n (due .tree) (g .cells')))) in
       rw (withRoom, enough fresh g (due .tree) r (due .is) (rw q (passed .0)), walk, ← passed .1, h, z)
   passed-on n u l e h false r r' q z = rw (← passed-open n u e .1, h, z)

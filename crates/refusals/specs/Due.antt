@@ -4,7 +4,7 @@ use mathlib.Core.Bool.{Bool, true, false, cond, not, _||_}
 use mathlib.Core.List.{List}
 use Prim.Native.Nat.{ℕ, _≤_}
 use lib.Dec.{leb}
-use lib.Ieee.{Float, binary64}
+use lib.Ieee.{Float, Format, binary64}
 use lib.ListN.{length, replicate}
 use Rattle.rules.specs.declared.answer.Answer.{Answer}
 use Rattle.rules.specs.declared.answer.Answer.the-variants.{BadTable, TooShort}
@@ -27,10 +27,11 @@ use Rattle.refusals.specs.declared.gate.Gate.the-variants.{Refused, Open
 use Rattle.refusals.specs.declared.gate.Timed.{Timed}
 use Rattle.refusals.specs.declared.gate.Timed.the-variants as timed
 
+-- the calls of this build: their times are f64
 unfoldable pub callOf : Bool → Given → Left
 unfolding tickCall restartCall
-callOf true g = restartCall g
-callOf false g = tickCall g
+callOf true g = restartCall binary64 g
+callOf false g = tickCall binary64 g
 
 -- a call with recursion leaves the room as it is
 abbrev pub wholeCall : Bool → Bool → Given → Levels → FlatLeft
@@ -49,8 +50,8 @@ abbrev pub begun : Bool → ℕ → Tree → Run → Tree
 begun fresh n t c = withCells t (startOf fresh n c) .0
 
 -- the walk that starts from the tree t, with the event as it is
-abbrev pub walkWith : Given → Tree → Out Tree
-walkWith g t = tick binary64 mostDeep t (g .event) (world (g .fuel) (answers (g .statuses) (g .leftovers)))
+abbrev pub walkWith : Format → Given → Tree → Out Tree
+walkWith F g t = tick F mostDeep t (g .event) (world (g .fuel) (answers (g .statuses) (g .leftovers)))
 
 -- the tree of n nodes in the table, whose walk is all that is left of the call, and its words
 pub record Due (fresh : Bool) (g : Given) (ws : List ℕ) (n : ℕ) : Type 0 where
@@ -67,7 +68,7 @@ pub record Due (fresh : Bool) (g : Given) (ws : List ℕ) (n : ℕ) : Type 0 whe
   pub cells-long : Long n (g .cells')
   pub spare-long : Long n (g .spare)
   pub board-long : n ≤ length (g .board)
-  pub walks : callOf fresh g ≡ walked g (held tree (g .cells')) (walkWith g (begun fresh n tree (g .cells')))
+  pub walks : callOf fresh g ≡ walked g (held tree (g .cells')) (walkWith binary64 g (begun fresh n tree (g .cells')))
 
 -- cells, spare or board have fewer than n entries
 abbrev pub shortFor : ℕ → Run → Run → List ℕ → Bool

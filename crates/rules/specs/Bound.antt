@@ -117,7 +117,7 @@ module _ (F : Format) where
     boundables [] = true
     boundables (t ∷ ts) = boundable t && boundables ts
 
--- the step: whole, 1 to 2 ^ 40
+-- the step: whole, 1 to the cap
 abbrev pub stepAllowed : Format → Float → Bool
 stepAllowed F d = wholeTime F d && leb 1 (num d)
 
@@ -130,9 +130,9 @@ told never = says.Never
 told (within n) = cond (leb n mostTicks) (says.Within n) says.Above
 
 -- 3, then 8, then the root's answer
-unfoldable pub boundCall : List ℕ → List ℕ → List Float → Float → BoundAnswer
+unfoldable pub boundCall : Format → List ℕ → List ℕ → List Float → Float → BoundAnswer
 unfolding table wholeTime boundable bound
-boundCall kinds ns limits d = elim (table kinds ns limits) [
+boundCall F kinds ns limits d = elim (table kinds ns limits) [
   | bad p ↦ says.BadTable p
-  | good t ↦ cond (stepAllowed binary64 d && boundable binary64 t) (told (bound (num d) t)) says.NoBound
+  | good t ↦ cond (stepAllowed F d && boundable F t) (told (bound (num d) t)) says.NoBound
 ]

@@ -4,7 +4,7 @@ use mathlib.Core.List.{List, _++_}
 use mathlib.Core.List
 use Prim.Native.Nat.{ℕ, suc, _+_, _-_, _%_, _^_, min}
 use lib.Dec.{leb}
-use lib.Ieee.{Float, binary64}
+use lib.Ieee.{Float, Format}
 use lib.ListN.{length, take, drop}
 use Rattle.rules.specs.declared.status.Status.{Status}
 use Rattle.rules.specs.declared.status.Status.the-variants.{Running, Success, Failure}
@@ -161,22 +161,22 @@ onInputs g due = cond (timeAllowed (g .event))
 abbrev pub atEntry : Given → Tree → Tree
 atEntry g t₀ = withCells t₀ (cells (g .cells' .times) (g .cells' .places) (g .cells' .marks)) .0
 
--- the walk that starts from the tree t
-abbrev pub walkFrom : Given → Tree → Out Tree
-walkFrom g t = tick binary64 mostDeep t (cleanedEvent (g .event)) (world (g .fuel) (answers (g .statuses) (g .leftovers)))
+-- the walk that starts from the tree t, with times of that format
+abbrev pub walkFrom : Format → Given → Tree → Out Tree
+walkFrom F g t = tick F mostDeep t (cleanedEvent (g .event)) (world (g .fuel) (answers (g .statuses) (g .leftovers)))
 
 -- a tick: 3 and 4, 9, 5 and 6, 2; then the walk starts from the tree with the cells at entry
-unfoldable pub tickCall : Given → Left
+unfoldable pub tickCall : Format → Given → Left
 unfolding tick table withCells badCell cells answers badAnswer counted ontoRun stamped ontoBoard shownAs
-tickCall g = onTable g λ t₀. let t = atEntry g t₀ in elim (badCell false false 0 t) [
+tickCall F g = onTable g λ t₀. let t = atEntry g t₀ in elim (badCell false false 0 t) [
   | faulty p ↦ refused g (BadCell p)
-  | none _ ↦ onInputs g (cond (g .record' .finished) (refused g Finished) (walked g t (walkFrom g t)))
+  | none _ ↦ onInputs g (cond (g .record' .finished) (refused g Finished) (walked g t (walkFrom F g t)))
 ]
 
 -- a restart: 3 and 4, 5 and 6; then the walk starts from the table's tree made fresh. The cells at entry may hold anything, and go to the spare as they are
-unfoldable pub restartCall : Given → Left
+unfoldable pub restartCall : Format → Given → Left
 unfolding tick table fresh withCells cells answers badAnswer counted ontoRun stamped ontoBoard shownAs
-restartCall g = onTable g λ t₀. onInputs g (walked g (atEntry g t₀) (walkFrom g (fresh t₀)))
+restartCall F g = onTable g λ t₀. onInputs g (walked g (atEntry g t₀) (walkFrom F g (fresh t₀)))
 
 -- ---- document 01's numbers: "every field that a line doesn't name is 0"
 abbrev pub numbers : ℕ → ℕ → ℕ → ℕ → ℕ → Float → Said

@@ -93,24 +93,24 @@ given t now (call e fuel ans) = record {
 unfoldable pub said : Tree → Left → List Call → List Answer
 unfolding given tickCall
 said t now List.[] = List.[]
-said t now (List._∷_ c cs) = let next = tickCall (given t now c) in List._∷_ (next .answer) (said t next cs)
+said t now (List._∷_ c cs) = let next = tickCall binary64 (given t now c) in List._∷_ (next .answer) (said t next cs)
 
 -- the board after each call
 unfoldable pub seen : Tree → Left → List Call → List (List ℕ)
 unfolding given tickCall
 seen t now List.[] = List.[]
-seen t now (List._∷_ c cs) = let next = tickCall (given t now c) in List._∷_ (next .board) (seen t next cs)
+seen t now (List._∷_ c cs) = let next = tickCall binary64 (given t now c) in List._∷_ (next .board) (seen t next cs)
 
 -- the numbers of the cells after each call
 unfoldable pub numbered : Tree → Left → List Call → List (List ℕ)
 unfolding given tickCall
 numbered t now List.[] = List.[]
-numbered t now (List._∷_ c cs) = let next = tickCall (given t now c) in List._∷_ (next .cells' .sinces) (numbered t next cs)
+numbered t now (List._∷_ c cs) = let next = tickCall binary64 (given t now c) in List._∷_ (next .cells' .sinces) (numbered t next cs)
 
 -- the finish bound of a step
 unfoldable pub bounds : Tree → ℕ → BoundAnswer
 unfolding fields boundCall
-bounds t d = boundCall (fields (λ k n l. code k) t List.[]) (fields (λ k n l. n) t List.[]) (fields (λ k n l. l) t List.[]) (sec d)
+bounds t d = boundCall binary64 (fields (λ k n l. code k) t List.[]) (fields (λ k n l. n) t List.[]) (fields (λ k n l. l) t List.[]) (sec d)
 
 -- ---- the list
 -- ticks TREE CALLS ANSWERS; boards TREE CALLS BOARDS; sinces TREE CALLS NUMBERS; bound TREE STEP ANSWER

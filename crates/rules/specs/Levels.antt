@@ -3,7 +3,7 @@ use mathlib.Core.Bool.{Bool, true, false, cond, not, _&&_}
 use mathlib.Core.List.{List, _++_}
 use Prim.Native.Nat.{ℕ, min}
 use lib.Dec.{ltb}
-use lib.Ieee.{Float}
+use lib.Ieee.{Float, Format}
 use lib.ListN.{length, drop, replicate}
 use Rattle.rules.specs.declared.answer.Answer.{Answer}
 use Rattle.rules.specs.declared.answer.Answer.the-variants.{Ticked, Asked, Finished, BadTable, TooShort, BadTime, BadAnswer, OutOfFuel, BadCell, NoRoom}
@@ -67,10 +67,10 @@ withRoom call g r = cond (noRoom g r)
     (flatLeft (refused g NoRoom) r)
     (let l = call g in flatLeft l (cond (ofWalk (l .answer)) (cleared r) r))
 
-unfoldable pub tickFlat : Given → Levels → FlatLeft
+unfoldable pub tickFlat : Format → Given → Levels → FlatLeft
 unfolding table tickCall
-tickFlat g r = withRoom tickCall g r
+tickFlat F g r = withRoom (tickCall F) g r
 
-unfoldable pub restartFlat : Given → Levels → FlatLeft
+unfoldable pub restartFlat : Format → Given → Levels → FlatLeft
 unfolding table restartCall
-restartFlat g r = withRoom restartCall g r
+restartFlat F g r = withRoom (restartCall F) g r

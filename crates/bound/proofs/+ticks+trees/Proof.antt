@@ -3,6 +3,7 @@ use Prim.Native.Nat.{ℕ, _+_, _-_, _*_, _<_}
 use native.Mathlib.Omega.{arith}
 use borrow.Fn.Kinds.{In}
 use borrow.Fn.PlainCycle.{Measures, is, falls, and}
+use lib.Ieee.{binary64}
 use lib.ListN.{getD}
 use Rattle.rules.specs.Tree.{Forest}
 use Rattle.rules.proofs.behavior.Kind.of.Reads as kind-of
@@ -45,7 +46,7 @@ trees-below t = and 4 trees-kinds.ps (falls 4 trees-kinds.ps _<_ μ-trees t) tre
 -- what is left of the trees, and what has been counted of them
 abbrev trees-Inv-loop : trees-lts.InvT-loop
 trees-Inv-loop kinds ns limits ends step join from count all₀ at₀ left₀ all at left =
-    (ts : Forest) (stop : ℕ) → Stand kinds ns limits ends from count ts stop → Left kinds ns limits ends join step from count ts stop at left all
+    (ts : Forest) (stop : ℕ) → Stand binary64 kinds ns limits ends from count ts stop → Left binary64 kinds ns limits ends join step from count ts stop at left all
 
 abbrev trees-μ-loop : trees-lts.MeasureT-loop
 trees-μ-loop kinds ns limits ends step join from count all₀ at₀ left₀ all at left = left
@@ -77,21 +78,21 @@ met-ticks t = ticks-lts.spec
     (ticks-at t)
     ticks.Post
     -- shared-slice-read-of
-    (λ c. inside _ _ _ _ _ (c .before .before .before .before .pre .1 .1) .in-kinds)
+    (λ c. inside _ _ _ _ _ _ (c .before .before .before .before .pre .1 .1) .in-kinds)
     -- of-requires
     (λ c κs. tt)
     -- mul-own-ticks
-    (λ c. omega (arith, inside _ _ _ _ _ (c .before .before .before .before .before .pre .1 .1) .in-ends))
+    (λ c. omega (arith, inside _ _ _ _ _ _ (c .before .before .before .before .before .pre .1 .1) .in-ends))
     -- shared-slice-read-own-ticks
-    (λ c. inside _ _ _ _ _ (c .before .before .before .before .before .before .pre .1 .1) .in-limits)
+    (λ c. inside _ _ _ _ _ _ (c .before .before .before .before .before .before .pre .1 .1) .in-limits)
     -- own-ticks-requires
     (λ c κs.
     let step = c .before .before .before .before .before .before .pre .1 .0 in
     (step .some, step .most))
     -- mul-children
-    (λ c. omega (arith, inside _ _ _ _ _ (c .before .before .before .before .before .before .before .pre .1 .1) .in-ends))
+    (λ c. omega (arith, inside _ _ _ _ _ _ (c .before .before .before .before .before .before .before .pre .1 .1) .in-ends))
     -- shared-slice-read-children
-    (λ c. inside _ _ _ _ _ (c .before .before .before .before .before .before .before .before .pre .1 .1) .in-ns)
+    (λ c. inside _ _ _ _ _ _ (c .before .before .before .before .before .before .before .before .pre .1 .1) .in-ns)
     -- children-requires
     (λ c κs. tt)
     -- alone-requires
@@ -101,33 +102,33 @@ met-ticks t = ticks-lts.spec
     let own = c .before .before .before .before in
     let kind = own .before .before in
     let p = kind .before .before .before .before .before .pre in
-    alone-bound _ _ _ _ _ _ _ _ _ (inside _ _ _ _ _ (p .1 .1) .in-limits) (kind .of .ensures) (own .own-ticks .ensures)
+    alone-bound _ _ _ _ _ _ _ _ _ _ (inside _ _ _ _ _ _ (p .1 .1) .in-limits) (kind .of .ensures) (own .own-ticks .ensures)
     (c .before .before .children .ensures) _ (c .alone .ensures) (c .before .if1 .taken))
     -- add-ticks
-    (λ c. omega (arith, inside _ _ _ _ _ (c .before .before .before .before .before .before .before .before .before .before .pre .1 .1) .in-ends))
+    (λ c. omega (arith, inside _ _ _ _ _ _ (c .before .before .before .before .before .before .before .before .before .before .pre .1 .1) .in-ends))
     -- ticks-requires
     (λ c κs.
     let kind = c .before .before .before .before .before in
     let p = kind .before .before .before .before .before .pre in
-    let k = children-ready _ _ _ _ _ _ _ (p .1 .1) (kind .of .ensures) (c .before .children .ensures) (c .if1 .left) in
+    let k = children-ready _ _ _ _ _ _ _ _ (p .1 .1) (kind .of .ensures) (c .before .children .ensures) (c .if1 .left) in
     (omega (arith, k .inside, k .first-inside, k .first-after, p .0), (p .1 .0, k .first)))
     -- add-next
-    (λ c. omega (arith, inside _ _ _ _ _ (c .before .before .before .before .before .before .before .before .before .before .before .pre .1 .1) .in-ends))
+    (λ c. omega (arith, inside _ _ _ _ _ _ (c .before .before .before .before .before .before .before .before .before .before .before .pre .1 .1) .in-ends))
     -- mul-next
-    (λ c. omega (arith, inside _ _ _ _ _ (c .before .before .before .before .before .before .before .before .before .before .before .pre .1 .1) .in-ends))
+    (λ c. omega (arith, inside _ _ _ _ _ _ (c .before .before .before .before .before .before .before .before .before .before .before .pre .1 .1) .in-ends))
     -- element-copy-out-next
     (λ c.
     let some = c .before in
     let kind = some .before .before .before .before .before in
     let p = kind .before .before .before .before .before .pre in
-    let k = children-ready _ _ _ _ _ _ _ (p .1 .1) (kind .of .ensures) (some .before .children .ensures) (some .if1 .left) in
+    let k = children-ready _ _ _ _ _ _ _ _ (p .1 .1) (kind .of .ensures) (some .before .children .ensures) (some .if1 .left) in
     omega (arith, k .inside, p .1 .1 .room .in-ends))
     -- cast-next
     (λ c.
     let some = c .before .before in
     let kind = some .before .before .before .before .before in
     let p = kind .before .before .before .before .before .pre in
-    let k = children-ready _ _ _ _ _ _ _ (p .1 .1) (kind .of .ensures) (some .before .children .ensures) (some .if1 .left) in
+    let k = children-ready _ _ _ _ _ _ _ _ (p .1 .1) (kind .of .ensures) (some .before .children .ensures) (some .if1 .left) in
     omega (arith, k .first-inside, p .1 .1 .room .in-ends))
     -- of-requires-2
     (λ c κs. tt)
@@ -138,7 +139,7 @@ met-ticks t = ticks-lts.spec
     let some = c .before .before .before in
     let kind = some .before .before .before .before .before in
     let p = kind .before .before .before .before .before .pre in
-    let k = children-ready _ _ _ _ _ _ _ (p .1 .1) (kind .of .ensures) (some .before .children .ensures) (some .if1 .left) in
+    let k = children-ready _ _ _ _ _ _ _ _ (p .1 .1) (kind .of .ensures) (some .before .children .ensures) (some .if1 .left) in
     (omega (arith, k .inside, k .first-inside, k .first-after, k .rest-inside, p .0), (p .1 .0, k .rest)))
     -- together-requires
     (λ c κs. tt)
@@ -149,7 +150,7 @@ met-ticks t = ticks-lts.spec
     let own = some .before .before .before in
     let kind = own .before .before in
     let p = kind .before .before .before .before .before .pre in
-    together-bound _ _ _ _ _ _ _ _ _ (inside _ _ _ _ _ (p .1 .1) .in-limits) (kind .of .ensures) (own .own-ticks .ensures)
+    together-bound _ _ _ _ _ _ _ _ _ _ (inside _ _ _ _ _ _ (p .1 .1) .in-limits) (kind .of .ensures) (own .own-ticks .ensures)
     (some .before .children .ensures) _ _ _ _ (c .together .ensures) (some .if1 .left)
     (c .before .before .of2 .ensures) (first .ticks .ensures) (c .before .trees .ensures))
 
@@ -163,12 +164,12 @@ met-trees t = trees-lts.spec
     -- none-requires
     (λ c κs. tt)
     -- loop-holds
-    (λ c. left-start _ _ _ _ _ _ _ _ _ (c .none .ensures))
+    (λ c. left-start _ _ _ _ _ _ _ _ _ _ (c .none .ensures))
     -- ticks-requires
     (λ c κs.
     let p = c .before .before .before .before .before .before .pre in
     let r = p .1 .1 in
-    let x = left-ready _ _ _ _ _ _ _ _ _ _ _ (c .loop-test .taken) r (c .before .loop .inv (r .trees) (r .stop) (r .stand)) in
+    let x = left-ready _ _ _ _ _ _ _ _ _ _ _ _ (c .loop-test .taken) r (c .before .loop .inv (r .trees) (r .stop) (r .stand)) in
     (omega (arith, x .inside, x .later, p .0), (p .1 .0, x .ready)))
     -- with-requires
     (λ c κs. tt)
@@ -176,19 +177,19 @@ met-trees t = trees-lts.spec
     (λ c.
     let turn = c .before .before in
     let r = turn .before .before .before .before .before .before .pre .1 .1 in
-    let x = left-ready _ _ _ _ _ _ _ _ _ _ _ (turn .loop-test .taken) r (turn .before .loop .inv (r .trees) (r .stop) (r .stand)) in
-    omega (arith, inside _ _ _ _ _ (x .ready) .in-ends))
+    let x = left-ready _ _ _ _ _ _ _ _ _ _ _ _ (turn .loop-test .taken) r (turn .before .loop .inv (r .trees) (r .stop) (r .stand)) in
+    omega (arith, inside _ _ _ _ _ _ (x .ready) .in-ends))
     -- element-copy-out-at
     (λ c.
     let turn = c .before .before in
     let r = turn .before .before .before .before .before .before .pre .1 .1 in
-    let x = left-ready _ _ _ _ _ _ _ _ _ _ _ (turn .loop-test .taken) r (turn .before .loop .inv (r .trees) (r .stop) (r .stand)) in
-    inside _ _ _ _ _ (x .ready) .in-ends)
+    let x = left-ready _ _ _ _ _ _ _ _ _ _ _ _ (turn .loop-test .taken) r (turn .before .loop .inv (r .trees) (r .stop) (r .stand)) in
+    inside _ _ _ _ _ _ (x .ready) .in-ends)
     -- cast-at
     (λ c.
     let turn = c .before .before .before in
     let r = turn .before .before .before .before .before .before .pre .1 .1 in
-    let x = left-ready _ _ _ _ _ _ _ _ _ _ _ (turn .loop-test .taken) r (turn .before .loop .inv (r .trees) (r .stop) (r .stand)) in
+    let x = left-ready _ _ _ _ _ _ _ _ _ _ _ _ (turn .loop-test .taken) r (turn .before .loop .inv (r .trees) (r .stop) (r .stand)) in
     omega (arith, x .ready .room .in-ends))
     -- sub-left
     (λ c. omega (arith, c .before .before .before .loop-test .taken))
@@ -197,9 +198,9 @@ met-trees t = trees-lts.spec
     -- loop-again
     (λ c ts stop h.
     let turn = c .before .before .before in
-    left-next _ _ _ _ _ _ _ _ _ _ _ _ _ _ _ (turn .loop-test .taken) (c .before .before .ticks .ensures) (c .before .with .ensures) (turn .before .loop .inv ts stop h))
+    left-next _ _ _ _ _ _ _ _ _ _ _ _ _ _ _ _ (turn .loop-test .taken) (c .before .before .ticks .ensures) (c .before .with .ensures) (turn .before .loop .inv ts stop h))
     -- returns
-    (λ c ts stop h. left-done _ _ _ _ _ _ _ _ _ _ _ _ _ (omega (arith, c .loop-test .left)) (c .before .loop .inv ts stop h))
+    (λ c ts stop h. left-done _ _ _ _ _ _ _ _ _ _ _ _ _ _ (omega (arith, c .loop-test .left)) (c .before .loop .inv ts stop h))
 
 pub +ticks+trees-spec : {M : Type 1} → statement M
 +ticks+trees-spec = close μ-ticks μ-trees met-ticks met-trees

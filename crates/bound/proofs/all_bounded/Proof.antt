@@ -6,12 +6,13 @@ use native.Mathlib.Nat.{not-suc-le-zero}
 use native.Mathlib.Omega.{arith}
 use borrow.Author.Count.{below-more}
 use borrow.Author.Tests.{not-true, not-false}
+use lib.Ieee.{binary64}
 use Rattle.bound.proofs.Rows.{rowAt, all-rows, a-row}
 use Rattle.bound.proofs.all_bounded.Statement.{statement}
 use Rattle.bound.proofs.all_bounded.Tie as tie
 
 abbrev Inv-loop : tie.InvT-loop
-Inv-loop kinds ns limits count i₀ i = (i ≤ count) × ((j : ℕ) → j < i → rowAt kinds ns limits j ≡ true)
+Inv-loop kinds ns limits count i₀ i = (i ≤ count) × ((j : ℕ) → j < i → rowAt binary64 kinds ns limits j ≡ true)
 
 abbrev μ-loop : tie.MeasureT-loop
 μ-loop kinds ns limits count i₀ i = count - i
@@ -21,14 +22,14 @@ row :
     (c : tie.After-bounded Inv-loop μ-loop) →
     let loop = c .before .before .before .before .before .before .before in
     let a = loop .before .before .before .before .args in
-    c .bounded .result ≡ rowAt (a .kinds .now) (a .ns .now) (a .limits .now) (loop .loop .i)
+    c .bounded .result ≡ rowAt binary64 (a .kinds .now) (a .ns .now) (a .limits .now) (loop .loop .i)
 row c = c .bounded .ensures ∙ rw (c .before .before .children .ensures, c .before .before .before .before .of .ensures)
 
 refused : tie.Need-returns Inv-loop μ-loop
 refused c ends t h e =
     let loop = c .before .before .before .before .before .before .before .before in
     let none = sym (row (c .before)) ∙ not-true _ (c .if1 .taken) in
-    sym (a-row _ _ _ ends _ (loop .before .before .before .before .pre .in-limits) 0 t h (omega arith) (loop .loop .i) (omega arith) (omega arith) none)
+    sym (a-row _ _ _ _ ends _ (loop .before .before .before .before .pre .in-limits) 0 t h (omega arith) (loop .loop .i) (omega arith) (omega arith) none)
 
 loop-again : tie.Need-loop-again Inv-loop μ-loop
 loop-again c =
@@ -38,7 +39,7 @@ loop-again c =
 all : tie.Need-returns-2 Inv-loop μ-loop
 all c ends t h e =
     let loop = c .before in
-    sym (all-rows _ _ _ ends _ (loop .before .before .before .before .pre .in-limits) 0 t h (omega arith) (λ j p q. loop .loop .inv .1 j (omega arith)))
+    sym (all-rows _ _ _ _ ends _ (loop .before .before .before .before .pre .in-limits) 0 t h (omega arith) (λ j p q. loop .loop .inv .1 j (omega arith)))
 
 pub all-bounded-spec : {M : Type 1} → statement M
 all-bounded-spec =

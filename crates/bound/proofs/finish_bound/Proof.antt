@@ -31,7 +31,7 @@ whole :
     (c : tie.After-d) →
     let x = start (counted c) .args .step in
     (wholeTime binary64 x ≡ true) × (c .d .given .0 .0 ≡ num x) × (c .d .given .0 .0 ≤ cap binary64)
-whole c = whole-known _ _ (c .before .before .of .ensures) _ (c .d .given .1)
+whole c = whole-known binary64 _ _ (c .before .before .of .ensures) _ (c .d .given .1)
 
 bounded : (c : tie.After-all-bounded) → c .all-bounded .result ≡ boundable binary64 (found (counted (stepped c)) .tree)
 bounded c =
@@ -45,23 +45,23 @@ has-bound c = sym (bounded (c .before)) ∙ not-false _ (c .if2 .left)
 no-step : tie.Need-returns
 no-step c =
     let d = c .before .before in
-    step-zero _ _ _ _ _ (found (counted d)) _ _ (whole d .0) (whole d .1) (c .if1 .taken)
+    step-zero _ _ _ _ _ binary64 (found (counted d)) _ _ (whole d .0) (whole d .1) (c .if1 .taken)
 
 unbounded : tie.Need-returns-2
 unbounded c =
     let d = stepped (c .before) in
     let none = sym (bounded (c .before)) ∙ not-true _ (c .if2 .taken) in
-    not-bounded _ _ _ _ _ (found (counted d)) _ _ (whole d .0) (whole d .1) (c .before .before .if1 .left) none
+    not-bounded _ _ _ _ _ binary64 (found (counted d)) _ _ (whole d .0) (whole d .1) (c .before .before .if1 .left) none
 
 ticks-requires : tie.Need-ticks-requires
 ticks-requires c κs =
     let d = stepped (c .before .before) in
-    (step-allowed _ (c .before .before .before .if1 .left) (whole d .2), good-ready _ _ _ _ _ (found (counted d)) (has-bound (c .before)))
+    (step-allowed binary64 _ (c .before .before .before .if1 .left) (whole d .2), good-ready _ _ _ _ _ binary64 (found (counted d)) (has-bound (c .before)))
 
 not-whole : tie.Need-returns-4
 not-whole c =
-    let none = whole-none _ _ (c .before .before .of .ensures) (c .enum-told .given .1) in
-    step-not-whole _ _ _ _ _ (found (c .before .before .before .before)) _ none
+    let none = whole-none binary64 _ _ (c .before .before .of .ensures) (c .enum-told .given .1) in
+    step-not-whole _ _ _ _ _ binary64 (found (c .before .before .before .before)) _ none
 
 told : tie.Need-returns-5
 told c =
@@ -70,7 +70,7 @@ told c =
     let table = found (counted d) in
     let b = has-bound some in
     let t = c .before .ticks .ensures _ (record { held = table .held; whole = b }) in
-    bounded-told _ _ _ _ _ table _ _ (whole d .0) (whole d .1) (some .before .before .if1 .left) b _ _ t (c .told .ensures)
+    bounded-told _ _ _ _ _ binary64 table _ _ (whole d .0) (whole d .1) (some .before .before .if1 .left) b _ _ t (c .told .ensures)
 
 pub finish-bound-spec : {M : Type 1} → statement M
 finish-bound-spec =
@@ -87,6 +87,6 @@ finish-bound-spec =
     unbounded
     ticks-requires
     (λ c κs. tt)
-    (λ c. found-bad _ _ _ _ _ _ (c .before .before .before .check-table .ensures) _ (c .before .place .given .1) _)
+    (λ c. found-bad _ _ _ _ _ _ (c .before .before .before .check-table .ensures) binary64 _ (c .before .place .given .1) _)
     not-whole
     told)

@@ -1,6 +1,7 @@
 -- Each round uses fuel.
 use mathlib.Core.Path.{refl, _∙_}
 use native.Mathlib.Omega.{arith}
+use lib.Ieee.{binary64}
 use borrow.Author.Needs.{needs}
 use borrow.Author.Tests.{not-true, not-false}
 use denote.Ref.{now}
@@ -13,7 +14,7 @@ use Rattle.engine.proofs.climb.climb.Tie as tie
 
 abbrev Inv-loop : tie.InvT-loop
 Inv-loop work₀ limits statuses leftovers times₀ opens₀ counts₀ wholes₀ rests₀ dt stand₀ work times opens counts wholes rests stand =
-    WayDown (lent (now limits) (now statuses) (now leftovers)) (stand₀ .deep) (stand₀ .level) (stand₀ .left) (levels opens₀ counts₀ wholes₀ rests₀) work₀ times₀
+    WayDown binary64 (lent (now limits) (now statuses) (now leftovers)) (stand₀ .deep) (stand₀ .level) (stand₀ .left) (levels opens₀ counts₀ wholes₀ rests₀) work₀ times₀
     (stand .deep) (stand .level) (stand .left) (levels opens counts wholes rests) work times
 
 abbrev μ-loop : tie.MeasureT-loop
@@ -60,7 +61,7 @@ returns c =
     let at = loop down in
     let root = at .before in
     let a = root .before .before .before .before .before .before .args in (
-      root-due (lent (a .limits .now .now) (a .statuses .now .now) (a .leftovers .now .now)) (root .entered .result) (a .dt)
+      root-due binary64 (lent (a .limits .now .now) (a .statuses .now .now) (a .leftovers .now .now)) (root .entered .result) (a .dt)
           (levels (a .opens .now) (a .counts .now) (a .wholes .now) (a .rests .now)) (a .work .now) (a .times .now) (rw (root .entered .ensures))
           ∙ round-over (at .loop .inv) (down .down .ensures) (up .up .ensures) (not-true _ (c .if1 .taken)),
       round-behind (at .loop .inv) (down .down .ensures) (up .up .ensures),

@@ -4,6 +4,7 @@ use mathlib.Core.Bool.{true, false}
 use mathlib.Core.Logic.{⊎-elim}
 use Prim.Native.Nat.{_-_}
 use native.Mathlib.Omega.{arith}
+use lib.Ieee.{binary64}
 use borrow.Author.Needs.{needs}
 use borrow.Author.Tests.{not-true, not-false}
 use denote.Ref.{now}
@@ -18,7 +19,7 @@ use Rattle.engine.proofs.climb.down.Tie as tie
 
 abbrev Inv-loop : tie.InvT-loop
 Inv-loop work₀ limits statuses leftovers times₀ opens₀ counts₀ wholes₀ rests₀ deep₀ level₀ rest₀ work times opens counts wholes rests deep level rest =
-    WayDown (lent (now limits) (now statuses) (now leftovers)) deep₀ level₀ rest₀ (levels opens₀ counts₀ wholes₀ rests₀) work₀ times₀
+    WayDown binary64 (lent (now limits) (now statuses) (now leftovers)) deep₀ level₀ rest₀ (levels opens₀ counts₀ wholes₀ rests₀) work₀ times₀
     deep level rest (levels opens counts wholes rests) work times
 
 abbrev μ-loop : tie.MeasureT-loop
@@ -98,7 +99,7 @@ deeper c = ⊎-elim
 
 -- the way so far, with that room
 with-room : (c : Stands tie.Joined4) → let a = around c .before .before .before .before .before .before .before .args in let l = around c .loop in
-    WayDown (lent (a .limits .now .now) (a .statuses .now .now) (a .leftovers .now .now)) (a .stand .deep) (a .stand .level) (a .stand .left)
+    WayDown binary64 (lent (a .limits .now .now) (a .statuses .now .now) (a .leftovers .now .now)) (a .stand .deep) (a .stand .level) (a .stand .left)
     (levels (a .opens .now) (a .counts .now) (a .wholes .now) (a .rests .now)) (a .work .now) (a .times .now)
     (l .deep) (l .level) (l .rest) (levels (c .if4 .opens) (c .if4 .counts) (c .if4 .wholes) (c .if4 .rests)) (l .work) (l .times)
 with-room c = way-kept (around c .loop .inv) (deeper c)

@@ -2,6 +2,7 @@
 use mathlib.Core.Path.{_≡_, refl, _∙_}
 use Prim.Native.Nat.{_-_, _<_}
 use native.Mathlib.Omega.{arith}
+use lib.Ieee.{binary64}
 use borrow.Author.Needs.{needs}
 use denote.Ref.{now}
 use Rattle.rules.specs.Levels.{levels}
@@ -13,7 +14,7 @@ use Rattle.engine.proofs.climb.up.Tie as tie
 
 abbrev Inv-loop : tie.InvT-loop
 Inv-loop work₀ limits statuses leftovers times₀ opens counts wholes rests deep₀ level₀ seen₀ left₀ work times deep level seen left =
-    WayUp (lent (now limits) (now statuses) (now leftovers)) deep₀ level₀ seen₀ left₀ (levels opens counts wholes rests) work₀ times₀
+    WayUp binary64 (lent (now limits) (now statuses) (now leftovers)) deep₀ level₀ seen₀ left₀ (levels opens counts wholes rests) work₀ times₀
     deep level seen left work times
 
 abbrev μ-loop : tie.MeasureT-loop

@@ -5,7 +5,7 @@ use native.Mathlib.Omega.{arith}
 use borrow.Author.Needs.{needs}
 use borrow.Author.Tests.{not-false}
 use denote.Ref.{now}
-use lib.Ieee.{nan}
+use lib.Ieee.{binary64, nan}
 use lib.ListN.{length}
 use Rattle.rules.specs.Tree.{zeroTime}
 use Rattle.work.proofs.Laws.{any-default}
@@ -16,7 +16,7 @@ use Rattle.engine.proofs.decorators.close_decorators.Tie as tie
 
 abbrev Inv-loop : tie.InvT-loop
 Inv-loop work₀ limits times₀ opens wholes deep at₀ seen₀ left₀ work times at seen left =
-    Closes (now limits) opens wholes at₀ seen₀ left₀ work₀ times₀ at seen left work times × (length times ≡ length times₀)
+    Closes binary64 (now limits) opens wholes at₀ seen₀ left₀ work₀ times₀ at seen left work times × (length times ≡ length times₀)
 
 abbrev μ-loop : tie.MeasureT-loop
 μ-loop work₀ limits times₀ opens wholes deep at₀ seen₀ left₀ work times at seen left = at

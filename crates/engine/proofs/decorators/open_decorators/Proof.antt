@@ -1,6 +1,7 @@
 -- Each decorator that is opened goes on along the way of those before it.
 use Prim.Native.Nat.{_-_}
 use native.Mathlib.Omega.{arith}
+use lib.Ieee.{binary64}
 use borrow.Author.Needs.{needs}
 use borrow.Author.Tests.{not-false}
 use Rattle.rules.specs.Levels.{levels}
@@ -11,7 +12,7 @@ use Rattle.engine.proofs.decorators.open_decorators.Tie as tie
 
 abbrev Inv-loop : tie.InvT-loop
 Inv-loop work₀ opens₀ counts₀ wholes₀ rests₀ deep p dt at₀ q₀ work opens counts wholes rests at q =
-    WayOpen deep p dt (levels opens₀ counts₀ wholes₀ rests₀) work₀ at q (levels opens counts wholes rests) work
+    WayOpen binary64 deep p dt (levels opens₀ counts₀ wholes₀ rests₀) work₀ at q (levels opens counts wholes rests) work
 
 abbrev μ-loop : tie.MeasureT-loop
 μ-loop work₀ opens₀ counts₀ wholes₀ rests₀ deep p dt at₀ q₀ work opens counts wholes rests at q = 16 - at

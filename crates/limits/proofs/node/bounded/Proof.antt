@@ -2,6 +2,7 @@
 use mathlib.Core.Path.{refl, sym}
 use mathlib.Core.List.{List, [], _∷_}
 use Prim.Native.Nat.{ℕ}
+use lib.Ieee.{binary64}
 use Rattle.rules.specs.Kinds.{kindOf, is}
 use Rattle.rules.specs.Table.{cleaned}
 use Rattle.rules.specs.declared.behavior.Kind.the-variants.{After}
@@ -19,7 +20,7 @@ returns-4 c =
     let others : List ℕ = 0 ∷ 1 ∷ 2 ∷ 3 ∷ 4 ∷ 5 ∷ 6 ∷ 7 ∷ 8 ∷ 9 ∷ 10 ∷ 11 ∷ 12 ∷ 13 ∷ 14 ∷ 16 ∷ [] in
     let not-after = gives (λ k. is k After) others (a .kind) (c .match2 .keys2)
     (refl, (refl, (refl, (refl, (refl, (refl, (refl, (refl, (refl, (refl, (refl, (refl, (refl, (refl, (refl, (refl, tt)))))))))))))))) in
-    row-other (a .kind) (a .n) (cleaned (a .limit)) _ (c .before .before .timed .ensures) (c .before .if1 .left) (sym not-after)
+    row-other binary64 (a .kind) (a .n) (cleaned (a .limit)) _ (c .before .before .timed .ensures) (c .before .if1 .left) (sym not-after)
 
 pub bounded-spec : {M : Type 1} → statement M
 bounded-spec =

@@ -1,12 +1,13 @@
 -- A limit of 0 takes one tick, a longer one what it takes.
 use native.Mathlib.Omega.{arith}
+use lib.Ieee.{binary64}
 use Rattle.limits.proofs.WholeTimes.{whole-known, ticks-one, ticks-more, no-ticks}
 use borrow.Author.Needs.{needs}
 use Rattle.limits.proofs.whole.own_ticks.Statement.{statement}
 use Rattle.limits.proofs.whole.own_ticks.Tie as tie
 
 add-ticks : tie.Need-add-ticks
-add-ticks c = omega (arith, whole-known _ _ (c .before .before .before .of-limit .ensures) _ (c .before .l .given .1) .2)
+add-ticks c = omega (arith, whole-known binary64 _ _ (c .before .before .before .of-limit .ensures) _ (c .before .l .given .1) .2)
 
 returns : tie.Need-returns
 returns c = λ h. search no-ticks

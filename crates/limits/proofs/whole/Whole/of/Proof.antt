@@ -2,7 +2,7 @@
 use mathlib.Core.Path.{sym, subst}
 use denote.Floats.{passes}
 use lib.Dec.{T}
-use lib.Ieee.{ofBits, neg}
+use lib.Ieee.{binary64, ofBits, neg}
 use Rattle.limits.proofs.WholeTimes.{below-no-nan, whole-float, whole-no-nan, whole-yes, whole-other, whole-large, whole-high, whole-low}
 use Rattle.limits.proofs.whole.Whole.of.Statement.{statement}
 use Rattle.limits.proofs.whole.Whole.of.Tie as tie
@@ -13,11 +13,11 @@ truncating-f64-to-u64-requires c κs = (subst T (sym (c .before .if1 .taken)) tt
 
 returns-4 : tie.Need-returns-4
 unfolding ofBits
-returns-4 c = whole-high _ (c .if2 .left)
+returns-4 c = whole-high binary64 _ (c .if2 .left)
 
 returns-5 : tie.Need-returns-5
 unfolding ofBits neg
-returns-5 c = whole-low _ (c .if1 .left)
+returns-5 c = whole-low binary64 _ (c .if1 .left)
 
 pub of-spec : {M : Type 1} → statement M
 of-spec =
