@@ -2,3 +2,4 @@ mod SequenceLaws
 mod WhenAllLaws
 mod LoopLaws
 mod NodeLaws
+mod TurnLaws

@@ -1,222 +1,132 @@
 -- The rule of each kind.
-use Prim.Native.Nat.{_-_}
+use Prim.Native.Nat.{ℕ, _+_, _*_, _<_}
 use native.Mathlib.Omega.{arith}
 use borrow.Author.Needs.{needs}
 use Rattle.work.proofs.KindLaws as kind-law
-use Prim.Native.Nat.{ℕ}
-use Rattle.walk.proofs.loops.while_all.Reads as loops·while-all
-use Rattle.walk.proofs.loops.while_loop.Reads as loops·while-loop
-use Rattle.walk.proofs.node.by_kind.Reads as node·by-kind
-use Rattle.walk.proofs.+loops-while_all+loops-while_loop+node-by_kind+node-decorators+node-if_node+node-tick_node+node-visit+sequence-memoryless+sequence-sequence+when_all-after+when_all-race+when_all-when_all.Lts-node-by_kind as node·by-kind-lts
-use Rattle.walk.proofs.node.decorators.Reads as node·decorators
-use Rattle.walk.proofs.node.if_node.Reads as node·if-node
-use Rattle.walk.proofs.sequence.memoryless.Reads as sequence·memoryless
-use Rattle.walk.proofs.sequence.sequence.Reads as sequence·sequence
-use Rattle.walk.proofs.when_all.after.Reads as when-all·after
-use Rattle.walk.proofs.when_all.race.Reads as when-all·race
-use Rattle.walk.proofs.when_all.when_all.Reads as when-all·when-all
-use Rattle.work.proofs.leaf.Reads as leaf-reads
-use Rattle.work.proofs.exchanges.Reads as exchanges-reads
-use Rattle.walk.proofs.+loops-while_all+loops-while_loop+node-by_kind+node-decorators+node-if_node+node-tick_node+node-visit+sequence-memoryless+sequence-sequence+when_all-after+when_all-race+when_all-when_all.Proof.Measures.{loops·while-all-below, loops·while-loop-below, node·by-kind-at, node·decorators-below, node·if-node-below, sequence·memoryless-below, sequence·sequence-below, when-all·after-below, when-all·race-below, when-all·when-all-below}
+use Rattle.walk.proofs.loops.while_all.Reads as while-all
+use Rattle.walk.proofs.loops.while_loop.Reads as while-loop
+use Rattle.walk.proofs.node.by_kind.Reads as own
+use Rattle.walk.proofs.node.decorators.Reads as decorators
+use Rattle.walk.proofs.node.if_node.Reads as if-node
+use Rattle.walk.proofs.sequence.memoryless.Reads as memoryless
+use Rattle.walk.proofs.sequence.sequence.Reads as sequence
+use Rattle.walk.proofs.when_all.after.Reads as after
+use Rattle.walk.proofs.when_all.race.Reads as race
+use Rattle.walk.proofs.when_all.when_all.Reads as when-all
+use Rattle.work.proofs.leaf.Reads as leaf
+use Rattle.work.proofs.exchanges.Reads as exchanges
+use Rattle.walk.proofs.+loops-while_all+loops-while_loop+node-by_kind+node-decorators+node-if_node+node-tick_node+node-visit+sequence-memoryless+sequence-sequence+when_all-after+when_all-race+when_all-when_all as cycle
+use cycle.Lts-node-by_kind as lts
+use cycle.Proof.Measures.{at-choice, below-exchange, below-level}
 
-pub met-node·by-kind : {M : Type 1} (t : ℕ)
-    → node·by-kind-lts.Closed (
-      leaf-reads.Asked,
-      leaf-reads.Learnt,
-      node·decorators-below t,
-      node·decorators.Post,
-      node·if-node-below t,
-      node·if-node.Post,
-      exchanges-reads.Asked,
-      exchanges-reads.Learnt,
-      sequence·sequence-below t,
-      sequence·sequence.Post,
-      sequence·memoryless-below t,
-      sequence·memoryless.Post,
-      loops·while-loop-below t,
-      loops·while-loop.Post,
-      loops·while-all-below t,
-      loops·while-all.Post,
-      when-all·when-all-below t,
-      when-all·when-all.Post,
-      when-all·after-below t,
-      when-all·after.Post,
-      when-all·race-below t,
-      when-all·race.Post,
-    ) (node·by-kind-at t)
-    node·by-kind.Post M
-met-node·by-kind t = node·by-kind-lts.spec (
-  leaf-reads.Asked,
-  leaf-reads.Learnt,
-  node·decorators-below t,
-  node·decorators.Post,
-  node·if-node-below t,
-  node·if-node.Post,
-  exchanges-reads.Asked,
-  exchanges-reads.Learnt,
-  sequence·sequence-below t,
-  sequence·sequence.Post,
-  sequence·memoryless-below t,
-  sequence·memoryless.Post,
-  loops·while-loop-below t,
-  loops·while-loop.Post,
-  loops·while-all-below t,
-  loops·while-all.Post,
-  when-all·when-all-below t,
-  when-all·when-all.Post,
-  when-all·after-below t,
-  when-all·after.Post,
-  when-all·race-below t,
-  when-all·race.Post,
+abbrev callees : ℕ → lts.Claims
+callees t = (
+  leaf.Asked,
+  leaf.Learnt,
+  below-level 2 decorators.Pre t,
+  decorators.Post,
+  below-level 2 if-node.Pre t,
+  if-node.Post,
+  exchanges.Asked,
+  exchanges.Learnt,
+  below-exchange sequence.Pre t,
+  sequence.Post,
+  below-exchange memoryless.Pre t,
+  memoryless.Post,
+  below-level 2 while-loop.Pre t,
+  while-loop.Post,
+  below-level 2 while-all.Pre t,
+  while-all.Post,
+  below-exchange when-all.Pre t,
+  when-all.Post,
+  below-level 2 after.Pre t,
+  after.Post,
+  below-level 2 race.Pre t,
+  race.Post,
 )
-    (node·by-kind-at t)
-    node·by-kind.Post
+
+-- every driver is asked for the same node, and comes after the choice
+asks : {t : ℕ} (c : lts.Start (callees t) (at-choice t) own.Post) → (c .args .depth * 4 + 2 < t) × (c .args .p < 256)
+asks c = (omega arith, c .pre .1)
+
+pub met-node·by-kind : {M : Type 1} (t : ℕ) → lts.Closed (callees t) (at-choice t) own.Post M
+met-node·by-kind t = lts.spec (callees t) (at-choice t) own.Post
     -- leaf-requires
-    (λ c κs.
-    let start = c .before .before .before .before in
-    start .pre .1)
+    (λ c κs. c .before .before .before .before .pre .1)
     -- decorators-requires
-    (λ c κs.
-    let start = c .before .before .before .before in
-    (omega (arith, start .pre .0), start .pre .1))
+    (λ c κs. asks (c .before .before .before .before))
     -- enum-told
     (λ c. search needs)
     -- if-node-requires
-    (λ c κs.
-    let start = c .before .before .before .before .before in
-    (omega (arith, start .pre .0), start .pre .1))
+    (λ c κs. asks (c .before .before .before .before .before))
     -- exchanges-requires
     (λ c κs. search needs)
     -- sequence-requires
-    (λ c κs.
-    let start = c .before .before .before .before .before in
-    (omega (arith, start .pre .0), start .pre .1))
+    (λ c κs. asks (c .before .before .before .before .before))
     -- exchanges-requires-2
     (λ c κs. search needs)
     -- memoryless-requires
-    (λ c κs.
-    let start = c .before .before .before .before .before in
-    (omega (arith, start .pre .0), start .pre .1))
+    (λ c κs. asks (c .before .before .before .before .before))
     -- enum-told-2
     (λ c. search needs)
     -- while-loop-requires
-    (λ c κs.
-    let start = c .before .before .before .before .before in
-    (omega (arith, start .pre .0), start .pre .1))
+    (λ c κs. asks (c .before .before .before .before .before))
     -- enum-told-3
     (λ c. search needs)
     -- while-all-requires
-    (λ c κs.
-    let start = c .before .before .before .before .before in
-    (omega (arith, start .pre .0), start .pre .1))
+    (λ c κs. asks (c .before .before .before .before .before))
     -- exchanges-requires-3
     (λ c κs. search needs)
     -- when-all-requires
-    (λ c κs.
-    let start = c .before .before .before .before .before in
-    (omega (arith, start .pre .0), start .pre .1))
+    (λ c κs. asks (c .before .before .before .before .before))
     -- enum-told-4
     (λ c. search needs)
     -- after-requires
-    (λ c κs.
-    let start = c .before .before .before .before .before in
-    (omega (arith, start .pre .0), start .pre .1))
+    (λ c κs. asks (c .before .before .before .before .before))
     -- enum-told-5
     (λ c. search needs)
     -- race-requires
-    (λ c κs.
-    let start = c .before .before .before .before .before in
-    (omega (arith, start .pre .0), start .pre .1))
+    (λ c κs. asks (c .before .before .before .before .before))
     -- same-length
-    (λ c.
-    let leaf = c .before .before in
-    leaf .leaf .kept .1 .1 .1 .1 .0)
+    (λ c. c .before .before .leaf .kept .1 .1 .1 .1 .0)
     -- returns
-    (λ c.
-    let leaf = c .before .before in
-    let arms = leaf .before .before .before in
-    kind-law.by-leaf _ _ _ _ _ _ _ _ _ (arms .match .keys1) (leaf .leaf .ensures))
+    (λ c. kind-law.by-leaf _ _ _ _ _ _ _ _ _ (c .before .before .before .before .before .match .keys1) (c .before .before .leaf .ensures))
     -- same-length-2
-    (λ c.
-    let decorators = c .before .before in
-    decorators .decorators .kept .1 .1 .1 .1 .0)
+    (λ c. c .before .before .decorators .kept .1 .1 .1 .1 .0)
     -- returns-2
-    (λ c.
-    let decorators = c .before .before in
-    let arms = decorators .before .before .before in
-    kind-law.by-decorator _ _ _ _ _ _ _ _ _ (arms .match .keys2) (decorators .decorators .ensures))
+    (λ c. kind-law.by-decorator _ _ _ _ _ _ _ _ _ (c .before .before .before .before .before .match .keys2) (c .before .before .decorators .ensures))
     -- same-length-3
-    (λ c.
-    let if-node = c .before .before in
-    if-node .if-node .kept .1 .1 .1 .1 .0)
+    (λ c. c .before .before .if-node .kept .1 .1 .1 .1 .0)
     -- returns-3
-    (λ c.
-    let if-node = c .before .before in
-    let enum-told = if-node .before .before .before in
-    kind-law.by-if _ _ _ _ _ _ _ _ _ (enum-told .enum-told .given .1) (if-node .if-node .ensures))
+    (λ c. kind-law.by-if _ _ _ _ _ _ _ _ _ (c .before .before .before .before .before .enum-told .given .1) (c .before .before .if-node .ensures))
     -- same-length-4
-    (λ c.
-    let sequence = c .before .before in
-    sequence .sequence .kept .1 .1 .1 .1 .0)
+    (λ c. c .before .before .sequence .kept .1 .1 .1 .1 .0)
     -- returns-4
-    (λ c.
-    let sequence = c .before .before in
-    let exchanges = sequence .before in
-    let arms = exchanges .before .before .before in
-    kind-law.by-sequence _ _ _ _ _ _ _ _ _ _ (exchanges .exchanges .ensures) (arms .match .keys4) (sequence .sequence .ensures))
+    (λ c. kind-law.by-sequence _ _ _ _ _ _ _ _ _ _ (c .before .before .before .exchanges .ensures)
+    (c .before .before .before .before .before .before .match .keys4) (c .before .before .sequence .ensures))
     -- same-length-5
-    (λ c.
-    let memoryless = c .before .before in
-    memoryless .memoryless .kept .1 .1 .1 .1 .0)
+    (λ c. c .before .before .memoryless .kept .1 .1 .1 .1 .0)
     -- returns-5
-    (λ c.
-    let memoryless = c .before .before in
-    let exchanges2 = memoryless .before in
-    let arms = exchanges2 .before .before .before in
-    kind-law.by-memoryless _ _ _ _ _ _ _ _ _ _ (exchanges2 .exchanges2 .ensures) (arms .match .keys5) (memoryless .memoryless .ensures))
+    (λ c. kind-law.by-memoryless _ _ _ _ _ _ _ _ _ _ (c .before .before .before .exchanges2 .ensures)
+    (c .before .before .before .before .before .before .match .keys5) (c .before .before .memoryless .ensures))
     -- same-length-6
-    (λ c.
-    let while-loop = c .before .before in
-    while-loop .while-loop .kept .1 .1 .1 .1 .0)
+    (λ c. c .before .before .while-loop .kept .1 .1 .1 .1 .0)
     -- returns-6
-    (λ c.
-    let while-loop = c .before .before in
-    let enum-told2 = while-loop .before .before .before in
-    kind-law.by-while _ _ _ _ _ _ _ _ _ (enum-told2 .enum-told2 .given .1) (while-loop .while-loop .ensures))
+    (λ c. kind-law.by-while _ _ _ _ _ _ _ _ _ (c .before .before .before .before .before .enum-told2 .given .1) (c .before .before .while-loop .ensures))
     -- same-length-7
-    (λ c.
-    let while-all = c .before .before in
-    while-all .while-all .kept .1 .1 .1 .1 .0)
+    (λ c. c .before .before .while-all .kept .1 .1 .1 .1 .0)
     -- returns-7
-    (λ c.
-    let while-all = c .before .before in
-    let enum-told3 = while-all .before .before .before in
-    kind-law.by-while-all _ _ _ _ _ _ _ _ _ (enum-told3 .enum-told3 .given .1) (while-all .while-all .ensures))
+    (λ c. kind-law.by-while-all _ _ _ _ _ _ _ _ _ (c .before .before .before .before .before .enum-told3 .given .1) (c .before .before .while-all .ensures))
     -- same-length-8
-    (λ c.
-    let when-all = c .before .before in
-    when-all .when-all .kept .1 .1 .1 .1 .0)
+    (λ c. c .before .before .when-all .kept .1 .1 .1 .1 .0)
     -- returns-8
-    (λ c.
-    let when-all = c .before .before in
-    let exchanges3 = when-all .before in
-    let arms = exchanges3 .before .before .before in
-    kind-law.by-when-all _ _ _ _ _ _ _ _ _ _ (exchanges3 .exchanges3 .ensures) (arms .match .keys8) (when-all .when-all .ensures))
+    (λ c. kind-law.by-when-all _ _ _ _ _ _ _ _ _ _ (c .before .before .before .exchanges3 .ensures)
+    (c .before .before .before .before .before .before .match .keys8) (c .before .before .when-all .ensures))
     -- same-length-9
-    (λ c.
-    let after = c .before .before in
-    after .after .kept .1 .1 .1 .1 .0)
+    (λ c. c .before .before .after .kept .1 .1 .1 .1 .0)
     -- returns-9
-    (λ c.
-    let after = c .before .before in
-    let enum-told4 = after .before .before .before in
-    kind-law.by-after _ _ _ _ _ _ _ _ _ (enum-told4 .enum-told4 .given .1) (after .after .ensures))
+    (λ c. kind-law.by-after _ _ _ _ _ _ _ _ _ (c .before .before .before .before .before .enum-told4 .given .1) (c .before .before .after .ensures))
     -- same-length-10
-    (λ c.
-    let race = c .before .before in
-    race .race .kept .1 .1 .1 .1 .0)
+    (λ c. c .before .before .race .kept .1 .1 .1 .1 .0)
     -- returns-10
-    (λ c.
-    let race = c .before .before in
-    let enum-told5 = race .before .before .before in
-    kind-law.by-race _ _ _ _ _ _ _ _ _ (enum-told5 .enum-told5 .given .1) (race .race .ensures))
+    (λ c. kind-law.by-race _ _ _ _ _ _ _ _ _ (c .before .before .before .before .before .enum-told5 .given .1) (c .before .before .race .ensures))
