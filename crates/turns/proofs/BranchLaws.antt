@@ -1,27 +1,18 @@
--- One law for each path of If and of the decorators.
+-- One law for each path of If.
 use mathlib.Core.Path.{_≡_, refl}
 use mathlib.Core.List.{List}
 use Prim.Native.Nat.{ℕ, _+_, _≤_, _<_}
 use native.Mathlib.Omega.{arith}
-use lib.Ieee.{Float, Format}
+use lib.Ieee.{Float}
 use borrow.Author.Tests.{lt-ltb, le-ltb, eq-eqb, ne-eqb}
 use Rattle.rules.specs.Tree.{zeroTime}
 use Rattle.work.specs.declared.result.Seen.{Seen}
 use Rattle.work.specs.declared.result.Seen.the-variants.{Stopped, Running, Success, Failure}
 use Rattle.work.specs.Word.{placeOf}
 use Rattle.work.specs.Array.{wordAt, endOf, childFrom, decidedWords, chosenWords, chosenTimes}
-use Rattle.work.specs.Flat.{Out, out, Lent, Visitor, andThen, choiceOf, decorated, ifOn, branch, chosen, ifNode, decorator}
+use Rattle.work.specs.Flat.{Out, out, Visitor, andThen, choiceOf, ifOn, branch, chosen, ifNode}
 use Rattle.turns.specs.declared.level.Level.{Level}
 use Rattle.turns.specs.Levels.{ifResumed}
-
-module _ (F : Format) (T : Lent) (v : Visitor) (p : ℕ) (dt : Float) (ws : List ℕ) (ts : List Float) where
-  pub decorator-none : 255 ≤ p → decorator F T v p dt ws ts ≡ out Stopped zeroTime ws ts
-  unfolding decorator
-  decorator-none h = rw (le-ltb p 255 h)
-
-  pub decorator-due : p < 255 → decorator F T v p dt ws ts ≡ andThen (v (p + 1) dt ws ts) (decorated F T p dt)
-  unfolding decorator
-  decorator-due h = rw (lt-ltb p 255 h)
 
 module _ (v : Visitor) (p : ℕ) (dt : Float) (ws : List ℕ) (ts : List Float) (stop i : ℕ) (a : stop ≡ endOf ws p) (b : i ≡ placeOf (wordAt ws p)) where
   module _ (q : ℕ) (n : 0 < i) (d : q ≡ childFrom ws stop i (p + 1)) where

@@ -6,166 +6,137 @@ use types.Run.{OneOf}
 use denote.Enum.Declared.{tagOf}
 use Prim.Native.Nat.{ℕ, _<_}
 use native.Mathlib.Omega.{arith}
-use lib.Ieee.{Float, Format}
+use lib.Ieee.{Float, Format, binary64}
 use Rattle.rules.specs.declared.behavior.Kind.{Kind}
 use Rattle.rules.specs.Kinds.{kindOf}
+use Rattle.rules.specs.Outcome.{largest}
 use Rattle.rules.proofs.Arms.{arm}
 use Rattle.rules.proofs.behavior.Kind.{the-type}
-use Rattle.work.specs.declared.result.Result.{Result}
-use Rattle.work.specs.Flat.{Out, out, Lent, Visitor, isLeaf, exchangesOf}
+use Rattle.work.specs.declared.result.Seen.{Seen}
+use Rattle.work.specs.Array.{fuelOf}
+use Rattle.work.specs.Flat.{Out, out, Lent, lent, Visitor, turnOut, turning, isLeaf, isDecorator, exchangesOf}
+use Rattle.work.specs.Flat.{decorator, ifNode, sequence, memoryless, whenAll, race, after, whileLoop, whileAll, byKind}
 use Rattle.turns.specs.declared.level.Level.{Level}
 use Rattle.turns.specs.declared.level.Turn.{Turn}
-use Rattle.turns.specs.Levels.{Entered, Keeps, Ready, KeepsSound, Resumed, goes, enteredLevel, resumedAs, resumedBy, doneTurn}
+use Rattle.turns.specs.Levels.{Fine, Keeps, Ready, Sound, KeepsSound, Resumed, goes, enteredLevel, resumedAs, resumedBy}
 use Rattle.turns.specs.Levels.{sequenceResumed, memorylessResumed, whenAllResumed, raceResumed, afterResumed, whileResumed, whileAllResumed, ifResumed, decoratorResumed}
-use Rattle.turns.proofs.TurnLaws.{done-goes}
 
--- the driver of the kind
-abbrev pub Drives : Format → Lent → Resumed → Kind → Type 0
-Drives F T f k = (v : Visitor) (e : Level) (o : Out) → resumedAs F T v k e o ≡ f v e o
+-- a kind's driver: how it enters its node, what it makes of a child's outcome, and what it needs of a level
+pub record Driven (g : Format → Lent → Visitor → Visitor) (f : Format → Lent → Resumed) (N : Level → Type 0) (k : Kind) : Type 0 where
+  pub enters : (F : Format) (T : Lent) (v : Visitor) (p : ℕ) (dt : Float) (ws : List ℕ) (ts : List Float) → byKind F T v k p dt ws ts ≡ g F T v p dt ws ts
+  pub resumes : (F : Format) (T : Lent) (v : Visitor) (e : Level) (o : Out) → resumedAs F T v k e o ≡ f F T v e o
+  pub made-ready : (e : Level) → N e → Ready k e
+  pub is-ready : (e : Level) → Ready k e → N e
 
--- what the kind needs of a level
-abbrev pub Needs : (Level → Type 0) → Kind → Type 0
-Needs N k = (e : Level) → (N e → Ready k e) × (Ready k e → N e)
-
-abbrev pub Nothing : Level → Type 0
-Nothing e = Unit {0}
-
-abbrev pub Past : Level → Type 0
-Past e = e .child < e .next
-
-abbrev pub Body : Level → Type 0
-Body e = e .node < e .next
-
-abbrev pub BodyOnce : Level → Type 0
-BodyOnce e = 0 < e .count → e .node < e .next
-
--- ---- with the driver
-module _ (F : Format) (T : Lent) (f : Resumed) (e : Level) (t : Turn) (d : Drives F T f (e .kind)) (k : Keeps e t) (v : Visitor) (ws : List ℕ) (ts : List Float) where
-  goes-on : goes f v t ws ts ≡ goes (resumedBy F T) v t ws ts
-  goes-on =
-      let o = v (t .level .child) (t .left) ws ts in
-      ap (λ (x : Out). cond (t .due) x (out (t .seen) (t .left) ws ts))
-      (sym (d v (t .level) o) ∙ ap (λ (x : Kind). resumedAs F T v x (t .level) o) (sym (k .kind)))
-
-  pub goes-opened : (o : Out) → o ≡ goes f v t ws ts → o ≡ goes (resumedBy F T) v t ws ts
-  goes-opened o h = h ∙ goes-on
-
-  pub goes-resumed : (o : Out) → f v e o ≡ goes f v t ws ts → resumedBy F T v e o ≡ goes (resumedBy F T) v t ws ts
-  goes-resumed o h = d v e o ∙ h ∙ goes-on
-
-module _ (F : Format) (T : Lent) (f : Resumed) (e : Level) (r : Result) (t : Turn) (g : t ≡ doneTurn e r) (d : Drives F T f (e .kind)) where
-  pub goes-done : (v : Visitor) (o : Out) (ws : List ℕ) (ts : List Float) → f v e o ≡ out (r .seen) (r .left) ws ts → resumedBy F T v e o ≡ goes (resumedBy F T) v t ws ts
-  goes-done v o ws ts h = done-goes e r t g (resumedBy F T) v ws ts (resumedBy F T v e o) (d v e o ∙ h)
-
--- ---- with what it needs
-pub keeps-sound : (N : Level → Type 0) (e : Level) (t : Turn) → Needs N (e .kind) → Keeps e t → (t .due ≡ true → N (t .level)) → KeepsSound e t
-keeps-sound N e t n k h = record {
-  kind = k .kind;
-  node = k .node;
-  sound = λ d. record { fine = k .fine d; ready = subst (λ (x : Kind). Ready x (t .level)) (sym (k .kind)) (n (t .level) .0 (h d)) };
-}
-
--- ---- a node that is entered
-pub entered-fine : (k : Kind) (p : ℕ) (dt : Float) (e : Level) → e ≡ enteredLevel k p dt → p < 256 → Entered e
-entered-fine k p dt e d h = rw d (record { node-in = h; next-zero = refl; stop-zero = refl; index-zero = refl; count-zero = refl })
-
-pub entered-as : (k : Kind) (p : ℕ) (dt : Float) (e : Level) → e ≡ enteredLevel k p dt → e ≡ enteredLevel (e .kind) (e .node) (e .whole)
-entered-as k p dt e d = rw d
-
-pub keeps-entered : (k : Kind) (p : ℕ) (dt : Float) (e : Level) (t : Turn) → e ≡ enteredLevel k p dt → Keeps e t → Keeps (enteredLevel k p dt) t
-keeps-entered k p dt e t d h = rw d at h
-
-pub no-leaf : (k : Kind) → OneOf (0 ∷ 1 ∷ 2 ∷ []) (tagOf the-type k) → isLeaf k ≡ false → ⊥
-unfolding kindOf
-no-leaf k h e =
-    let a = arm (λ k. isLeaf k ≡ true) (0 ∷ 1 ∷ 2 ∷ []) k h (refl, (refl, (refl, tt))) in
-    let z : _≡_ {A = ℕ} 0 1 = cc (sym a ∙ e) in
-    omega arith
+own : (k : Kind) → Driven (λ F T v. byKind F T v k) (λ F T v. resumedAs F T v k) (Ready k) k
+own k = record { enters = λ F T v p dt ws ts. refl; resumes = λ F T v e o. refl; made-ready = λ e n. n; is-ready = λ e n. n }
 
 -- ---- each arm's driver
-module _ (F : Format) (T : Lent) (k : Kind) where
-  pub drives-leaf : OneOf (0 ∷ 1 ∷ 2 ∷ []) (tagOf the-type k) → Drives F T (λ v e o. o) k
-  unfolding kindOf
-  drives-leaf h = arm (Drives F T (λ v e o. o)) (0 ∷ 1 ∷ 2 ∷ []) k h ((λ v e o. refl), ((λ v e o. refl), ((λ v e o. refl), tt)))
+abbrev Nothing : Level → Type 0
+Nothing e = Unit {0}
 
-  pub drives-decorator : OneOf (3 ∷ 4 ∷ 5 ∷ []) (tagOf the-type k) → Drives F T (decoratorResumed F T) k
-  unfolding kindOf
-  drives-decorator h = arm (Drives F T (decoratorResumed F T)) (3 ∷ 4 ∷ 5 ∷ []) k h ((λ v e o. refl), ((λ v e o. refl), ((λ v e o. refl), tt)))
+abbrev Past : Level → Type 0
+Past e = e .child < e .next
 
-  module _ (x : Bool) (e : x ≡ exchangesOf k) where
-    pub drives-sequence : OneOf (6 ∷ 8 ∷ []) (tagOf the-type k) → Drives F T (sequenceResumed x) k
-    unfolding kindOf
-    drives-sequence h = rw e (arm (λ k. Drives F T (sequenceResumed (exchangesOf k)) k) (6 ∷ 8 ∷ []) k h ((λ v e o. refl), ((λ v e o. refl), tt)))
+abbrev Body : Level → Type 0
+Body e = e .node < e .next
 
-    pub drives-memoryless : OneOf (9 ∷ 10 ∷ []) (tagOf the-type k) → Drives F T (memorylessResumed x) k
-    unfolding kindOf
-    drives-memoryless h = rw e (arm (λ k. Drives F T (memorylessResumed (exchangesOf k)) k) (9 ∷ 10 ∷ []) k h ((λ v e o. refl), ((λ v e o. refl), tt)))
+abbrev BodyOnce : Level → Type 0
+BodyOnce e = 0 < e .count → e .node < e .next
 
-    pub drives-when-all : OneOf (13 ∷ 14 ∷ []) (tagOf the-type k) → Drives F T (whenAllResumed x) k
-    unfolding kindOf
-    drives-when-all h = rw e (arm (λ k. Drives F T (whenAllResumed (exchangesOf k)) k) (13 ∷ 14 ∷ []) k h ((λ v e o. refl), ((λ v e o. refl), tt)))
-
-  pub drives-if : OneOf (7 ∷ []) (tagOf the-type k) → Drives F T ifResumed k
-  unfolding kindOf
-  drives-if h = arm (Drives F T ifResumed) (7 ∷ []) k h ((λ v e o. refl), tt)
-
-  pub drives-while : OneOf (11 ∷ []) (tagOf the-type k) → Drives F T whileResumed k
-  unfolding kindOf
-  drives-while h = arm (Drives F T whileResumed) (11 ∷ []) k h ((λ v e o. refl), tt)
-
-  pub drives-while-all : OneOf (12 ∷ []) (tagOf the-type k) → Drives F T whileAllResumed k
-  unfolding kindOf
-  drives-while-all h = arm (Drives F T whileAllResumed) (12 ∷ []) k h ((λ v e o. refl), tt)
-
-  pub drives-after : OneOf (15 ∷ []) (tagOf the-type k) → Drives F T afterResumed k
-  unfolding kindOf
-  drives-after h = arm (Drives F T afterResumed) (15 ∷ []) k h ((λ v e o. refl), tt)
-
-  pub drives-race : OneOf (16 ∷ []) (tagOf the-type k) → Drives F T raceResumed k
-  unfolding kindOf
-  drives-race h = arm (Drives F T raceResumed) (16 ∷ []) k h ((λ v e o. refl), tt)
-
--- ---- each arm's needs
-same : (A : Type 0) → (A → A) × (A → A)
-same A = ((λ n. n), (λ n. n))
+abbrev turnedBy : Bool → (Visitor → Visitor) → Visitor → Visitor
+turnedBy x d v p dt ws ts = turnOut x (d (turning x v) p dt ws ts)
 
 module _ (k : Kind) where
-  pub needs-leaf : OneOf (0 ∷ 1 ∷ 2 ∷ []) (tagOf the-type k) → Needs Nothing k
-  unfolding kindOf
-  needs-leaf h = arm (Needs Nothing) (0 ∷ 1 ∷ 2 ∷ []) k h ((λ e. same _), ((λ e. same _), ((λ e. same _), tt)))
+  pub leaf-driver : OneOf (0 ∷ 1 ∷ 2 ∷ []) (tagOf the-type k) → Driven (λ F T v. byKind F T v k) (λ F T v e o. o) Nothing k
+  unfolding kindOf byKind
+  leaf-driver h = arm (λ k. Driven (λ F T v. byKind F T v k) (λ F T v e o. o) Nothing k) (0 ∷ 1 ∷ 2 ∷ []) k h (own _, (own _, (own _, tt)))
 
-  pub needs-decorator : OneOf (3 ∷ 4 ∷ 5 ∷ []) (tagOf the-type k) → Needs Nothing k
-  unfolding kindOf
-  needs-decorator h = arm (Needs Nothing) (3 ∷ 4 ∷ 5 ∷ []) k h ((λ e. same _), ((λ e. same _), ((λ e. same _), tt)))
+  pub decorator-driver : OneOf (3 ∷ 4 ∷ 5 ∷ []) (tagOf the-type k) → Driven decorator decoratorResumed Nothing k
+  unfolding kindOf byKind
+  decorator-driver h = arm (Driven decorator decoratorResumed Nothing) (3 ∷ 4 ∷ 5 ∷ []) k h (own _, (own _, (own _, tt)))
 
-  pub needs-sequence : OneOf (6 ∷ 8 ∷ []) (tagOf the-type k) → Needs Nothing k
-  unfolding kindOf
-  needs-sequence h = arm (Needs Nothing) (6 ∷ 8 ∷ []) k h ((λ e. same _), ((λ e. same _), tt))
+  pub if-driver : OneOf (7 ∷ []) (tagOf the-type k) → Driven (λ F T. ifNode) (λ F T. ifResumed) Nothing k
+  unfolding kindOf byKind
+  if-driver h = arm (Driven (λ F T. ifNode) (λ F T. ifResumed) Nothing) (7 ∷ []) k h (own _, tt)
 
-  pub needs-if : OneOf (7 ∷ []) (tagOf the-type k) → Needs Nothing k
-  unfolding kindOf
-  needs-if h = arm (Needs Nothing) (7 ∷ []) k h ((λ e. same _), tt)
+  pub while-driver : OneOf (11 ∷ []) (tagOf the-type k) → Driven (λ F T. whileLoop) (λ F T. whileResumed) BodyOnce k
+  unfolding kindOf byKind
+  while-driver h = arm (Driven (λ F T. whileLoop) (λ F T. whileResumed) BodyOnce) (11 ∷ []) k h (own _, tt)
 
-  pub needs-memoryless : OneOf (9 ∷ 10 ∷ []) (tagOf the-type k) → Needs Past k
-  unfolding kindOf
-  needs-memoryless h = arm (Needs Past) (9 ∷ 10 ∷ []) k h ((λ e. same _), ((λ e. same _), tt))
+  pub while-all-driver : OneOf (12 ∷ []) (tagOf the-type k) → Driven (λ F T. whileAll) (λ F T. whileAllResumed) Body k
+  unfolding kindOf byKind
+  while-all-driver h = arm (Driven (λ F T. whileAll) (λ F T. whileAllResumed) Body) (12 ∷ []) k h (own _, tt)
 
-  pub needs-when-all : OneOf (13 ∷ 14 ∷ []) (tagOf the-type k) → Needs Past k
-  unfolding kindOf
-  needs-when-all h = arm (Needs Past) (13 ∷ 14 ∷ []) k h ((λ e. same _), ((λ e. same _), tt))
+  pub after-driver : OneOf (15 ∷ []) (tagOf the-type k) → Driven (λ F T v. after v (largest F)) (λ F T. afterResumed) Past k
+  unfolding kindOf byKind
+  after-driver h = arm (Driven (λ F T v. after v (largest F)) (λ F T. afterResumed) Past) (15 ∷ []) k h (own _, tt)
 
-  pub needs-after : OneOf (15 ∷ []) (tagOf the-type k) → Needs Past k
-  unfolding kindOf
-  needs-after h = arm (Needs Past) (15 ∷ []) k h ((λ e. same _), tt)
+  pub race-driver : OneOf (16 ∷ []) (tagOf the-type k) → Driven (λ F T. race) (λ F T. raceResumed) Past k
+  unfolding kindOf byKind
+  race-driver h = arm (Driven (λ F T. race) (λ F T. raceResumed) Past) (16 ∷ []) k h (own _, tt)
 
-  pub needs-race : OneOf (16 ∷ []) (tagOf the-type k) → Needs Past k
-  unfolding kindOf
-  needs-race h = arm (Needs Past) (16 ∷ []) k h ((λ e. same _), tt)
+  -- two kinds, of which one exchanges Success and Failure
+  module _ (x : Bool) (e : x ≡ exchangesOf k) where
+    pub sequence-driver : OneOf (6 ∷ 8 ∷ []) (tagOf the-type k) → Driven (λ F T. turnedBy x sequence) (λ F T. sequenceResumed x) Nothing k
+    unfolding kindOf byKind
+    sequence-driver h = rw e (arm (λ k. let x = exchangesOf k in Driven (λ F T. turnedBy x sequence) (λ F T. sequenceResumed x) Nothing k)
+        (6 ∷ 8 ∷ []) k h (own _, (own _, tt)))
 
-  pub needs-while : OneOf (11 ∷ []) (tagOf the-type k) → Needs BodyOnce k
-  unfolding kindOf
-  needs-while h = arm (Needs BodyOnce) (11 ∷ []) k h ((λ e. same _), tt)
+    pub memoryless-driver : OneOf (9 ∷ 10 ∷ []) (tagOf the-type k) → Driven (λ F T. turnedBy x memoryless) (λ F T. memorylessResumed x) Past k
+    unfolding kindOf byKind
+    memoryless-driver h = rw e (arm (λ k. let x = exchangesOf k in Driven (λ F T. turnedBy x memoryless) (λ F T. memorylessResumed x) Past k)
+        (9 ∷ 10 ∷ []) k h (own _, (own _, tt)))
 
-  pub needs-while-all : OneOf (12 ∷ []) (tagOf the-type k) → Needs Body k
-  unfolding kindOf
-  needs-while-all h = arm (Needs Body) (12 ∷ []) k h ((λ e. same _), tt)
+    pub when-all-driver : OneOf (13 ∷ 14 ∷ []) (tagOf the-type k) → Driven (λ F T. turnedBy x (λ v. whenAll v (largest F))) (λ F T. whenAllResumed x) Past k
+    unfolding kindOf byKind
+    when-all-driver h = rw e (arm (λ k. let x = exchangesOf k in Driven (λ F T. turnedBy x (λ v. whenAll v (largest F))) (λ F T. whenAllResumed x) Past k)
+        (13 ∷ 14 ∷ []) k h (own _, (own _, tt)))
+
+-- the first arm has no driver
+no : _≡_ {A = Bool} true false → ⊥
+no e = let z : _≡_ {A = ℕ} 0 1 = cc in omega arith
+
+pub not-entered : (k : Kind) → OneOf (0 ∷ 1 ∷ 2 ∷ 3 ∷ 4 ∷ 5 ∷ []) (tagOf the-type k) → isLeaf k ≡ false → isDecorator k ≡ false → ⊥
+unfolding kindOf
+not-entered k h = arm (λ k. isLeaf k ≡ false → isDecorator k ≡ false → ⊥) (0 ∷ 1 ∷ 2 ∷ 3 ∷ 4 ∷ 5 ∷ []) k h
+    ((λ a b. no a), ((λ a b. no a), ((λ a b. no a), ((λ a b. no b), ((λ a b. no b), ((λ a b. no b), tt))))))
+
+-- ---- what a driver asks of an open node
+pub asked : {g : Format → Lent → Visitor → Visitor} {f : Format → Lent → Resumed} {N : Level → Type 0} {e : Level} → Sound e → Driven g f N (e .kind) → Fine e × N e
+asked {e = e} s d = (s .fine, d .is-ready e (s .ready))
+
+-- ---- a turn of a driver
+module _ {g : Format → Lent → Visitor → Visitor} {f : Format → Lent → Resumed} {N : Level → Type 0} {e : Level} {t : Turn} (d : Driven g f N (e .kind)) (k : Keeps e t) where
+  goes-on : (F : Format) (T : Lent) (v : Visitor) (ws : List ℕ) (ts : List Float) → goes (f F T) v t ws ts ≡ goes (resumedBy F T) v t ws ts
+  goes-on F T v ws ts =
+      let o = v (t .level .child) (t .left) ws ts in
+      ap (λ (x : Out). cond (t .due) x (out (t .seen) (t .left) ws ts))
+      (sym (d .resumes F T v (t .level) o) ∙ ap (λ (x : Kind). resumedAs F T v x (t .level) o) (sym (k .kind)))
+
+  keeps-sound : (t .due ≡ true → N (t .level)) → KeepsSound e t
+  keeps-sound h = record {
+    kind = k .kind;
+    node = k .node;
+    sound = λ i. record { fine = k .fine i; ready = subst (λ (x : Kind). Ready x (t .level)) (sym (k .kind)) (d .made-ready (t .level) (h i)) };
+  }
+
+  -- the child has given a result
+  pub resumed-by : {limits : List Float} {s : Seen} {l : Float} {ws : List ℕ} {ts : List Float} (ws₁ : List ℕ) (ts₁ : List Float)
+      → ((a : List ℕ) (b : List Float) (v : Visitor) → f binary64 (lent limits a b) v e (out s l ws ts) ≡ goes (f binary64 (lent limits a b)) v t ws₁ ts₁)
+      → (t .due ≡ true → N (t .level)) → fuelOf ws₁ ≡ fuelOf ws
+      → ((a : List ℕ) (b : List Float) (v : Visitor) → let T = lent limits a b in resumedBy binary64 T v e (out s l ws ts) ≡ goes (resumedBy binary64 T) v t ws₁ ts₁)
+      × (KeepsSound e t × (fuelOf ws₁ ≡ fuelOf ws))
+  resumed-by {limits} {s} {l} {ws} {ts} ws₁ ts₁ h n w =
+      (λ a b v. let T = lent limits a b in d .resumes binary64 T v e (out s l ws ts) ∙ h a b v ∙ goes-on binary64 T v ws₁ ts₁, (keeps-sound n, w))
+
+-- the node is entered
+module _ {g : Format → Lent → Visitor → Visitor} {f : Format → Lent → Resumed} {N : Level → Type 0} {k : Kind} {p : ℕ} {dt : Float} {e : Level} {t : Turn}
+    (i : e ≡ enteredLevel k p dt) (d : Driven g f N k) (keeps : Keeps e t) where
+  pub opened-by : (ws : List ℕ) (ts : List Float) (ws₁ : List ℕ) (ts₁ : List Float)
+      → ((T : Lent) (v : Visitor) → g binary64 T v (e .node) (e .whole) ws ts ≡ goes (f binary64 T) v t ws₁ ts₁) → (t .due ≡ true → N (t .level)) → fuelOf ws₁ ≡ fuelOf ws
+      → ((T : Lent) (v : Visitor) → byKind binary64 T v k p dt ws ts ≡ goes (resumedBy binary64 T) v t ws₁ ts₁)
+      × (KeepsSound (enteredLevel k p dt) t × (fuelOf ws₁ ≡ fuelOf ws))
+  opened-by ws ts ws₁ ts₁ h n w =
+      let own = rw i at keeps in
+      (λ T v. d .enters binary64 T v p dt ws ts ∙ (rw i at (h T v)) ∙ goes-on d own binary64 T v ws₁ ts₁, (keeps-sound d own n, w))

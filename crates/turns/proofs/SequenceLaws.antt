@@ -1,7 +1,8 @@
 -- One law for each path of the sequence drivers; and 256 turns stand for as many as are left.
 use mathlib.Core.Path.{_≡_, refl, sym, _∙_}
 use mathlib.Core.Bool.{Bool, true, false, cond}
-use mathlib.Core.List.{List}
+use mathlib.Core.List.{List, [], _∷_}
+use types.Run.{miss}
 use Prim.Native.Nat.{ℕ, zero, suc, _+_, _-_, _≤_, _<_}
 use native.Mathlib.Decide.{decLt}
 use native.Mathlib.Omega.{arith}
@@ -15,6 +16,7 @@ use Rattle.work.specs.declared.result.Seen.the-variants.{Stopped, Running, Succ
 use Rattle.work.specs.Word.{placeOf}
 use Rattle.work.specs.Array.{wordAt, updates, passed, endOf, setPlace, freshWords, freshTimes, childFrom, upOn}
 use Rattle.work.specs.Flat.{Out, out, Step, Visitor, andThen, turned, turnOut, turning, sequenceOn, memorylessOn, sequenceGo, sequence, memorylessGo, memoryless}
+use Rattle.work.proofs.Laws.{Among}
 use Rattle.turns.specs.declared.level.Level.{Level}
 use Rattle.turns.specs.Levels.{sequenceResumed, memorylessResumed}
 use Rattle.turns.proofs.FuelLaws.{then-alike}
@@ -146,14 +148,14 @@ module _ (x : Bool) (v : Visitor) (p : ℕ) (dt : Float) (ws : List ℕ) (ts : L
 
 -- a child has given a result
 module _ (x : Bool) (v : Visitor) (e : Level) (s : Seen) (l : Float) (ws : List ℕ) (ts : List Float) where
-  pub mem-stopped : turned x s ≡ Stopped → memorylessResumed x v e (out s l ws ts) ≡ out s l ws ts
-  mem-stopped h = rw h (turned-as x s Stopped l ws ts h)
+  pub mem-ended : (t : Seen) → turned x s ≡ t → Among (0 ∷ 3 ∷ []) t → memorylessResumed x v e (out s l ws ts) ≡ out s l ws ts
+  mem-ended Stopped h n = rw h (turned-as x s Stopped l ws ts h)
+  mem-ended Running h n = absurd (miss (0 ∷ 3 ∷ []) 1 tt n)
+  mem-ended Success h n = absurd (miss (0 ∷ 3 ∷ []) 2 tt n)
+  mem-ended Failure h n = rw h (turned-as x s Failure l ws ts h)
 
   pub mem-running : turned x s ≡ Running → memorylessResumed x v e (out s l ws ts) ≡ out Running zeroTime ws ts
   mem-running h = rw h
-
-  pub mem-failed : turned x s ≡ Failure → memorylessResumed x v e (out s l ws ts) ≡ out s l ws ts
-  mem-failed h = rw h (turned-as x s Failure l ws ts h)
 
   module _ (h : turned x s ≡ Success) where
     pub mem-last : e .stop ≤ e .next → (r : Float) → r ≡ passed ws l → memorylessResumed x v e (out s l ws ts) ≡ out s r ws ts

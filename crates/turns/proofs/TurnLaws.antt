@@ -1,5 +1,5 @@
 -- A turn that is done, and one that is due; and where children stand.
-use mathlib.Core.Path.{_≡_, ap, _∙_}
+use mathlib.Core.Path.{_≡_, refl, ap, _∙_}
 use mathlib.Core.Bool.{Bool, true, false, cond}
 use mathlib.Core.List.{List}
 use Prim.Native.Nat.{ℕ, zero, suc, _+_, _-_, _≤_, _<_}
@@ -19,25 +19,15 @@ use Rattle.turns.specs.declared.level.Turn.{Turn}
 use Rattle.turns.specs.Levels.{Fine, Keeps, Resumed, goes, dueTurn, doneTurn}
 use Rattle.turns.proofs.FuelLaws.{fuel-set, fuel-fresh-to}
 
--- ---- a node that is done
-never : (a : Bool) → a ≡ false → a ≡ true → ⊥
-never a d h = let z : _≡_ {A = ℕ} 0 1 = cc in omega arith
+-- ---- a node that is done, with the equation of its turn put in
+pub none : {A : Type 0} → _≡_ {A = Bool} false true → A
+none h = let z : _≡_ {A = ℕ} 0 1 = cc in absurd (omega arith)
 
-module _ (e : Level) (r : Result) (t : Turn) (d : t ≡ doneTurn e r) where
-  pub done-goes : (f : Resumed) (v : Visitor) (ws : List ℕ) (ts : List Float) (o : Out) → o ≡ out (r .seen) (r .left) ws ts → o ≡ goes f v t ws ts
-  done-goes f v ws ts o h = rw d h
-
-  pub done-not : t .due ≡ true → ⊥
-  done-not h = never (t .due) (rw d) h
-
-  pub done-keeps : Keeps e t
-  done-keeps = record { kind = rw d; node = rw d; fine = λ h. absurd (done-not h) }
+pub over : {e n : Level} {r : Result} → n .kind ≡ e .kind → n .node ≡ e .node → Keeps e (doneTurn n r)
+over k p = record { kind = k; node = p; fine = none }
 
 -- ---- a child is due
 module _ (n : Level) (l : Float) (t : Turn) (d : t ≡ dueTurn n l) where
-  pub due-goes : (f : Resumed) (v : Visitor) (ws : List ℕ) (ts : List Float) (o : Out) → o ≡ f v n (v (n .child) l ws ts) → o ≡ goes f v t ws ts
-  due-goes f v ws ts o h = rw d h
-
   pub due-keeps : (e : Level) → n .kind ≡ e .kind → n .node ≡ e .node → Fine n → Keeps e t
   due-keeps e k p f = rw d (record { kind = k; node = p; fine = λ h. f })
 

@@ -154,11 +154,11 @@ module _ (x : Bool) (v : Visitor) (top : Float) (p : ℕ) (dt : Float) (ws : Lis
 
 -- what WhenAll makes of the result of a child
 module _ (x : Bool) (v : Visitor) (e : Level) (r : Result) (ws : List ℕ) (ts : List Float) where
-  pub when-stops : turned x (r .seen) ≡ Stopped → whenAllResumed x v e (out (r .seen) (r .left) ws ts) ≡ out (r .seen) (r .left) ws ts
-  when-stops h = rw h (turned-as x (r .seen) Stopped (r .left) ws ts h)
-
-  pub when-fails : turned x (r .seen) ≡ Failure → whenAllResumed x v e (out (r .seen) (r .left) ws ts) ≡ out (r .seen) (r .left) ws ts
-  when-fails h = rw h (turned-as x (r .seen) Failure (r .left) ws ts h)
+  pub when-ended : (t : Seen) → turned x (r .seen) ≡ t → Among (0 ∷ 3 ∷ []) t → whenAllResumed x v e (out (r .seen) (r .left) ws ts) ≡ out (r .seen) (r .left) ws ts
+  when-ended Stopped h n = rw h (turned-as x (r .seen) Stopped (r .left) ws ts h)
+  when-ended Running h n = absurd (miss (0 ∷ 3 ∷ []) 1 tt n)
+  when-ended Success h n = absurd (miss (0 ∷ 3 ∷ []) 2 tt n)
+  when-ended Failure h n = rw h (turned-as x (r .seen) Failure (r .left) ws ts h)
 
   pub when-runs : turned x (r .seen) ≡ Running → (o : Out) → turnOut x (whenAllGo (turning x v) (e .stop) (e .whole) 256 (e .next) false (e .rest) ws ts) ≡ o
       → whenAllResumed x v e (out (r .seen) (r .left) ws ts) ≡ o

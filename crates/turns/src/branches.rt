@@ -1,4 +1,4 @@
-// Decorators and If, a child at a time.
+// If, a child at a time.
 use crate::level::Level;
 use crate::level::Turn;
 use crate::level::done;
@@ -12,26 +12,10 @@ use work::place_of;
 use work::stopped;
 ghost use mathlib.Core.Path.{_≡_};
 ghost use mathlib.Core.List.{List};
-ghost use Prim.Native.Nat.{ℕ};
-ghost use lib.Ieee.{Float, Format};
+ghost use lib.Ieee.{Float};
 ghost use Rattle.work.specs.Array.{fuelOf};
-ghost use Rattle.work.specs.Flat.{out, Lent, Visitor, decorator, ifNode};
-ghost use Rattle.turns.specs.Levels.{Fine, Entered, Keeps, goes, decoratorResumed, ifResumed};
-
-// The only child, with the whole dt.
-pub fn decorator_opened(level: Level) -> Turn
-    requires { ⌜ Entered level ⌝ }
-    ensures { λ r. ⌜ ((F : Format) (T : Lent) (v : Visitor) (ws : List ℕ) (ts : List Float) → decorator F T v (level .node) (level .whole) ws ts ≡ goes (decoratorResumed F T) v r ws ts) ⌝ }
-    ensures { λ r. ⌜ Keeps level r ⌝ }
-{
-    let p = level.node;
-    if 255 <= p {
-        return done(level, stopped());
-    }
-    let mut first = level;
-    first.child = p + 1;
-    due(first, level.whole)
-}
+ghost use Rattle.work.specs.Flat.{out, Visitor, ifNode};
+ghost use Rattle.turns.specs.Levels.{Fine, Entered, Keeps, goes, ifResumed};
 
 // The branch that was chosen, or the condition.
 pub fn if_opened(work: &[u32; 260], level: Level) -> Turn

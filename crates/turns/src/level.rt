@@ -2,7 +2,10 @@
 use rules::Kind;
 use work::Result;
 use work::Seen;
+use work::put_place;
 ghost use mathlib.Core.Path.{_≡_};
+ghost use Prim.Native.Nat.{_<_};
+ghost use Rattle.work.specs.Array.{setPlace, fuelOf};
 ghost use Rattle.turns.specs.Levels.{dueTurn, doneTurn, enteredLevel};
 
 // What a driver knows between two visits.
@@ -53,6 +56,17 @@ pub fn done(level: Level, result: Result) -> Turn
         seen,
         left: result.left,
     }
+}
+
+// A node that is done, and keeps the number of its child as its place.
+pub fn done_in_place(work: &mut [u32; 260], level: Level, result: Result) -> Turn
+    requires { ⌜ level .node < 256 ⌝ }
+    ensures { λ r. ⌜ r ≡ doneTurn level result ⌝ }
+    ensures { λ r. ⌜ now (work .exit) ≡ setPlace (now (work .entry)) (level .node) (level .index) ⌝ }
+    ensures { λ r. ⌜ fuelOf (now (work .exit)) ≡ fuelOf (now (work .entry)) ⌝ }
+{
+    put_place(work, level.node, level.index);
+    done(level, result)
 }
 
 // A node that is entered with dt.

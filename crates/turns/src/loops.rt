@@ -2,6 +2,7 @@
 use crate::level::Level;
 use crate::level::Turn;
 use crate::level::done;
+use crate::level::done_in_place;
 use crate::level::due;
 use work::FUEL;
 use work::Result;
@@ -21,12 +22,11 @@ ghost use Prim.Native.Nat.{ℕ, _+_, _<_, _≤_};
 ghost use lib.Ieee.{Float};
 ghost use Rattle.work.specs.Array.{fuelOf};
 ghost use Rattle.work.specs.Flat.{out, Visitor, whileGo, whileBody, whileLoop, whileAllGo, whileAll};
-ghost use Rattle.turns.specs.Levels.{Fine, Keeps, InBody, Bodied, enteredLevel, goes, whileResumed, whileAllResumed};
+ghost use Rattle.turns.specs.Levels.{Fine, Entered, Keeps, InBody, Bodied, goes, whileResumed, whileAllResumed};
 
 // The condition, before any turn.
 pub fn while_opened(level: Level) -> Turn
-    requires { ⌜ (level .node) < 256 ⌝ }
-    requires { ⌜ level ≡ enteredLevel (level .kind) (level .node) (level .whole) ⌝ }
+    requires { ⌜ Entered level ⌝ }
     ensures { λ r. ⌜ ((v : Visitor) (ws : List ℕ) (ts : List Float) → whileLoop v (level .node) (level .whole) ws ts ≡ goes whileResumed v r ws ts) ⌝ }
     ensures { λ r. ⌜ Keeps level r ⌝ }
     ensures { λ r. ⌜ InBody r ⌝ }
@@ -99,8 +99,6 @@ pub fn while_resumed(work: &mut [u32; 260], times: &mut [f64], level: Level, res
     ensures { λ r. ⌜ InBody r ⌝ }
     ensures { λ r. ⌜ fuelOf (now (work .exit)) ≡ fuelOf (now (work .entry)) ⌝ }
 {
-    let p = level.node;
-    let i = level.index;
     let seen = result.seen;
     if level.count == 0 {
         let Seen::Running = seen else {
@@ -110,27 +108,19 @@ pub fn while_resumed(work: &mut [u32; 260], times: &mut [f64], level: Level, res
     }
     match seen {
         Seen::Stopped => done(level, result),
-        Seen::Running => {
-            put_place(work, p, i);
-            done(level, waiting())
-        }
-        Seen::Failure => {
-            put_place(work, p, i);
-            done(level, result)
-        }
+        Seen::Running => done_in_place(work, level, waiting()),
+        Seen::Failure => done_in_place(work, level, result),
         Seen::Success => {
             if !updates(work) {
-                put_place(work, p, i);
-                return done(level, waiting());
+                return done_in_place(work, level, waiting());
             }
-            let q = level.child;
-            let next = end_of(work, q);
-            let moved = move_on(work, times, q, next, level.stop, level.next);
+            let next = end_of(work, level.child);
+            let moved = move_on(work, times, level.child, next, level.stop, level.next);
             while_next(
                 level,
                 level.count - 1,
                 moved,
-                index_after(i, next, level.stop),
+                index_after(level.index, next, level.stop),
                 result.left,
             )
         }
@@ -208,38 +198,29 @@ pub fn while_all_resumed(
     ensures { λ r. ⌜ Bodied r ⌝ }
     ensures { λ r. ⌜ fuelOf (now (work .exit)) ≡ fuelOf (now (work .entry)) ⌝ }
 {
-    let p = level.node;
-    let i = level.index;
     let seen = result.seen;
-    if i == 0 {
+    if level.index == 0 {
         return match seen {
             Seen::Stopped => done(level, result),
             Seen::Running => while_all_next(level, level.count, level.next, 1, level.rest),
             _ => {
-                put_place(work, p, 1);
+                put_place(work, level.node, 1);
                 done(level, result)
             }
         };
     }
     match seen {
         Seen::Stopped => done(level, result),
-        Seen::Running => {
-            put_place(work, p, i);
-            done(level, waiting())
-        }
-        Seen::Failure => {
-            put_place(work, p, i);
-            done(level, result)
-        }
+        Seen::Running => done_in_place(work, level, waiting()),
+        Seen::Failure => done_in_place(work, level, result),
         Seen::Success => {
-            let q = level.child;
-            let next = end_of(work, q);
-            let moved = move_on(work, times, q, next, level.stop, level.next);
+            let next = end_of(work, level.child);
+            let moved = move_on(work, times, level.child, next, level.stop, level.next);
             while_all_next(
                 level,
                 level.count,
                 moved,
-                index_after(i, next, level.stop),
+                index_after(level.index, next, level.stop),
                 result.left,
             )
         }

@@ -1,5 +1,4 @@
 // The driver of each kind.
-use crate::branches::decorator_opened;
 use crate::branches::if_opened;
 use crate::branches::if_resumed;
 use crate::level::Level;
@@ -31,12 +30,12 @@ ghost use mathlib.Core.List.{List};
 ghost use Prim.Native.Nat.{ℕ, _<_};
 ghost use lib.Ieee.{Float, binary64};
 ghost use Rattle.work.specs.Array.{fuelOf};
-ghost use Rattle.work.specs.Flat.{out, Lent, lent, Visitor, isLeaf, byKind};
+ghost use Rattle.work.specs.Flat.{out, Lent, lent, Visitor, isLeaf, isDecorator, byKind};
 ghost use Rattle.turns.specs.Levels.{Sound, KeepsSound, goes, enteredLevel, resumedBy};
 
-// A node with children is entered.
+// A node with children that is no decorator is entered.
 pub fn opened(work: &mut [u32; 260], times: &mut [f64], kind: Kind, p: usize, dt: f64) -> Turn
-    requires { ⌜ (p < 256) × (isLeaf kind ≡ false) ⌝ }
+    requires { ⌜ (p < 256) × (isLeaf kind ≡ false) × (isDecorator kind ≡ false) ⌝ }
     ensures { λ r. ⌜
         ((T : Lent) (v : Visitor) → byKind binary64 T v kind p dt (now (work .entry)) (now (times .entry))
         ≡ goes (resumedBy binary64 T) v r (now (work .exit)) (now (times .exit)))
@@ -46,8 +45,12 @@ pub fn opened(work: &mut [u32; 260], times: &mut [f64], kind: Kind, p: usize, dt
 {
     let level = entered(kind, p, dt);
     match kind {
-        Kind::Wait | Kind::WaitForever | Kind::Action => done(level, stopped()),
-        Kind::Invert | Kind::AlwaysSucceed | Kind::Timeout => decorator_opened(level),
+        Kind::Wait
+        | Kind::WaitForever
+        | Kind::Action
+        | Kind::Invert
+        | Kind::AlwaysSucceed
+        | Kind::Timeout => done(level, stopped()),
         Kind::If => if_opened(work, level),
         Kind::Select | Kind::Sequence => sequence_opened(work, level),
         Kind::MemorylessSequence | Kind::MemorylessSelector => {

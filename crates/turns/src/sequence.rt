@@ -2,6 +2,7 @@
 use crate::level::Level;
 use crate::level::Turn;
 use crate::level::done;
+use crate::level::done_in_place;
 use crate::level::due;
 use work::Result;
 use work::Seen;
@@ -65,37 +66,26 @@ pub fn sequence_resumed(
     ensures { λ r. ⌜ Keeps level r ⌝ }
     ensures { λ r. ⌜ fuelOf (now (work .exit)) ≡ fuelOf (now (work .entry)) ⌝ }
 {
-    let p = level.node;
-    let i = level.index;
     let seen = result.seen;
     match seen.turned(exchange) {
         Seen::Stopped => done(level, result),
-        Seen::Running => {
-            put_place(work, p, i);
-            done(level, waiting())
-        }
-        Seen::Failure => {
-            put_place(work, p, i);
-            done(level, result)
-        }
+        Seen::Running => done_in_place(work, level, waiting()),
+        Seen::Failure => done_in_place(work, level, result),
         Seen::Success => {
-            let q = level.child;
-            let stop = level.stop;
-            let next = end_of(work, q);
+            let next = end_of(work, level.child);
             let update = updates(work);
-            if stop <= next {
-                put_place(work, p, up_on(update, i));
+            if level.stop <= next {
+                put_place(work, level.node, up_on(update, level.index));
                 return done(level, result);
             }
             let behind = end_of(work, next);
-            fresh(work, times, q, behind);
-            if !update {
-                put_place(work, p, i + 1);
-                return done(level, waiting());
-            }
+            fresh(work, times, level.child, behind);
             let mut moved = level;
             moved.child = next;
-            moved.index = i + 1;
+            moved.index = level.index + 1;
+            if !update {
+                return done_in_place(work, moved, waiting());
+            }
             due(moved, result.left)
         }
     }
@@ -162,11 +152,9 @@ pub fn memoryless_resumed(
 {
     let seen = result.seen;
     match seen.turned(exchange) {
-        Seen::Stopped => done(level, result),
+        Seen::Stopped | Seen::Failure => done(level, result),
         Seen::Running => done(level, waiting()),
-        Seen::Failure => done(level, result),
         Seen::Success => {
-            let q = level.child;
             let next = level.next;
             let rest = result.left;
             if level.stop <= next {
@@ -178,7 +166,7 @@ pub fn memoryless_resumed(
                     },
                 );
             }
-            fresh(work, times, q, next);
+            fresh(work, times, level.child, next);
             let mut moved = level;
             moved.child = next;
             moved.next = end_of(work, next);

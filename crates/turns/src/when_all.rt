@@ -2,6 +2,7 @@
 use crate::level::Level;
 use crate::level::Turn;
 use crate::level::done;
+use crate::level::done_in_place;
 use crate::level::due;
 use work::LARGEST;
 use work::Result;
@@ -133,8 +134,7 @@ pub fn when_all_resumed(
     let least = level.rest;
     let seen = result.seen;
     match seen.turned(any) {
-        Seen::Stopped => done(level, result),
-        Seen::Failure => done(level, result),
+        Seen::Stopped | Seen::Failure => done(level, result),
         Seen::Running => when_all_next(work, any, level, next, 0, least),
         Seen::Success => {
             let q = level.child;
@@ -266,30 +266,24 @@ pub fn after_resumed(work: &mut [u32; 260], level: Level, result: Result) -> Tur
     ensures { λ r. ⌜ Behind r ⌝ }
     ensures { λ r. ⌜ fuelOf (now (work .exit)) ≡ fuelOf (now (work .entry)) ⌝ }
 {
-    let p = level.node;
-    let i = level.index;
-    let least = level.rest;
     let seen = result.seen;
     match seen {
         Seen::Stopped => done(level, result),
-        Seen::Failure => {
-            put_place(work, p, i);
-            done(level, result)
-        }
-        Seen::Running => after_next(work, level, level.next, i, 0, 0.0),
+        Seen::Failure => done_in_place(work, level, result),
+        Seen::Running => after_next(work, level, level.next, level.index, 0, 0.0),
         Seen::Success => {
             let left = result.left;
-            if !sooner(level.count != 0, left, least) {
-                put_place(work, p, i);
-                return done(
+            if !sooner(level.count != 0, left, level.rest) {
+                return done_in_place(
+                    work,
                     level,
                     Result {
                         seen: Seen::Failure,
-                        left: smaller(least, left),
+                        left: smaller(level.rest, left),
                     },
                 );
             }
-            after_next(work, level, level.next, i + 1, 1, left)
+            after_next(work, level, level.next, level.index + 1, 1, left)
         }
     }
 }

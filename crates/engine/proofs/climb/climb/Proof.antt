@@ -89,17 +89,10 @@ pub climb-spec : {M : Type 1} → statement M
 climb-spec =
     tie.close
     (tie.spec
-    Inv-loop
-    μ-loop
-    (λ c κs. search needs)
-    loop-holds
-    down-requires
-    up-requires
+    Inv-loop μ-loop (λ c κs. search needs) loop-holds down-requires up-requires
     (λ c. came (c .before) .up .kept .1 .1 .1 .1 .0 ∙ last c .down .kept .1 .1 .1 .1 .0 ∙ loop (last c) .loop .inv .times-long)
     (λ c. last c .down .kept .1 .1 .1 .1 .1 .0 ∙ loop (last c) .loop .inv .opens-long)
     (λ c. last c .down .kept .1 .1 .1 .1 .1 .1 .0 ∙ loop (last c) .loop .inv .counts-long)
     (λ c. last c .down .kept .1 .1 .1 .1 .1 .1 .1 .0 ∙ loop (last c) .loop .inv .wholes-long)
     (λ c. last c .down .kept .1 .1 .1 .1 .1 .1 .1 .1 .0 ∙ loop (last c) .loop .inv .rests-long)
-    returns
-    loop-less
-    loop-again)
+    returns loop-less loop-again)

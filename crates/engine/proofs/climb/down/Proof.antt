@@ -161,7 +161,10 @@ abbrev outer : Stands tie.Else5 → Stands tie.Joined4
 outer c = c .before .before
 
 opened-requires : tie.Need-opened-requires Inv-loop μ-loop
-opened-requires c κs = let joined = outer (c .before .before) in (around joined .loop .inv .held .due-in, no-leaf (inner (joined .before)))
+opened-requires c κs =
+    let else = c .before .before in
+    let joined = outer else in
+    (around joined .loop .inv .held .due-in, no-leaf (inner (joined .before)), sym (else .before .decorates .ensures) ∙ else .if5 .left)
 
 abbrev opened : Stands tie.After-show → Stands tie.After-opened
 opened c = c .before .before .before .before .before .before
@@ -194,41 +197,24 @@ pub down-spec : {M : Type 1} → statement M
 down-spec =
     tie.close
     (tie.spec
-    Inv-loop
-    μ-loop
-    loop-holds
-    (λ c. search needs)
-    (λ c. search needs)
-    (λ c κs. search needs)
-    (λ c κs. search needs)
-    visit-leaf-requires
-    leaf-long
+    Inv-loop μ-loop loop-holds (λ c. search needs) (λ c. search needs) (λ c κs. search needs) (λ c κs. search needs) visit-leaf-requires leaf-long
     (λ c. loop (leaf (visited c) .before) .loop .inv .opens-long)
     (λ c. loop (leaf (visited c) .before) .loop .inv .counts-long)
     (λ c. loop (leaf (visited c) .before) .loop .inv .wholes-long)
     (λ c. loop (leaf (visited c) .before) .loop .inv .rests-long)
-    returns
-    (λ c. search needs)
-    (λ c κs. search needs)
+    returns (λ c. search needs) (λ c κs. search needs)
     (λ c. at (c .before .before .before) .loop .inv .times-long)
     (λ c. at (c .before .before .before) .loop .inv .opens-long)
     (λ c. at (c .before .before .before) .loop .inv .counts-long)
     (λ c. at (c .before .before .before) .loop .inv .wholes-long)
     (λ c. at (c .before .before .before) .loop .inv .rests-long)
-    returns-2
-    (λ c κs. search needs)
+    returns-2 (λ c κs. search needs)
     (λ c. at (c .before .before .before .before) .loop .inv .times-long)
     (λ c. at (c .before .before .before .before) .loop .inv .opens-long)
     (λ c. at (c .before .before .before .before) .loop .inv .counts-long)
     (λ c. at (c .before .before .before .before) .loop .inv .wholes-long)
     (λ c. at (c .before .before .before .before) .loop .inv .rests-long)
-    returns-3
-    (λ c. search needs)
-    (λ c. search needs)
-    sub-keep
-    keep-requires
-    (λ c κs. search needs)
-    (λ c κs. search needs)
+    returns-3 (λ c. search needs) (λ c. search needs) sub-keep keep-requires (λ c κs. search needs) (λ c κs. search needs)
     (λ c. with-room (entering (c .before .before)) .times-long)
     (λ c. with-room (entering (c .before .before)) .opens-long)
     (λ c. with-room (entering (c .before .before)) .counts-long)
@@ -248,9 +234,7 @@ down-spec =
     let run = opened-down (c .before .before .before) in
     let o = run .open-decorators .ensures in
     omega (arith, o .from, o .held .few, entering (opening (first run)) .before .if3 .left))
-    loop-again
-    opened-requires
-    show-requires
+    loop-again opened-requires show-requires
     (λ c. let gave = opened c in gave .opened .kept .1 .0 ∙ with-room (outer (other gave)) .times-long)
     (λ c. with-room (outer (other (opened c))) .opens-long)
     (λ c. with-room (outer (other (opened c))) .counts-long)

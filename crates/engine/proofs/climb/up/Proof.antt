@@ -113,16 +113,11 @@ pub up-spec : {M : Type 1} → statement M
 up-spec =
     tie.close
     (tie.spec
-    Inv-loop
-    μ-loop
-    loop-holds
-    (λ c. search needs)
+    Inv-loop μ-loop loop-holds (λ c. search needs)
     (λ c. c .before .before .before .loop .inv .times-long)
-    returns
-    resumed-requires
+    returns resumed-requires
     (λ c. let was = c .before .before .before .before in was .resumed .kept .1 .1 .0 ∙ at was .loop .inv .times-long)
-    returns-2
-    show-requires
+    returns-2 show-requires
     (λ c. omega (arith, inside (gave (c .before .before)) .loop-test .taken))
     close-decorators-requires
     (λ c. omega (arith, c .if2 .taken))

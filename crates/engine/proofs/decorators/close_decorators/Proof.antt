@@ -60,14 +60,12 @@ pub close-decorators-spec : {M : Type 1} → statement M
 close-decorators-spec =
     tie.close
     (tie.spec
-    Inv-loop
-    μ-loop
+    Inv-loop μ-loop
     (λ c. (close-start, refl))
     (λ c. omega (arith, c .loop-test .taken))
     (λ c. omega (arith, c .before .loop .inv .0 .few, start (c .before) .pre .0 .0))
     (λ c. let at = c .before .before in omega (arith, at .loop .inv .0 .few, c .before .loop-test .taken, start at .pre .0 .1))
-    (λ c κs. search needs)
-    (λ c κs. search needs)
+    (λ c κs. search needs) (λ c κs. search needs)
     (λ c. loop (c .before .before) .loop .inv .1)
     (λ c. loop (c .before .before) .loop .inv .0)
     (λ c κs. search needs)

@@ -54,9 +54,7 @@ pub open-decorators-spec : {M : Type 1} → statement M
 open-decorators-spec =
     tie.close
     (tie.spec
-    Inv-loop
-    μ-loop
-    loop-holds
+    Inv-loop μ-loop loop-holds
     (λ c κs. c .before .loop .inv .place)
     (λ c. any-way (c .before .before .before .loop .inv) .opens-long)
     (λ c. any-way (c .before .before .before .loop .inv) .counts-long)

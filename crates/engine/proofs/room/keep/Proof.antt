@@ -1,6 +1,7 @@
 -- Each number goes into its slice.
 use borrow.Author.Needs.{needs}
 use native.Mathlib.Omega.{arith}
+use lib.ListN.{length-set}
 use Rattle.engine.specs.Stands.{putAt}
 use Rattle.engine.proofs.room.keep.Statement.{statement}
 use Rattle.engine.proofs.room.keep.Tie as tie
@@ -13,17 +14,5 @@ pub keep-spec : {M : Type 1} → statement M
 keep-spec =
     tie.close
     (tie.spec
-    (λ c κs. search needs)
-    (λ c. search needs)
-    (λ c. search needs)
-    (λ c. search needs)
-    (λ c. search needs)
-    (λ c. search needs)
-    (λ c. search needs)
-    (λ c. search needs)
-    (λ c. search needs)
-    (λ c. search needs)
-    (λ c. search needs)
-    (λ c. search needs)
-    (λ c. search needs)
-    returns)
+    (λ c κs. search needs) (λ c. omega arith) (λ c. omega arith) (λ c. omega arith) (λ c. omega arith) (λ c. omega arith) (λ c. omega arith)
+    (λ c. omega arith) (λ c. omega arith) (λ c. simp length-set) (λ c. simp length-set) (λ c. simp length-set) (λ c. simp length-set) returns)

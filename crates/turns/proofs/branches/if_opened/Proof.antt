@@ -5,7 +5,7 @@ use native.Mathlib.Omega.{arith}
 use borrow.Author.Needs.{needs}
 use borrow.Author.Tests.{eq-eqb, ne-eqb}
 use Rattle.turns.proofs.BranchLaws.{if-held, if-lost, if-none, if-due}
-use Rattle.turns.proofs.TurnLaws.{child-past, done-keeps, due-keeps}
+use Rattle.turns.proofs.TurnLaws.{over, child-past, due-keeps}
 use Rattle.turns.proofs.branches.if_opened.Statement.{statement}
 use Rattle.turns.proofs.branches.if_opened.Tie as tie
 
@@ -31,7 +31,7 @@ returns c =
     let at = place child in (
       λ v ts. rw (c .done .ensures, c .before .stopped .ensures)
           (if-lost v _ _ _ ts _ _ (ended at .end-of .ensures .0) (at .place-of .ensures .0) _ (child .before .if1 .taken) (child .child .ensures .0) (c .before .before .if2 .taken)),
-      done-keeps _ _ _ (c .done .ensures),
+      rw (c .done .ensures) (over refl refl),
     )
 
 returns-2 : tie.Need-returns-2
@@ -60,7 +60,7 @@ returns-3 c =
     let at = c .before .before .before .before in (
       λ v ts. rw (c .done2 .ensures, c .before .stopped2 .ensures)
           (if-none v _ _ _ ts _ _ (ended at .end-of .ensures .0) (at .place-of .ensures .0) (c .before .before .before .if1 .left) (c .before .before .if3 .taken)),
-      done-keeps _ _ _ (c .done2 .ensures),
+      rw (c .done2 .ensures) (over refl refl),
     )
 
 returns-4 : tie.Need-returns-4
@@ -82,20 +82,6 @@ pub if-opened-spec : {M : Type 1} → statement M
 if-opened-spec =
     tie.close
     (tie.spec
-    end-of-requires
-    (λ c. search needs)
-    (λ c. search needs)
-    (λ c κs. search needs)
-    (λ c. search needs)
-    child-requires
-    (λ c κs. search needs)
-    (λ c κs. search needs)
-    returns
-    (λ c κs. search needs)
-    returns-2
-    (λ c κs. search needs)
-    (λ c κs. search needs)
-    returns-3
-    (λ c. search needs)
-    (λ c κs. search needs)
-    returns-4)
+    end-of-requires (λ c. search needs) (λ c. search needs) (λ c κs. search needs) (λ c. search needs) child-requires (λ c κs. search needs)
+    (λ c κs. search needs) returns (λ c κs. search needs) returns-2 (λ c κs. search needs) (λ c κs. search needs) returns-3 (λ c. search needs)
+    (λ c κs. search needs) returns-4)

@@ -6,7 +6,7 @@ use borrow.Author.Needs.{needs}
 use borrow.Author.Tests.{ne-eqb}
 use Rattle.turns.proofs.BranchLaws.{choice-small, if-branch, if-undecided, if-chosen, if-chosen-lost}
 use Rattle.turns.proofs.FuelLaws.{fuel-chosen}
-use Rattle.turns.proofs.TurnLaws.{child-past, done-keeps, due-keeps}
+use Rattle.turns.proofs.TurnLaws.{over, child-past, due-keeps}
 use Rattle.turns.proofs.branches.if_resumed.Statement.{statement}
 use Rattle.turns.proofs.branches.if_resumed.Tie as tie
 
@@ -23,7 +23,7 @@ choosing c = c .before .before .before .before
 returns : tie.Need-returns
 returns c =
     let a = c .before .before .before .before .args in
-    (λ v. rw (c .done .ensures) (if-branch v (a .level) (a .result .left) (a .work .now) (a .times .now) (a .result .seen) (c .before .if1 .taken)), (done-keeps _ _ _ (c .done .ensures), refl))
+    (λ v. rw (c .done .ensures) (if-branch v (a .level) (a .result .left) (a .work .now) (a .times .now) (a .result .seen) (c .before .if1 .taken)), (rw (c .done .ensures) (over refl refl), refl))
 
 returns-2 : tie.Need-returns-2
 returns-2 c =
@@ -31,7 +31,7 @@ returns-2 c =
     let a = start choice .args in (
       λ v. rw (c .done2 .ensures)
           (if-undecided v (a .level) (a .result .left) (a .work .now) (a .times .now) (choice .before .if1 .left) (a .result .seen) (sym (choice .choice .ensures) ∙ c .before .if2 .taken)),
-      (done-keeps _ _ _ (c .done2 .ensures), refl),
+      (rw (c .done2 .ensures) (over refl refl), refl),
     )
 
 choose-requires : tie.Need-choose-requires
@@ -51,7 +51,7 @@ returns-3 c =
           (if-chosen-lost v (a .level) (a .result .left) (a .work .now) (a .times .now) (choice .before .if1 .left)
           (a .result .seen) _ (choice .choice .ensures) (chosen .before .before .before .if2 .left) _ _ (chosen .choose .ensures .0) (chosen .choose .ensures .1) _
           (child .child .ensures .0) (c .before .before .if3 .taken)),
-      (done-keeps _ _ _ (c .done3 .ensures), rw (chosen .choose .ensures .0) (fuel-chosen _ _ _ _ (omega (arith, pre .node-in, pre .child-in)))),
+      (rw (c .done3 .ensures) (over refl refl), rw (chosen .choose .ensures .0) (fuel-chosen _ _ _ _ (omega (arith, pre .node-in, pre .child-in)))),
     )
 
 returns-4 : tie.Need-returns-4
@@ -82,18 +82,5 @@ pub if-resumed-spec : {M : Type 1} → statement M
 if-resumed-spec =
     tie.close
     (tie.spec
-    (λ c κs. search needs)
-    returns
-    (λ c κs. search needs)
-    (λ c κs. search needs)
-    returns-2
-    choose-requires
-    (λ c. search needs)
-    child-requires
-    (λ c κs. search needs)
-    (λ c κs. search needs)
-    (λ c. search needs)
-    returns-3
-    (λ c κs. search needs)
-    (λ c. search needs)
-    returns-4)
+    (λ c κs. search needs) returns (λ c κs. search needs) (λ c κs. search needs) returns-2 choose-requires (λ c. search needs) child-requires
+    (λ c κs. search needs) (λ c κs. search needs) (λ c. search needs) returns-3 (λ c κs. search needs) (λ c. search needs) returns-4)

@@ -1,19 +1,14 @@
 -- There is no child, or the walk goes on from the place.
 use mathlib.Core.Path.{refl}
 use native.Mathlib.Omega.{arith}
-use Rattle.turns.specs.Levels.{whileAllResumed}
-use Rattle.turns.proofs.TurnLaws.{done-goes, done-keeps, done-not, keeps-as, child-behind}
+use Rattle.turns.proofs.TurnLaws.{none, over, keeps-as, child-behind}
 use Rattle.turns.proofs.LoopLaws.{all-none, all-begins}
 use borrow.Author.Needs.{needs}
 use Rattle.turns.proofs.loops.while_all_opened.Statement.{statement}
 use Rattle.turns.proofs.loops.while_all_opened.Tie as tie
 
 returns : tie.Need-returns
-returns c =
-    let if1 = c .before .before in (
-      (λ v ts. done-goes _ _ _ (c .done .ensures) whileAllResumed v _ ts _ (rw (c .before .stopped .ensures) (all-none v _ _ _ ts (if1 .if1 .taken)))),
-      (done-keeps _ _ _ (c .done .ensures), (λ h. absurd (done-not _ _ _ (c .done .ensures) h))),
-    )
+returns c = rw (c .done .ensures, c .before .stopped .ensures) ((λ v ts. all-none v _ _ _ ts (c .before .before .if1 .taken)), (over refl refl, none))
 
 while-all-next-requires : tie.Need-while-all-next-requires
 while-all-next-requires c κs =
@@ -47,17 +42,5 @@ pub while-all-opened-spec : {M : Type 1} → statement M
 while-all-opened-spec =
     tie.close
     (tie.spec
-    (λ c κs. search needs)
-    (λ c κs. search needs)
-    returns
-    (λ c κs. search needs)
-    (λ c. search needs)
-    (λ c. search needs)
-    (λ c κs. search needs)
-    (λ c. search needs)
-    (λ c κs. search needs)
-    (λ c. search needs)
-    (λ c. search needs)
-    (λ c κs. search needs)
-    while-all-next-requires
-    returns-2)
+    (λ c κs. search needs) (λ c κs. search needs) returns (λ c κs. search needs) (λ c. search needs) (λ c. search needs) (λ c κs. search needs)
+    (λ c. search needs) (λ c κs. search needs) (λ c. search needs) (λ c. search needs) (λ c κs. search needs) while-all-next-requires returns-2)

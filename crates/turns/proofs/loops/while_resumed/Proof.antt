@@ -2,8 +2,8 @@
 use mathlib.Core.Path.{refl, sym, _∙_}
 use native.Mathlib.Omega.{arith}
 use borrow.Author.Tests.{not-true, not-false}
-use Rattle.turns.specs.Levels.{whileResumed}
-use Rattle.turns.proofs.TurnLaws.{done-goes, done-keeps, done-not, node-within, fuel-placed}
+use Rattle.turns.specs.declared.level.Level.{Level}
+use Rattle.turns.proofs.TurnLaws.{none, over}
 use Rattle.turns.proofs.LoopLaws as law
 use borrow.Author.Needs.{needs}
 use Rattle.turns.proofs.loops.while_resumed.Statement.{statement}
@@ -12,12 +12,9 @@ use Rattle.turns.proofs.loops.while_resumed.Tie as tie
 -- the condition has ended
 returns : tie.Need-returns
 returns c =
-    let match = c .before in
-    let if1 = match .before in
-    let a = if1 .before .before .before .args in (
-      (λ v. done-goes _ _ _ (c .done .ensures) whileResumed v _ _ _ (law.while-ended v (a .level) (a .result .seen) (a .result .left) _ _ (if1 .if1 .taken) (match .match .keys2))),
-      (done-keeps _ _ _ (c .done .ensures), ((λ h g. absurd (done-not _ _ _ (c .done .ensures) h)), refl)),
-    )
+    let if1 = c .before .before in
+    let a = if1 .before .before .before .args in
+    rw (c .done .ensures) ((λ v. law.while-ended v (a .level) _ _ _ _ (if1 .if1 .taken) (c .before .match .keys2)), (over refl refl, ((λ h g. none h), refl)))
 
 returns-2 : tie.Need-returns-2
 returns-2 c =
@@ -29,64 +26,41 @@ returns-2 c =
       (body .1 .0, (body .1 .1, refl)),
     )
 
+-- a child of the body has given a result
+abbrev level : tie.Else1 → Level
+level c = c .before .before .before .args .level
+
 -- an other event
 returns-3 : tie.Need-returns-3
 returns-3 c =
-    let put-place3 = c .before .before in
-    let if2 = put-place3 .before .before in
-    let updates = if2 .before in
-    let enum-told5 = updates .before .before in
-    let if1 = enum-told5 .before .before in
-    let start = if1 .before .before .before in
-    let a = start .args in (
-      (λ v. done-goes _ _ _ (c .done5 .ensures) whileResumed v _ _ _ (rw (c .before .waiting2 .ensures)
-          (law.while-other v (a .level) (a .result .seen) (a .result .left) _ _ (if1 .if1 .left) (enum-told5 .enum-told5 .given .1)
-          (sym (updates .updates .ensures) ∙ not-true _ (if2 .if2 .taken)) _ (put-place3 .put-place3 .ensures)))),
-      (
-        done-keeps _ _ _ (c .done5 .ensures),
-        ((λ h g. absurd (done-not _ _ _ (c .done5 .ensures) h)), fuel-placed (a .work .now) _ _ (a .level .index) (node-within (start .pre .0)) (put-place3 .put-place3 .ensures)),
-      ),
+    let if2 = c .before .before .before in
+    let told = if2 .before .before .before in
+    let else = told .before .before in
+    let d = c .done-in-place3 .ensures in
+    rw (d .0, c .before .waiting2 .ensures) (
+      (λ v. law.while-other v (level else) _ _ _ _ (else .if1 .left) (told .enum-told5 .given .1) (sym (if2 .before .updates .ensures) ∙ not-true _ (if2 .if2 .taken)) _ (d .1 .0)),
+      (over refl refl, ((λ h g. none h), d .1 .1)),
     )
 
 returns-4 : tie.Need-returns-4
 returns-4 c =
-    let enum-told2 = c .before in
-    let if1 = enum-told2 .before .before in
-    let a = if1 .before .before .before .args in (
-      (λ v. done-goes _ _ _ (c .done2 .ensures) whileResumed v _ _ _
-          (law.while-stopped v (a .level) (a .result .seen) (a .result .left) _ _ (if1 .if1 .left) (enum-told2 .enum-told2 .given .1))),
-      (done-keeps _ _ _ (c .done2 .ensures), ((λ h g. absurd (done-not _ _ _ (c .done2 .ensures) h)), refl)),
-    )
+    let else = c .before .before .before in
+    rw (c .done2 .ensures) ((λ v. law.while-stopped v (level else) _ _ _ _ (else .if1 .left) (c .before .enum-told2 .given .1)), (over refl refl, ((λ h g. none h), refl)))
 
 returns-5 : tie.Need-returns-5
 returns-5 c =
-    let put-place = c .before .before in
-    let enum-told3 = put-place .before .before in
-    let if1 = enum-told3 .before .before in
-    let start = if1 .before .before .before in
-    let a = start .args in (
-      (λ v. done-goes _ _ _ (c .done3 .ensures) whileResumed v _ _ _ (rw (c .before .waiting .ensures)
-          (law.while-running v (a .level) (a .result .seen) (a .result .left) _ _ (if1 .if1 .left) (enum-told3 .enum-told3 .given .1) _ (put-place .put-place .ensures)))),
-      (
-        done-keeps _ _ _ (c .done3 .ensures),
-        ((λ h g. absurd (done-not _ _ _ (c .done3 .ensures) h)), fuel-placed (a .work .now) _ _ (a .level .index) (node-within (start .pre .0)) (put-place .put-place .ensures)),
-      ),
-    )
+    let told = c .before .before .before in
+    let else = told .before .before in
+    let d = c .done-in-place .ensures in
+    rw (d .0, c .before .waiting .ensures)
+    ((λ v. law.while-running v (level else) _ _ _ _ (else .if1 .left) (told .enum-told3 .given .1) _ (d .1 .0)), (over refl refl, ((λ h g. none h), d .1 .1)))
 
 returns-6 : tie.Need-returns-6
 returns-6 c =
-    let put-place2 = c .before in
-    let enum-told4 = put-place2 .before .before in
-    let if1 = enum-told4 .before .before in
-    let start = if1 .before .before .before in
-    let a = start .args in (
-      (λ v. done-goes _ _ _ (c .done4 .ensures) whileResumed v _ _ _
-          (law.while-failed v (a .level) (a .result .seen) (a .result .left) _ _ (if1 .if1 .left) (enum-told4 .enum-told4 .given .1) _ (put-place2 .put-place2 .ensures))),
-      (
-        done-keeps _ _ _ (c .done4 .ensures),
-        ((λ h g. absurd (done-not _ _ _ (c .done4 .ensures) h)), fuel-placed (a .work .now) _ _ (a .level .index) (node-within (start .pre .0)) (put-place2 .put-place2 .ensures)),
-      ),
-    )
+    let told = c .before .before in
+    let else = told .before .before in
+    let d = c .done-in-place2 .ensures in
+    rw (d .0) ((λ v. law.while-failed v (level else) _ _ _ _ (else .if1 .left) (told .enum-told4 .given .1) _ (d .1 .0)), (over refl refl, ((λ h g. none h), d .1 .1)))
 
 -- the body goes on
 while-next-requires : tie.Need-while-next-requires
@@ -128,33 +102,7 @@ pub while-resumed-spec : {M : Type 1} → statement M
 while-resumed-spec =
     tie.close
     (tie.spec
-    (λ c. search needs)
-    (λ c κs. search needs)
-    returns
-    (λ c κs. search needs)
-    returns-2
-    (λ c. search needs)
-    (λ c κs. search needs)
-    (λ c. search needs)
-    (λ c κs. search needs)
-    (λ c κs. search needs)
-    (λ c κs. search needs)
-    (λ c. search needs)
-    (λ c κs. search needs)
-    (λ c κs. search needs)
-    (λ c. search needs)
-    (λ c κs. search needs)
-    (λ c κs. search needs)
-    (λ c κs. search needs)
-    (λ c κs. search needs)
-    returns-3
-    (λ c κs. search needs)
-    (λ c κs. search needs)
-    (λ c. search needs)
-    (λ c κs. search needs)
-    while-next-requires
-    returns-4
-    returns-5
-    returns-6
-    (λ c. search needs)
-    returns-7)
+    (λ c. search needs) (λ c κs. search needs) returns (λ c κs. search needs) returns-2 (λ c. search needs) (λ c κs. search needs) (λ c. search needs)
+    (λ c κs. search needs) (λ c κs. search needs) (λ c. search needs) (λ c κs. search needs) (λ c. search needs) (λ c κs. search needs)
+    (λ c κs. search needs) (λ c κs. search needs) returns-3 (λ c κs. search needs) (λ c κs. search needs) (λ c. search needs) (λ c κs. search needs)
+    while-next-requires returns-4 returns-5 returns-6 (λ c. search needs) returns-7)

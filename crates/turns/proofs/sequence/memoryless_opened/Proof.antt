@@ -1,8 +1,7 @@
 -- No children, or the first is due.
 use mathlib.Core.Path.{refl}
 use native.Mathlib.Omega.{arith}
-use Rattle.turns.specs.Levels.{memorylessResumed}
-use Rattle.turns.proofs.TurnLaws.{done-goes, done-keeps, done-not, due-goes, due-keeps, fuel-freshed}
+use Rattle.turns.proofs.TurnLaws.{none, over, due-keeps, fuel-freshed}
 use Rattle.turns.proofs.SequenceLaws.{mem-empty, mem-start}
 use borrow.Author.Needs.{needs}
 use Rattle.turns.proofs.sequence.memoryless_opened.Statement.{statement}
@@ -13,11 +12,9 @@ returns c =
     let passed = c .before in
     let turned = passed .before .before in
     let if1 = turned .before in
-    let end-of = if1 .before in
-    let a = end-of .before .before .before .args in (
-      (λ v. done-goes _ _ _ (c .done .ensures) (memorylessResumed (a .exchange)) v _ _ _
-          (mem-empty _ v _ _ _ _ _ (end-of .end-of .ensures .0) (if1 .if1 .taken) _ (passed .passed .ensures) _ (turned .turned .ensures))),
-      (done-keeps _ _ _ (c .done .ensures), ((λ h. absurd (done-not _ _ _ (c .done .ensures) h)), refl)),
+    rw (c .done .ensures) (
+      (λ v. mem-empty _ v _ _ _ _ _ (if1 .before .end-of .ensures .0) (if1 .if1 .taken) _ (passed .passed .ensures) _ (turned .turned .ensures)),
+      (over refl refl, (none, refl)),
     )
 
 returns-2 : tie.Need-returns-2
@@ -27,10 +24,9 @@ returns-2 c =
     let if1 = fresh .before .before .before in
     let end-of = if1 .before in
     let start = end-of .before .before .before in
-    let a = start .args in
     let stop-in = end-of .end-of .ensures .1 in
     let past = end-of2 .end-of2 .ensures .2 (omega (arith, if1 .if1 .left, stop-in)) in (
-      (λ v. due-goes _ _ _ (c .due .ensures) (memorylessResumed (a .exchange)) v _ _ _
+      (λ v. rw (c .due .ensures)
           (mem-start _ v _ _ _ _ _ (end-of .end-of .ensures .0) stop-in (if1 .if1 .left) _ _ (fresh .fresh .ensures .0) (fresh .fresh .ensures .1) _ (end-of2 .end-of2 .ensures .0))),
       (
         due-keeps _ _ _ (c .due .ensures) _ refl refl (record {
@@ -48,14 +44,5 @@ pub memoryless-opened-spec : {M : Type 1} → statement M
 memoryless-opened-spec =
     tie.close
     (tie.spec
-    (λ c κs. search needs)
-    (λ c. search needs)
-    (λ c κs. search needs)
-    (λ c κs. search needs)
-    (λ c κs. search needs)
-    returns
-    (λ c κs. search needs)
-    (λ c κs. search needs)
-    (λ c κs. search needs)
-    (λ c. search needs)
-    returns-2)
+    (λ c κs. search needs) (λ c. search needs) (λ c κs. search needs) (λ c κs. search needs) (λ c κs. search needs) returns (λ c κs. search needs)
+    (λ c κs. search needs) (λ c κs. search needs) (λ c. search needs) returns-2)

@@ -2,34 +2,28 @@
 use borrow.Author.Needs.{needs}
 use mathlib.Core.Path.{_≡_, refl}
 use native.Mathlib.Omega.{arith}
-use Rattle.turns.proofs.TurnLaws.{done-not, done-keeps, fuel-placed}
+use Rattle.work.specs.Array.{fuelOf}
+use Rattle.turns.proofs.TurnLaws.{none, over, fuel-placed}
 use Rattle.turns.proofs.WhenAllLaws.{after-some-over, after-all-over, after-due}
 use Rattle.turns.proofs.when_all.after_next.Statement.{statement}
 use Rattle.turns.proofs.when_all.after_next.Tie as tie
 
+placed : (c : tie.After-put-place) → fuelOf (c .put-place .last .0) ≡ fuelOf (c .before .before .before .before .args .work .now)
+placed c = let a = c .before .before .before .before .args in fuel-placed (a .work .now) _ (a .level .node) (a .i) (omega arith) (c .put-place .ensures)
+
 returns : tie.Need-returns
 returns c =
-    let wait = c .before in
-    let put = wait .before .before in
+    let put = c .before .before .before in
     let if1 = put .before .before in
-    let a = if1 .before .before .args in
-    let d = c .done .ensures in
-    let e = put .put-place .ensures in (
-      (λ v ts. rw (d, wait .waiting .ensures) (after-some-over v _ _ _ _ _ _ _ _ ts (if1 .if1 .taken) (wait .before .if2 .taken) _ e)),
-      (done-keeps _ _ _ d, ((λ h. absurd (done-not _ _ _ d h)), fuel-placed (a .work .now) _ (a .level .node) (a .i) (omega arith) e)),
-    )
+    rw (c .done .ensures, c .before .waiting .ensures)
+    ((λ v ts. after-some-over v _ _ _ _ _ _ _ _ ts (if1 .if1 .taken) (c .before .before .if2 .taken) _ (put .put-place .ensures)), (over refl refl, (none, placed put)))
 
 returns-2 : tie.Need-returns-2
 returns-2 c =
-    let if2 = c .before in
-    let put = if2 .before in
+    let put = c .before .before in
     let if1 = put .before .before in
-    let a = if1 .before .before .args in
-    let d = c .done2 .ensures in
-    let e = put .put-place .ensures in (
-      (λ v ts. rw d (after-all-over v _ _ _ _ _ _ _ _ ts (if1 .if1 .taken) (if2 .if2 .left) _ e)),
-      (done-keeps _ _ _ d, ((λ h. absurd (done-not _ _ _ d h)), fuel-placed (a .work .now) _ (a .level .node) (a .i) (omega arith) e)),
-    )
+    rw (c .done2 .ensures)
+    ((λ v ts. after-all-over v _ _ _ _ _ _ _ _ ts (if1 .if1 .taken) (c .before .if2 .left) _ (put .put-place .ensures)), (over refl refl, (none, placed put)))
 
 returns-3 : tie.Need-returns-3
 returns-3 c =

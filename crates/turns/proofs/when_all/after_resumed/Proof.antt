@@ -1,10 +1,9 @@
 -- Each arm of the match, and the test of a success.
 use borrow.Author.Needs.{needs}
 use mathlib.Core.Path.{_≡_, refl, sym, _∙_}
-use native.Mathlib.Omega.{arith}
 use borrow.Author.Tests.{not-true, not-false}
 use lib.Ieee.{ofBits}
-use Rattle.turns.proofs.TurnLaws.{done-not, done-keeps, fuel-placed}
+use Rattle.turns.proofs.TurnLaws.{none, over}
 use Rattle.turns.proofs.WhenAllLaws.{after-stops, after-fails, after-runs, after-late, after-sooner}
 use Rattle.turns.proofs.when_all.after_resumed.Statement.{statement}
 use Rattle.turns.proofs.when_all.after_resumed.Tie as tie
@@ -12,35 +11,29 @@ use Rattle.turns.proofs.when_all.after_resumed.Tie as tie
 returns : tie.Need-returns
 returns c =
     let smaller = c .before in
-    let put = smaller .before in
-    let if1 = put .before .before in
+    let if1 = smaller .before .before in
     let sooner = if1 .before in
     let told = sooner .before .before in
     let a = told .before .before .args in
-    let d = c .done3 .ensures in
-    let e = put .put-place2 .ensures in (
-      (λ v ts. rw d (after-late v (a .level) (a .result) (a .work .now) ts (told .enum-told4 .given .1) (sym (sooner .sooner .ensures) ∙ not-true _ (if1 .if1 .taken)) _ e _
-          (smaller .smaller .ensures))),
-      (done-keeps _ _ _ d, ((λ h. absurd (done-not _ _ _ d h)), fuel-placed (a .work .now) _ (a .level .node) (a .level .index) (omega arith) e)),
+    let d = c .done-in-place2 .ensures in
+    rw (d .0) (
+      (λ v ts. after-late v (a .level) (a .result) (a .work .now) ts (told .enum-told4 .given .1) (sym (sooner .sooner .ensures) ∙ not-true _ (if1 .if1 .taken)) _ (d .1 .0) _
+          (smaller .smaller .ensures)),
+      (over refl refl, (none, d .1 .1)),
     )
 
 returns-2 : tie.Need-returns-2
 returns-2 c =
     let told = c .before in
     let a = told .before .before .args in
-    let d = c .done .ensures in
-    ((λ v ts. rw d (after-stops v (a .level) (a .result) (a .work .now) ts (told .enum-told .given .1))), (done-keeps _ _ _ d, ((λ h. absurd (done-not _ _ _ d h)), refl)))
+    rw (c .done .ensures) ((λ v ts. after-stops v (a .level) (a .result) (a .work .now) ts (told .enum-told .given .1)), (over refl refl, (none, refl)))
 
 returns-3 : tie.Need-returns-3
 returns-3 c =
-    let put = c .before in
-    let told = put .before .before in
+    let told = c .before .before in
     let a = told .before .before .args in
-    let d = c .done2 .ensures in
-    let e = put .put-place .ensures in (
-      (λ v ts. rw d (after-fails v (a .level) (a .result) (a .work .now) ts (told .enum-told2 .given .1) _ e)),
-      (done-keeps _ _ _ d, ((λ h. absurd (done-not _ _ _ d h)), fuel-placed (a .work .now) _ (a .level .node) (a .level .index) (omega arith) e)),
-    )
+    let d = c .done-in-place .ensures in
+    rw (d .0) ((λ v ts. after-fails v (a .level) (a .result) (a .work .now) ts (told .enum-told2 .given .1) _ (d .1 .0)), (over refl refl, (none, d .1 .1)))
 
 returns-4 : tie.Need-returns-4
 unfolding ofBits
@@ -52,7 +45,7 @@ returns-4 c =
 
 returns-5 : tie.Need-returns-5
 returns-5 c =
-    let if1 = c .before .before in
+    let if1 = c .before .before .before in
     let sooner = if1 .before in
     let told = sooner .before .before in
     let a = told .before .before .args in
@@ -63,6 +56,6 @@ pub after-resumed-spec : {M : Type 1} → statement M
 after-resumed-spec =
     tie.close
     (tie.spec
-    (λ c. search needs) (λ c κs. search needs) (λ c. search needs) (λ c κs. search needs) (λ c κs. search needs) (λ c. search needs)
-    (λ c κs. search needs) (λ c. search needs) (λ c κs. search needs) (λ c κs. search needs) (λ c κs. search needs) (λ c κs. search needs) returns
-    (λ c. search needs) (λ c κs. search needs) returns-2 returns-3 returns-4 returns-5)
+    (λ c. search needs) (λ c κs. search needs) (λ c. search needs) (λ c κs. search needs) (λ c. search needs) (λ c κs. search needs) (λ c. search needs)
+    (λ c κs. search needs) (λ c κs. search needs) (λ c κs. search needs) returns (λ c. search needs) (λ c κs. search needs) returns-2 returns-3 returns-4
+    returns-5)

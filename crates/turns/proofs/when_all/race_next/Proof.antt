@@ -2,16 +2,13 @@
 use mathlib.Core.Path.{_≡_, refl}
 use native.Mathlib.Omega.{arith}
 use borrow.Author.Needs.{needs}
-use Rattle.turns.proofs.TurnLaws.{done-not, done-keeps}
+use Rattle.turns.proofs.TurnLaws.{none, over}
 use Rattle.turns.proofs.WhenAllLaws.{race-over, race-due}
 use Rattle.turns.proofs.when_all.race_next.Statement.{statement}
 use Rattle.turns.proofs.when_all.race_next.Tie as tie
 
 returns : tie.Need-returns
-returns c =
-    let wait = c .before in
-    let d = c .done .ensures in
-    ((λ v ts. rw (d, wait .waiting .ensures) (race-over v _ _ 256 _ _ ts (wait .before .if1 .taken))), (done-keeps _ _ _ d, (λ h. absurd (done-not _ _ _ d h))))
+returns c = rw (c .done .ensures, c .before .waiting .ensures) ((λ v ts. race-over v _ _ 256 _ _ ts (c .before .before .if1 .taken)), (over refl refl, none))
 
 returns-2 : tie.Need-returns-2
 returns-2 c =

@@ -1,6 +1,7 @@
 -- A child that ended, or the next one.
+use mathlib.Core.Path.{refl}
 use borrow.Author.Needs.{needs}
-use Rattle.turns.proofs.TurnLaws.{done-not, done-keeps}
+use Rattle.turns.proofs.TurnLaws.{none, over}
 use Rattle.turns.proofs.WhenAllLaws.{race-ends}
 use Rattle.turns.proofs.when_all.race_resumed.Statement.{statement}
 use Rattle.turns.proofs.when_all.race_resumed.Tie as tie
@@ -8,9 +9,7 @@ use Rattle.turns.proofs.when_all.race_resumed.Tie as tie
 returns : tie.Need-returns
 returns c =
     let match = c .before in
-    let result = match .before .args .result in
-    let d = c .done .ensures in
-    ((λ v ts. rw d (race-ends _ _ (result .seen) _ _ ts (match .match .keys2))), (done-keeps _ _ _ d, (λ h. absurd (done-not _ _ _ d h))))
+    rw (c .done .ensures) ((λ v ts. race-ends _ _ (match .before .args .result .seen) _ _ ts (match .match .keys2)), (over refl refl, none))
 
 returns-2 : tie.Need-returns-2
 returns-2 c =

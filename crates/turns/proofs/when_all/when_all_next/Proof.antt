@@ -3,34 +3,24 @@ use borrow.Author.Needs.{needs}
 use mathlib.Core.Path.{_≡_, refl}
 use native.Mathlib.Omega.{arith}
 use Rattle.work.specs.Flat.{turning}
-use Rattle.turns.proofs.TurnLaws.{done-not, done-keeps}
+use Rattle.turns.proofs.TurnLaws.{none, over}
 use Rattle.turns.proofs.WhenAllLaws.{when-some-over, when-all-over, when-turn}
 use Rattle.turns.proofs.when_all.when_all_next.Statement.{statement}
 use Rattle.turns.proofs.when_all.when_all_next.Tie as tie
 
 returns : tie.Need-returns
 returns c =
-    let wait = c .before in
-    let if1 = wait .before .before in
-    let from = if1 .before .unmarked .ensures .0 in
-    let args = if1 .before .before .args in
-    let d = c .done .ensures in (
-      (λ v ts. rw (d, wait .waiting .ensures)
-          (when-some-over (args .any) v _ _ _ _ _ _ ts _ (from (turning (args .any) v) _ _ _ ts) (if1 .if1 .taken) (wait .before .if2 .taken))),
-      (done-keeps _ _ _ d, (λ h. absurd (done-not _ _ _ d h))),
-    )
+    let if1 = c .before .before .before in
+    let any = if1 .before .before .args .any in
+    rw (c .done .ensures, c .before .waiting .ensures)
+    ((λ v ts. when-some-over any v _ _ _ _ _ _ ts _ (if1 .before .unmarked .ensures .0 (turning any v) _ _ _ ts) (if1 .if1 .taken) (c .before .before .if2 .taken)), (over refl refl, none))
 
 returns-2 : tie.Need-returns-2
 returns-2 c =
-    let turned = c .before in
-    let if1 = turned .before .before in
-    let from = if1 .before .unmarked .ensures .0 in
-    let args = if1 .before .before .args in
-    let d = c .done2 .ensures in (
-      (λ v ts. rw (d, turned .turned .ensures)
-          (when-all-over (args .any) v _ _ _ _ _ _ ts _ (from (turning (args .any) v) _ _ _ ts) (if1 .if1 .taken) (turned .before .if2 .left))),
-      (done-keeps _ _ _ d, (λ h. absurd (done-not _ _ _ d h))),
-    )
+    let if1 = c .before .before .before in
+    let any = if1 .before .before .args .any in
+    rw (c .done2 .ensures, c .before .turned .ensures)
+    ((λ v ts. when-all-over any v _ _ _ _ _ _ ts _ (if1 .before .unmarked .ensures .0 (turning any v) _ _ _ ts) (if1 .if1 .taken) (c .before .before .if2 .left)), (over refl refl, none))
 
 returns-3 : tie.Need-returns-3
 returns-3 c =

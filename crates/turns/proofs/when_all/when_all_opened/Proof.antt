@@ -1,22 +1,18 @@
 -- No child at all, or from the first on.
 use borrow.Author.Needs.{needs}
+use mathlib.Core.Path.{refl}
 use lib.Ieee.{ofBits}
-use Rattle.turns.proofs.TurnLaws.{done-not, done-keeps}
+use Rattle.turns.proofs.TurnLaws.{none, over}
 use Rattle.turns.proofs.WhenAllLaws.{when-empty, when-start}
 use Rattle.turns.proofs.when_all.when_all_opened.Statement.{statement}
 use Rattle.turns.proofs.when_all.when_all_opened.Tie as tie
 
 returns : tie.Need-returns
 returns c =
-    let passed = c .before in
-    let turned = passed .before in
+    let turned = c .before .before in
     let if1 = turned .before in
-    let end-of = if1 .before in
-    let d = c .done .ensures in (
-      (λ v ts. rw (d, turned .turned .ensures, passed .passed .ensures)
-          (when-empty _ _ _ _ _ _ ts _ (end-of .end-of .ensures .0) (if1 .if1 .taken))),
-      (done-keeps _ _ _ d, (λ h. absurd (done-not _ _ _ d h))),
-    )
+    rw (c .done .ensures, turned .turned .ensures, c .before .passed .ensures)
+    ((λ v ts. when-empty _ _ _ _ _ _ ts _ (if1 .before .end-of .ensures .0) (if1 .if1 .taken)), (over refl refl, none))
 
 returns-2 : tie.Need-returns-2
 unfolding ofBits

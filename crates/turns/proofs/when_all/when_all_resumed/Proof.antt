@@ -1,43 +1,32 @@
 -- Each arm of the match.
 use borrow.Author.Needs.{needs}
 use mathlib.Core.Path.{_≡_, refl, sym, _∙_}
-use Rattle.turns.proofs.TurnLaws.{done-not, done-keeps}
-use Rattle.turns.proofs.WhenAllLaws.{when-stops, when-fails, when-runs, when-succeeds, when-fuel}
+use Rattle.turns.proofs.TurnLaws.{none, over}
+use Rattle.turns.proofs.WhenAllLaws.{when-ended, when-runs, when-succeeds, when-fuel}
 use Rattle.turns.proofs.when_all.when_all_resumed.Statement.{statement}
 use Rattle.turns.proofs.when_all.when_all_resumed.Tie as tie
 
 returns : tie.Need-returns
 returns c =
-    let told = c .before in
-    let turned = told .before .before in
+    let turned = c .before .before in
     let a = turned .before .before .args in
-    let d = c .done .ensures in (
-      (λ v. rw d (when-stops (a .any) v (a .level) (a .result) (a .work .now) (a .times .now) (sym (turned .turned .ensures) ∙ told .enum-told .given .1))),
-      (done-keeps _ _ _ d, ((λ h. absurd (done-not _ _ _ d h)), refl)),
+    rw (c .done .ensures) (
+      (λ v. when-ended (a .any) v (a .level) (a .result) (a .work .now) (a .times .now) _ (sym (turned .turned .ensures)) (c .before .match .keys1)),
+      (over refl refl, (none, refl)),
     )
 
 returns-2 : tie.Need-returns-2
 returns-2 c =
-    let told = c .before in
-    let turned = told .before .before in
-    let a = turned .before .before .args in
-    let d = c .done2 .ensures in (
-      (λ v. rw d (when-fails (a .any) v (a .level) (a .result) (a .work .now) (a .times .now) (sym (turned .turned .ensures) ∙ told .enum-told2 .given .1))),
-      (done-keeps _ _ _ d, ((λ h. absurd (done-not _ _ _ d h)), refl)),
-    )
-
-returns-3 : tie.Need-returns-3
-returns-3 c =
     let told = c .before .before in
     let turned = told .before .before in
     let a = turned .before .before .args in
     let next = c .when-all-next .ensures in (
-      (λ v. when-runs (a .any) v (a .level) (a .result) (a .work .now) (a .times .now) (sym (turned .turned .ensures) ∙ told .enum-told3 .given .1) _ (next .0 v _)),
+      (λ v. when-runs (a .any) v (a .level) (a .result) (a .work .now) (a .times .now) (sym (turned .turned .ensures) ∙ told .enum-told .given .1) _ (next .0 v _)),
       (next .1 .0, (next .1 .1, refl)),
     )
 
-returns-4 : tie.Need-returns-4
-returns-4 c =
+returns-3 : tie.Need-returns-3
+returns-3 c =
     let smaller = c .before in
     let mark = smaller .before .before in
     let fresh = mark .before .before .before .before in
@@ -46,7 +35,7 @@ returns-4 c =
     let a = turned .before .before .args in
     let start = turned .before .before in
     let next = c .when-all-next2 .ensures in (
-      (λ v. when-succeeds (a .any) v (a .level) (a .result) (a .work .now) (a .times .now) (sym (turned .turned .ensures) ∙ told .enum-told4 .given .1) _ _ _ _ _
+      (λ v. when-succeeds (a .any) v (a .level) (a .result) (a .work .now) (a .times .now) (sym (turned .turned .ensures) ∙ told .enum-told2 .given .1) _ _ _ _ _
           (fresh .fresh .ensures .0) (mark .put-mark .ensures) (fresh .fresh .ensures .1) (smaller .smaller .ensures) (next .0 v _)),
       (
         next .1 .0,
@@ -61,6 +50,5 @@ pub when-all-resumed-spec : {M : Type 1} → statement M
 when-all-resumed-spec =
     tie.close
     (tie.spec
-    (λ c κs. search needs) (λ c. search needs) (λ c κs. search needs) (λ c. search needs) (λ c κs. search needs) (λ c. search needs)
-    (λ c κs. search needs) (λ c. search needs) (λ c κs. search needs) (λ c κs. search needs) (λ c κs. search needs) (λ c κs. search needs) returns
-    returns-2 returns-3 (λ c. search needs) returns-4)
+    (λ c κs. search needs) (λ c κs. search needs) (λ c. search needs) (λ c κs. search needs) (λ c. search needs) (λ c κs. search needs)
+    (λ c κs. search needs) (λ c κs. search needs) (λ c κs. search needs) returns returns-2 (λ c. search needs) returns-3)
