@@ -1,7 +1,7 @@
 -- A call's line: four fields, its answers, and the line's end.
 use mathlib.Core.Path.{_≡_, refl, sym, ap, subst, _∙_}
 use mathlib.Core.List.{List, [], _∷_, _++_, append-nil}
-use Prim.Native.Nat.{ℕ, _^_, _≤_, _<_}
+use Prim.Native.Nat.{ℕ, _≤_, _<_}
 use native.Mathlib.Omega.{arith}
 use lib.ListN.{drop}
 use Rattle.frames.specs.Line.{Field, Fit, Good, askedNo, fields, body, answers, eventNo, eventTime}
@@ -79,15 +79,13 @@ module _ (call : Call) (s : List ℕ) (at : ℕ) (a b d k : Part) (chain : Chain
               statuses = omega (arith, r .2);
               leftovers = omega (arith, r .3);
               fit = (
-                subst (λ (n : ℕ). n < 16 ^ 2) (sym (ev .0)) (chain .0 .small),
+                rw (ev .0) (chain .0 .small),
                 (
-                  subst (λ (n : ℕ). n < 16 ^ 16) (sym (ev .1)) (chain .1 .0 .small),
+                  rw (ev .1) (chain .1 .0 .small),
                   (chain .1 .1 .0 .small, (chain .1 .1 .1 .0 .small, r .4)),
                 ),
               );
             },
-            ap (λ (n : ℕ). fields ((2, n) ∷ (16, eventTime e) ∷ (8, d .value) ∷ (4, k .value) ∷ answers (k .value) 0 xs ys)) (ev .0)
-                ∙ ap (λ (t : ℕ). fields ((2, a .value) ∷ (16, t) ∷ (8, d .value) ∷ (4, k .value) ∷ answers (k .value) 0 xs ys)) (ev .1)
-                ∙ sym p,
+            rw (ev .0, ev .1) (sym p),
           ),
         )

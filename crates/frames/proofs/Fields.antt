@@ -35,10 +35,9 @@ field-found s at w r h b n =
       whole = λ v t l e. n .whole v t l (cons-at s at 32 (digits w v ++ t) e .2);
     }
 
-pub no-space : (s : List ℕ) (at w past : ℕ) → past ≡ length s + 1 → (at < length s → getD s at 0 ≡ 32 → ⊥)
-    → FieldAt s at w (record { value = 0; next = past })
-no-space s at w past e k =
-    none-there (λ v. 32 ∷ digits w v) s at w past e (λ v t p. let q = cons-at s at 32 (digits w v ++ t) p in k (q .0) (q .1))
+pub no-space : (s : List ℕ) (at w : ℕ) → (at < length s → getD s at 0 ≡ 32 → ⊥) → FieldAt s at w (record { value = 0; next = length s + 1 })
+no-space s at w k =
+    none-there (λ v. 32 ∷ digits w v) s at w (λ v t p. let q = cons-at s at 32 (digits w v ++ t) p in k (q .0) (q .1))
 
 -- the line's end
 pub end-here : (s : List ℕ) (at : ℕ) → at < length s → getD s at 0 ≡ 10 → length s - at ≡ 1 → drop at s ≡ fields []

@@ -20,8 +20,8 @@ use Rattle.frames.specs.declared.hex.Part.{Part}
 use Rattle.frames.specs.declared.reader.Found.{Found}
 use Rattle.frames.proofs.Bodies.{fields-some}
 
-pub by-kind : (l : List ℕ) (p : Part) (k : ℕ) (r : Found) → Number l 0 2 p → p .value ≡ k → Body k (drop (p .next) l) r → Whole l r
-by-kind l p k (Found.Is f) n e b =
+pub by-kind : {l : List ℕ} {p : Part} {k : ℕ} (r : Found) → Number l 0 2 p → p .value ≡ k → Body k (drop (p .next) l) r → Whole l r
+by-kind {l} {p} (Found.Is f) n e b =
     let xs = b .1 .0 in
     let ys = b .1 .1 in
     let q = b .1 .3 in (
@@ -32,7 +32,7 @@ by-kind l p k (Found.Is f) n e b =
           ∙ ap (λ (j : ℕ). digits 2 j ++ drop (p .next) l) (b .0 ∙ sym e)
           ∙ sym (n .sound (omega (arith, fields-some (body f xs ys), simp length-drop at (ap length q)))),
     )
-by-kind l p k Found.Not n e b = λ f xs ys g q.
+by-kind Found.Not n e b = λ f xs ys g q.
     let r = n .whole (kindOf f) (fields (body f xs ys)) (kind-small f) (sym q) in
     b f xs ys (sym (r .0) ∙ e) g (sym (r .1))
 
@@ -46,9 +46,9 @@ other v a b c d e g (Said Tick num status time visits used extra) q = d q
 other v a b c d e g (Said Restart num status time visits used extra) q = e q
 other v a b c d e g (Malformed number) q = g q
 
-pub no-kind : (l : List ℕ) (p : Part) → Number l 0 2 p → (p .value ≡ 0x01 → ⊥) → (p .value ≡ 0x02 → ⊥) → (p .value ≡ 0x03 → ⊥)
+pub no-kind : {l : List ℕ} {p : Part} → Number l 0 2 p → (p .value ≡ 0x01 → ⊥) → (p .value ≡ 0x02 → ⊥) → (p .value ≡ 0x03 → ⊥)
     → (p .value ≡ 0x82 → ⊥) → (p .value ≡ 0x83 → ⊥) → (p .value ≡ 0x8f → ⊥) → Whole l Found.Not
-no-kind l p n a b c d e g = λ f xs ys h q.
+no-kind {p = p} n a b c d e g = λ f xs ys h q.
     other (p .value) a b c d e g f (n .whole (kindOf f) (fields (body f xs ys)) (kind-small f) (sym q) .0)
 
 drop-field : (w v : ℕ) (t : List ℕ) → drop (suc w) ((32 ∷ digits w v) ++ t) ≡ t

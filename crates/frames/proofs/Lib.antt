@@ -4,5 +4,4 @@ pub mod Fields
 pub mod Heads
 pub mod Nans
 pub mod Numbers
-pub mod Orders
 pub mod Runs

@@ -2,7 +2,7 @@
 use mathlib.Core.Path.{_≡_, refl, sym, ap, subst, _∙_}
 use mathlib.Core.Bool.{Bool, true, false, not}
 use mathlib.Core.List.{List, [], _∷_}
-use Prim.Native.Nat.{ℕ, zero, suc, _+_, _%_, _≤_, _<_}
+use Prim.Native.Nat.{ℕ, zero, suc, _+_, _%_, _≤_, _<_, min}
 use native.Mathlib.Numerals.{add-one}
 use native.Mathlib.Omega.{arith}
 use borrow.Author.Tests.{lt-ltb, le-ltb}
@@ -59,23 +59,12 @@ pub timed-more : (i : ℕ) (bs : List ℕ) (ts : List Float) → i < length bs �
 timed-more i bs ts h k = timed-suc i bs ts h k ∙ ap (λ (j : ℕ). timed j bs ts) (sym (add-one i))
 
 -- more of them change nothing where one of the two is at its end
-pub timed-end-bits : (i n : ℕ) (bs : List ℕ) (ts : List Float) → i ≤ n → length bs ≤ i → timed i bs ts ≡ timed n bs ts
-timed-end-bits zero zero bs ts h k = refl
-timed-end-bits zero (suc n) [] ts h k = refl
-timed-end-bits zero (suc n) (b ∷ bs) ts h k = absurd (omega arith)
-timed-end-bits (suc i) zero bs ts h k = absurd (omega arith)
-timed-end-bits (suc i) (suc n) [] ts h k = refl
-timed-end-bits (suc i) (suc n) (b ∷ bs) [] h k = refl
-timed-end-bits (suc i) (suc n) (b ∷ bs) (t ∷ ts) h k =
-    ap (λ (l : List Float). ofBits binary64 b ∷ l) (timed-end-bits i n bs ts (omega arith) (omega arith))
-
-pub timed-end-times : (i n : ℕ) (bs : List ℕ) (ts : List Float) → i ≤ n → length ts ≤ i → timed i bs ts ≡ timed n bs ts
-timed-end-times zero zero bs ts h k = refl
-timed-end-times zero (suc n) [] ts h k = refl
-timed-end-times zero (suc n) (b ∷ bs) [] h k = refl
-timed-end-times zero (suc n) (b ∷ bs) (t ∷ ts) h k = absurd (omega arith)
-timed-end-times (suc i) zero bs ts h k = absurd (omega arith)
-timed-end-times (suc i) (suc n) [] ts h k = refl
-timed-end-times (suc i) (suc n) (b ∷ bs) [] h k = refl
-timed-end-times (suc i) (suc n) (b ∷ bs) (t ∷ ts) h k =
-    ap (λ (l : List Float). ofBits binary64 b ∷ l) (timed-end-times i n bs ts (omega arith) (omega arith))
+pub timed-end : (i n : ℕ) (bs : List ℕ) (ts : List Float) → i ≡ min n (min (length bs) (length ts)) → timed i bs ts ≡ timed n bs ts
+timed-end zero zero bs ts e = refl
+timed-end zero (suc n) [] ts e = refl
+timed-end zero (suc n) (b ∷ bs) [] e = refl
+timed-end zero (suc n) (b ∷ bs) (t ∷ ts) e = absurd (omega arith)
+timed-end (suc i) zero bs ts e = absurd (omega arith)
+timed-end (suc i) (suc n) [] ts e = refl
+timed-end (suc i) (suc n) (b ∷ bs) [] e = refl
+timed-end (suc i) (suc n) (b ∷ bs) (t ∷ ts) e = ap (λ (l : List Float). ofBits binary64 b ∷ l) (timed-end i n bs ts (omega arith))

@@ -12,24 +12,25 @@ use Rattle.frames.specs.Parts.{Nibble, Stands, Number}
 use Rattle.frames.specs.Digits.{cut, length-digits, digits-more, digits-one, digits-at, small-more}
 
 -- none stands there
-pub none-there : (bytes : ℕ → List ℕ) (s : List ℕ) (at w past : ℕ) → past ≡ length s + 1
-    → ((v : ℕ) (t : List ℕ) → drop at s ≡ bytes v ++ t → ⊥) → Stands bytes s at w (record { value = 0; next = past })
-none-there bytes s at w past e no-bytes =
+pub none-there : (bytes : ℕ → List ℕ) (s : List ℕ) (at w : ℕ) → ((v : ℕ) (t : List ℕ) → drop at s ≡ bytes v ++ t → ⊥)
+    → Stands bytes s at w (record { value = 0; next = length s + 1 })
+none-there bytes s at w no-bytes =
     record { small = one-le-pow w 16 (zero-lt-suc 15); sound = λ h. absurd (omega arith); whole = λ v t _ q. absurd (no-bytes v t q) }
 
 -- too few bytes are left
-pub too-short : (s : List ℕ) (at w v : ℕ) (t : List ℕ) → length s < at + w → 0 < w → drop at s ≡ digits w v ++ t → ⊥
-too-short s at w v t h k e =
-    omega (arith, simp (length-drop, length-append, length-digits) at (ap length e))
+pub too-short : (s : List ℕ) (at w : ℕ) → length s < at + w → 0 < w → Number s at w (record { value = 0; next = length s + 1 })
+too-short s at w h k =
+    none-there (digits w) s at w (λ v t e. omega (arith, simp (length-drop, length-append, length-digits) at (ap length e)))
 
 -- a byte there is no digit
-pub no-digit : (s : List ℕ) (at w i n v : ℕ) (t : List ℕ) → i < w → Nibble (getD s (at + i) 0) n → 15 < n → drop at s ≡ digits w v ++ t → ⊥
-no-digit s at w i n v t h nib k e =
+pub no-digit : (s : List ℕ) (at w i n : ℕ) → i < w → Nibble (getD s (at + i) 0) n → 15 < n → Number s at w (record { value = 0; next = length s + 1 })
+no-digit s at w i n h nib k =
+    none-there (digits w) s at w (λ v t e.
     let d = digits-at w v i h in
     let q : getD s (at + i) 0 ≡ digit (d .0) =
     sym (getD-drop at s i 0) ∙ ap (λ (l : List ℕ). getD l i 0) e
     ∙ List·getD-append (digits w v) t 0 i (rw (length-digits w v) h) ∙ d .2 in
-    omega (arith, nib .whole (d .0) (d .1) q, d .1)
+    omega (arith, nib .whole (d .0) (d .1) q, d .1))
 
 -- one digit more was read
 pub one-more : (s : List ℕ) (at i v n : ℕ) → at + i < length s → Nibble (getD s (at + i) 0) n → n ≤ 15

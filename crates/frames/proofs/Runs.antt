@@ -3,7 +3,7 @@ use mathlib.Core.Path.{_≡_, refl, sym, ap, _∙_}
 use mathlib.Core.List.{List, [], _∷_, _++_, append-assoc, append-nil}
 use Prim.Native.Nat.{ℕ, _+_, _<_}
 use native.Mathlib.Omega.{arith}
-use lib.ListN.{length, getD, drop, set, length-append, List·getD-append}
+use lib.ListN.{length, drop, set, length-append, List·getD-append}
 use lib.Seq.{getD-at, getD-set-same, getD-set-other, drop-set-lt, drop-drop}
 use Rattle.frames.specs.Line.{Field, Fit, fields, answers}
 use Rattle.frames.specs.Parts.{FieldAt, Skips, Filled}
@@ -33,8 +33,7 @@ skips-more l from i at s t h fs ft =
           answers-more i xs′ ys′
           ∙ ap (λ (fs : List Field). fs ++ pair i xs′ ys′)
           (answers-agree i xs′ ys′ xs ys (append-agree i (s .value) xs (r .2)) (append-agree i (t .value) ys (r .3)))
-          ∙ ap (λ (a : ℕ). answers i 0 xs ys ++ ((2, a) ∷ (16, getD ys′ i 0) ∷ [])) (getD-at xs (s .value) [] 0 i (r .2))
-          ∙ ap (λ (b : ℕ). answers i 0 xs ys ++ ((2, s .value) ∷ (16, b) ∷ [])) (getD-at ys (t .value) [] 0 i (r .3)) in (
+          ∙ rw (getD-at xs (s .value) [] 0 i (r .2), getD-at ys (t .value) [] 0 i (r .3)) in (
             xs′,
             ys′,
             length-append xs (s .value ∷ []) ∙ ap (λ (k : ℕ). k + 1) (r .2),
@@ -79,10 +78,7 @@ take-more l i at ss ss′ ls ls′ s t hs hl h fs ft =
           let g : Fit (answers i 0 xs ys ++ pair i xs ys) = rw (answers-more i xs ys) at f in
           let d = h .whole xs ys (pair i xs ys ++ more) (fit-left (answers i 0 xs ys) (pair i xs ys) g) (e ∙ ap fields (answers-more-then i xs ys more)) in
           let r = chain-on l at (t .next) ((2, s) ∷ (16, t) ∷ []) (pair i xs ys) more (fs, (ft, refl)) (fit-right (answers i 0 xs ys) (pair i xs ys) g) (d .0) in
-          let p : pair i a b ≡ pair i xs ys =
-          ap (λ (x : ℕ). (2, x) ∷ (16, getD b i 0) ∷ []) (getD-set-same ss′ i (s .value) 0 hs)
-          ∙ ap (λ (x : ℕ). (2, s .value) ∷ (16, x) ∷ []) (getD-set-same ls′ i (t .value) 0 hl)
-          ∙ r .0 in (
+          let p : pair i a b ≡ pair i xs ys = rw (getD-set-same ss′ i (s .value) 0 hs, getD-set-same ls′ i (t .value) 0 hl) (r .0) in (
             r .1,
             answers-more i a b
                 ∙ ap (λ (fs : List Field). fs ++ pair i a b)

@@ -5,7 +5,7 @@ use mathlib.Core.List.{List, [], _∷_, _++_}
 use Prim.Native.Nat.{ℕ, suc, _+_, _*_, _^_, _≤_, _<_}
 use lib.ListN.{length, take, drop}
 use Rattle.frames.specs.Hex.{digit, digits}
-use Rattle.frames.specs.Line.{Field, Fit, Good, fields, kindOf, body, line, answers, eventNo, eventTime}
+use Rattle.frames.specs.Line.{Field, Fit, Good, fields, kindOf, front, body, line, answers, eventNo, eventTime}
 use Rattle.frames.specs.declared.Event.{Event}
 use Rattle.frames.specs.declared.Frame.{Frame}
 use Rattle.frames.specs.declared.Frame.the-variants.{Node, Asked, Said, Malformed}
@@ -86,6 +86,20 @@ span (f ∷ fs) = suc (f .0) + span fs
 pub record Puts (d : List ℕ) (at : ℕ) (fs : List Field) (d′ : List ℕ) (next : ℕ) : Type 0 where
   pub bytes : d′ ≡ over d at (spread fs)
   pub place : next ≡ at + span fs
+
+-- widths and numbers, one of each to a field
+abbrev pub sized : List ℕ → List ℕ → List Field
+sized [] vs = []
+sized (w ∷ ws) [] = []
+sized (w ∷ ws) (v ∷ vs) = (w, v) ∷ sized ws vs
+
+-- a kind's number and the first n widths and numbers are what stands in front of a frame's answers
+pub record Fronts (f : Frame) (k n : ℕ) (ws vs : List ℕ) : Type 0 where
+  pub kind : k ≡ kindOf f
+  pub widths : n ≤ length ws
+  pub values : n ≤ length vs
+  pub fields : sized (take n ws) vs ≡ front f
+  pub fit : Fit (front f)
 
 -- how many bytes a frame's line has
 abbrev pub sizeOf : Frame → ℕ

@@ -34,28 +34,22 @@ pub fn number(line: &[u8], at: usize, width: usize) -> Part
     requires { ⌜ width ≤ 16 ⌝ }
     ensures { λ r. ⌜ Number (now (line .entry)) at width r ⌝ }
 {
-    let past = line.len() + 1;
+    let none = Part {
+        value: 0,
+        next: line.len() + 1,
+    };
     if line.len() < at {
-        return Part {
-            value: 0,
-            next: past,
-        };
+        return none;
     }
     if line.len() - at < width {
-        return Part {
-            value: 0,
-            next: past,
-        };
+        return none;
     }
     let mut value: u64 = 0;
     let mut i = 0;
     while i < width {
         let d = nibble(line[at + i]);
         if d > 15 {
-            return Part {
-                value: 0,
-                next: past,
-            };
+            return none;
         }
         value = value * 16 + d;
         i += 1;
@@ -72,18 +66,15 @@ pub fn field(line: &[u8], at: usize, width: usize) -> Part
     requires { ⌜ width ≤ 16 ⌝ }
     ensures { λ r. ⌜ FieldAt (now (line .entry)) at width r ⌝ }
 {
-    let past = line.len() + 1;
+    let none = Part {
+        value: 0,
+        next: line.len() + 1,
+    };
     if line.len() <= at {
-        return Part {
-            value: 0,
-            next: past,
-        };
+        return none;
     }
     if line[at] != 32 {
-        return Part {
-            value: 0,
-            next: past,
-        };
+        return none;
     }
     number(line, at + 1, width)
 }

@@ -1,5 +1,8 @@
 // The bench program's frames, each a line of lower-case hexadecimal fields, read from lent bytes.
 // A time is a bit pattern throughout, so that a line that is read and written again comes out as it was.
+ghost use mathlib.Core.Path.{_≡_};
+ghost use Prim.Native.Nat.{min};
+
 mod hex;
 mod order;
 mod patterns;
@@ -68,4 +71,11 @@ pub enum Written {
     Bytes(usize),
     NoFrame,
     TooShort,
+}
+
+// The smaller of two lengths.
+pub fn least(a: usize, b: usize) -> usize
+    ensures { λ r. ⌜ r ≡ min a b ⌝ }
+{
+    if a < b { a } else { b }
 }

@@ -58,15 +58,7 @@ fn frame_admitted(nodes: usize, begun: bool, frame: Frame) -> Input
             fuel,
             count,
         },
-        Frame::Said {
-            call: _,
-            no: _,
-            status: _,
-            time: _,
-            visits: _,
-            used: _,
-            extra: _,
-        } => Input::Malformed,
-        Frame::Malformed { line: _ } => Input::Malformed,
+        Frame::Said { .. } => Input::Malformed,
+        Frame::Malformed { .. } => Input::Malformed,
     }
 }

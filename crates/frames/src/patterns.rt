@@ -2,6 +2,7 @@
 ghost use mathlib.Core.Path.{_≡_};
 ghost use lib.Ieee.{binary64, ofBits, toBits};
 ghost use Rattle.frames.specs.Times.{timed};
+use crate::least;
 
 // The time that a pattern is.
 pub fn time(bits: u64) -> f64
@@ -28,14 +29,9 @@ pub fn bits(time: f64) -> u64
 pub fn times(n: usize, patterns: &[u64], out: &mut [f64])
     ensures { λ _. ⌜ now (out .exit) ≡ timed n (now (patterns .entry)) (now (out .entry)) ⌝ }
 {
+    let end = least(n, least(patterns.len(), out.len()));
     let mut i = 0;
-    while i < n {
-        if patterns.len() <= i {
-            return;
-        }
-        if out.len() <= i {
-            return;
-        }
+    while i < end {
         out[i] = time(patterns[i]);
         i += 1;
     }

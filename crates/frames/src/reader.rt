@@ -11,6 +11,7 @@ use crate::MINUS_ZERO;
 use crate::Reading;
 use crate::hex::field;
 use crate::hex::number;
+use crate::least;
 
 // The frame whose line was read, without its answers.
 pub enum Found {
@@ -174,27 +175,10 @@ pub fn count(frame: Frame) -> usize
     ensures { λ r. ⌜ r ≡ answersOf frame ⌝ }
 {
     match frame {
-        Frame::Asked {
-            call: _,
-            event: _,
-            fuel: _,
-            count,
-        } => count as usize,
-        Frame::Node {
-            kind: _,
-            n: _,
-            limit: _,
-        } => 0,
-        Frame::Said {
-            call: _,
-            no: _,
-            status: _,
-            time: _,
-            visits: _,
-            used: _,
-            extra: _,
-        } => 0,
-        Frame::Malformed { line: _ } => 0,
+        Frame::Asked { count, .. } => count as usize,
+        Frame::Node { .. } => 0,
+        Frame::Said { .. } => 0,
+        Frame::Malformed { .. } => 0,
     }
 }
 
@@ -224,10 +208,7 @@ pub fn read(line: &[u8], statuses: &mut [u8], leftovers: &mut [u64]) -> Reading
         Found::Not => Reading::NoFrame,
         Found::Is(frame) => {
             let n = count(frame);
-            if statuses.len() < n {
-                return Reading::TooShort;
-            }
-            if leftovers.len() < n {
+            if least(statuses.len(), leftovers.len()) < n {
                 return Reading::TooShort;
             }
             fill(line, n, statuses, leftovers);

@@ -2,17 +2,18 @@
 ghost use mathlib.Core.Path.{_≡_};
 ghost use mathlib.Core.List.{[], _∷_};
 ghost use Prim.Native.Nat.{ℕ, _+_, _*_, _≤_, _<_};
-ghost use lib.ListN.{length};
+ghost use lib.ListN.{length, take};
 ghost use Rattle.frames.specs.Hex.{digit, digits};
 ghost use Rattle.frames.specs.Line.{Fit, Good, body, line, answersOf, askedNo, saidNo, eventNo, eventTime, laid, wrote};
 ghost use Rattle.frames.specs.Line.{answers as Line·answers};
-ghost use Rattle.frames.specs.Parts.{over, sizeOf, Puts};
+ghost use Rattle.frames.specs.Parts.{over, sized, sizeOf, span, Fronts, Puts};
 use frames::Call;
 use frames::Event;
 use frames::Frame;
 use frames::MINUS_ZERO;
 use frames::Written;
 use frames::count;
+use frames::least;
 
 // The byte of a digit.
 fn glyph(d: u64) -> u8
@@ -51,27 +52,10 @@ fn size(frame: Frame) -> usize
     ensures { λ r. ⌜ r ≡ sizeOf frame ⌝ }
 {
     match frame {
-        Frame::Node {
-            kind: _,
-            n: _,
-            limit: _,
-        } => 28,
-        Frame::Asked {
-            call: _,
-            event: _,
-            fuel: _,
-            count,
-        } => 37 + 20 * (count as usize),
-        Frame::Said {
-            call: _,
-            no: _,
-            status: _,
-            time: _,
-            visits: _,
-            used: _,
-            extra: _,
-        } => 45,
-        Frame::Malformed { line: _ } => 8,
+        Frame::Node { .. } => 28,
+        Frame::Asked { count, .. } => 37 + 20 * (count as usize),
+        Frame::Said { .. } => 45,
+        Frame::Malformed { .. } => 8,
     }
 }
 
@@ -117,41 +101,87 @@ fn wide(x: u8) -> u64
     x as u64
 }
 
-// Each kind's line, at the start of a room that has place for it.
-fn node(room: &mut [u8], kind: u8, n: u16, limit: u64)
-    requires { ⌜ 28 ≤ length (now room) ⌝ }
-    ensures { λ _. ⌜ now (room .exit) ≡ laid (line (Frame.Node kind n limit) [] []) (now (room .entry)) ⌝ }
-{
-    put_number(room, 0, 2, 0x01);
-    let a = put(room, 2, 2, kind as u64);
-    let b = put(room, a, 4, n as u64);
-    let end = put(room, b, 16, limit);
-    room[end] = 10;
+// What stands in front of a frame's answers: its kind's number, and count fields by their widths and numbers.
+struct Fields {
+    kind: u64,
+    count: usize,
+    widths: [usize; 6],
+    values: [u64; 6],
 }
 
-fn asked(
-    room: &mut [u8],
-    call: Call,
-    event: Event,
-    fuel: u32,
-    count: u16,
-    statuses: &[u8],
-    leftovers: &[u64],
-)
-    requires { ⌜ 37 + 20 * count ≤ length (now room) ⌝ }
-    requires { ⌜ count ≤ length (now statuses) ⌝ }
-    requires { ⌜ count ≤ length (now leftovers) ⌝ }
-    ensures { λ _. ⌜ now (room .exit) ≡ laid (line (Frame.Asked call event fuel count) (now (statuses .entry)) (now (leftovers .entry))) (now (room .entry)) ⌝ }
-    ensures { λ _. ⌜ Fit (body (Frame.Asked call event fuel count) (now (statuses .entry)) (now (leftovers .entry))) ⌝ }
+fn front(frame: Frame) -> Fields
+    ensures { λ r. ⌜ Fronts frame (r .kind) (r .count) (r .widths) (r .values) ⌝ }
 {
-    put_number(room, 0, 2, asked_no(call));
-    let a = put(room, 2, 2, event_no(event));
-    let b = put(room, a, 16, event_time(event));
-    let c = put(room, b, 8, fuel as u64);
-    let d = put(room, c, 4, count as u64);
-    let n = count as usize;
-    let end = answers(room, d, n, statuses, leftovers);
-    room[end] = 10;
+    match frame {
+        Frame::Node { kind, n, limit } => Fields {
+            kind: 0x01,
+            count: 3,
+            widths: [2, 4, 16, 0, 0, 0],
+            values: [kind as u64, n as u64, limit, 0, 0, 0],
+        },
+        Frame::Asked {
+            call,
+            event,
+            fuel,
+            count,
+        } => Fields {
+            kind: asked_no(call),
+            count: 4,
+            widths: [2, 16, 8, 4, 0, 0],
+            values: [
+                event_no(event),
+                event_time(event),
+                fuel as u64,
+                count as u64,
+                0,
+                0,
+            ],
+        },
+        Frame::Said {
+            call,
+            no,
+            status,
+            time,
+            visits,
+            used,
+            extra,
+        } => Fields {
+            kind: said_no(call),
+            count: 6,
+            widths: [2, 2, 16, 8, 4, 4],
+            values: [
+                no as u64,
+                status as u64,
+                time,
+                visits as u64,
+                used as u64,
+                extra as u64,
+            ],
+        },
+        Frame::Malformed { line } => Fields {
+            kind: 0x8f,
+            count: 1,
+            widths: [4, 0, 0, 0, 0, 0],
+            values: [line as u64, 0, 0, 0, 0, 0],
+        },
+    }
+}
+
+// Puts a kind's digits and its first count fields at the start of a room, and answers the next place.
+fn begin(room: &mut [u8], kind: u64, count: usize, widths: &[usize], values: &[u64]) -> usize
+    requires { ⌜ count ≤ length (now widths) ⌝ }
+    requires { ⌜ count ≤ length (now values) ⌝ }
+    requires { ⌜ 2 + span (sized (take count (now widths)) (now values)) ≤ length (now room) ⌝ }
+    ensures { λ r. ⌜ Puts (over (now (room .entry)) 0 (digits 2 kind)) 2 (sized (take count (now (widths .entry))) (now (values .entry))) (now (room .exit)) r ⌝ }
+{
+    put_number(room, 0, 2, kind);
+    let mut at = 2;
+    let mut i = 0;
+    while i < count {
+        at = put(room, at, widths[i], values[i]);
+        i += 1;
+    }
+    at
 }
 
 // Puts count answers at a place, and answers the next place.
@@ -171,38 +201,6 @@ fn answers(room: &mut [u8], from: usize, count: usize, statuses: &[u8], leftover
     at
 }
 
-fn said(
-    room: &mut [u8],
-    call: Call,
-    number: u8,
-    status: u8,
-    time: u64,
-    visits: u32,
-    used: u16,
-    extra: u16,
-)
-    requires { ⌜ 45 ≤ length (now room) ⌝ }
-    ensures { λ _. ⌜ now (room .exit) ≡ laid (line (Frame.Said call number status time visits used extra) [] []) (now (room .entry)) ⌝ }
-{
-    put_number(room, 0, 2, said_no(call));
-    let a = put(room, 2, 2, number as u64);
-    let b = put(room, a, 2, status as u64);
-    let c = put(room, b, 16, time);
-    let d = put(room, c, 8, visits as u64);
-    let e = put(room, d, 4, used as u64);
-    let end = put(room, e, 4, extra as u64);
-    room[end] = 10;
-}
-
-fn malformed(room: &mut [u8], number: u16)
-    requires { ⌜ 8 ≤ length (now room) ⌝ }
-    ensures { λ _. ⌜ now (room .exit) ≡ laid (line (Frame.Malformed number) [] []) (now (room .entry)) ⌝ }
-{
-    put_number(room, 0, 2, 0x8f);
-    let end = put(room, 2, 4, number as u64);
-    room[end] = 10;
-}
-
 // A frame's line, at the start of a room that has place for it.
 fn lay(frame: Frame, statuses: &[u8], leftovers: &[u64], room: &mut [u8])
     requires { ⌜ sizeOf frame ≤ length (now room) ⌝ }
@@ -211,25 +209,12 @@ fn lay(frame: Frame, statuses: &[u8], leftovers: &[u64], room: &mut [u8])
     ensures { λ _. ⌜ now (room .exit) ≡ laid (line frame (now (statuses .entry)) (now (leftovers .entry))) (now (room .entry)) ⌝ }
     ensures { λ _. ⌜ Fit (body frame (now (statuses .entry)) (now (leftovers .entry))) ⌝ }
 {
-    match frame {
-        Frame::Node { kind, n, limit } => node(room, kind, n, limit),
-        Frame::Asked {
-            call,
-            event,
-            fuel,
-            count,
-        } => asked(room, call, event, fuel, count, statuses, leftovers),
-        Frame::Said {
-            call,
-            no,
-            status,
-            time,
-            visits,
-            used,
-            extra,
-        } => said(room, call, no, status, time, visits, used, extra),
-        Frame::Malformed { line } => malformed(room, line),
-    }
+    let front = front(frame);
+    let widths = front.widths;
+    let values = front.values;
+    let from = begin(room, front.kind, front.count, &widths, &values);
+    let end = answers(room, from, count(frame), statuses, leftovers);
+    room[end] = 10;
 }
 
 // Writes a frame, with the answers in the two slices, at the start of a room. What is written is a frame's line.
@@ -238,13 +223,7 @@ pub fn write(frame: Frame, statuses: &[u8], leftovers: &[u64], room: &mut [u8]) 
     ensures { λ r. ⌜ ((n : ℕ) → r ≡ Written.Bytes n → Good frame (now (statuses .entry)) (now (leftovers .entry))) ⌝ }
 {
     let n = count(frame);
-    if n > 1024 {
-        return Written::NoFrame;
-    }
-    if statuses.len() < n {
-        return Written::NoFrame;
-    }
-    if leftovers.len() < n {
+    if least(1024, least(statuses.len(), leftovers.len())) < n {
         return Written::NoFrame;
     }
     let bytes = size(frame);

@@ -1,99 +1,84 @@
--- `lay` meets its contract, kind by kind.
-use mathlib.Core.Path.{_≡_, sym, ap, subst, _∙_}
+-- `lay` meets its contract: what stands in front, the answers and LF are put one after another.
+use mathlib.Core.Path.{_≡_, ap, _∙_}
 use mathlib.Core.List.{List}
-use Prim.Native.Nat.{ℕ, _≤_}
+use Prim.Native.Nat.{_+_}
 use native.Mathlib.Omega.{arith}
-use lib.ListN.{length}
-use Rattle.frames.specs.Line.{Fit, body, line, laid, answersOf}
-use Rattle.frames.specs.Parts.{sizeOf}
-use Rattle.frames.specs.declared.Frame.{Frame}
+use lib.ListN.{length-set}
+use Rattle.frames.specs.Answers.{fit-both}
+use Rattle.frames.specs.Lengths.{answers-span}
+use Rattle.frames.specs.Line.{Field, front}
+use Rattle.frames.specs.Parts.{span}
+use Rattle.writer.proofs.Puts.{puts-on, kind-room, line-put, line-room, answers-fit}
 use borrow.Author.Needs.{needs}
 use Rattle.writer.proofs.lay.Statement.{statement}
 use Rattle.writer.proofs.lay.Tie as tie
 
--- ---- what is known on the way, of a frame that is f
-abbrev start : tie.After-slice-known → tie.Start
-start c = c .before .before .before
+-- ---- what is known on the way, the last first
+abbrev begun : tie.After-count → tie.After-begin
+begun c = c .before .before .before .before
 
-module _ (c : tie.After-slice-known) (f : Frame) (e : start c .args .frame ≡ f) where
-  fits : sizeOf f ≤ length (start c .args .room .now)
-  fits = subst (λ (x : Frame). sizeOf x ≤ length (start c .args .room .now)) e (start c .pre .0)
+abbrev fronted : tie.After-values2 → tie.After-front
+fronted c = c .before .before .before .before .before
 
-  whole : (room : List ℕ)
-      → let a = start c .args in
-      room ≡ laid (line f (a .statuses .now) (a .leftovers .now)) (a .room .now)
-      → Fit (body f (a .statuses .now) (a .leftovers .now))
-      → (room ≡ laid (line (a .frame) (a .statuses .now) (a .leftovers .now)) (a .room .now))
-      × Fit (body (a .frame) (a .statuses .now) (a .leftovers .now))
-  whole room p q =
-      let a = start c .args in (
-        p ∙ ap (λ (x : Frame). laid (line x (a .statuses .now) (a .leftovers .now)) (a .room .now)) (sym e),
-        subst (λ (x : Frame). Fit (body x (a .statuses .now) (a .leftovers .now))) (sym e) q,
-      )
+abbrev start : tie.After-front → tie.Start
+start c = c .before .before .before .before
 
-node-requires : tie.Need-node-requires
-node-requires c κs = fits (c .before .before .before .before) _ (c .before .before .frame .given .1)
+begin-requires : tie.Need-begin-requires
+begin-requires c κs =
+    let r = fronted c .front .ensures in
+    let s = start (fronted c) in
+    (r .widths, (r .values, rw (r .fields) (omega (arith, line-room (s .args .frame), s .pre .0))))
 
-asked-requires : tie.Need-asked-requires
-asked-requires c κs =
-    let s = start (c .before .before .before .before) in
-    let e = c .before .before .frame2 .given .1 in (
-      fits (c .before .before .before .before) _ e,
-      (
-        subst (λ (f : Frame). answersOf f ≤ length (s .args .statuses .now)) e (s .pre .1 .0),
-        subst (λ (f : Frame). answersOf f ≤ length (s .args .leftovers .now)) e (s .pre .1 .1),
-      ),
+-- where the answers begin
+placed : (c : tie.After-count) → begun c .begin .result ≡ 2 + span (front (start (fronted (begun c .before)) .args .frame))
+placed c = begun c .begin .ensures .place ∙ ap (λ (fs : List Field). 2 + span fs) (fronted (begun c .before) .front .ensures .fields)
+
+answers-requires : tie.Need-answers-requires
+answers-requires c κs =
+    let s = start (fronted (begun c .before)) in
+    (omega (arith, placed c, line-room (s .args .frame), s .pre .0), (omega (arith, s .pre .1 .0), omega (arith, s .pre .1 .1)))
+
+room-left : tie.Need-slice-write-room
+room-left c =
+    let d = c .before .before in
+    let s = start (fronted (begun (d .before) .before)) in
+    let a = s .args in
+    let n = d .before .count .result in
+    omega (
+      arith,
+      d .answers .ensures .place,
+      answers-span n 0 (a .statuses .now) (a .leftovers .now),
+      placed (d .before),
+      line-room (a .frame),
+      s .pre .0,
     )
-
-said-requires : tie.Need-said-requires
-said-requires c κs = fits (c .before .before .before .before) _ (c .before .before .frame3 .given .1)
-
-malformed-requires : tie.Need-malformed-requires
-malformed-requires c κs = fits (c .before .before .before .before) _ (c .before .before .frame4 .given .1)
 
 returns : tie.Need-returns
 returns c =
-    let told = c .before .before .before .before in
-    let k = told .known-told .given in
-    whole (told .before .before .before) _ (told .before .frame .given .1) _ (c .before .before .node .ensures)
-    (omega (arith, k), (omega (arith, k), (omega (arith, k), tt)))
-
-returns-2 : tie.Need-returns-2
-returns-2 c =
-    let told = c .before .before .before .before in
-    let t = c .before .before .asked .ensures in
-    whole (told .before .before .before) _ (told .before .frame2 .given .1) _ (t .0) (t .1)
-
-returns-3 : tie.Need-returns-3
-returns-3 c =
-    let told = c .before .before .before .before in
-    let k = told .known-told3 .given in
-    whole (told .before .before .before) _ (told .before .frame3 .given .1) _ (c .before .before .said .ensures)
-    (omega (arith, k), (omega (arith, k), (omega (arith, k), (omega (arith, k), (omega (arith, k), (omega (arith, k), tt))))))
-
-returns-4 : tie.Need-returns-4
-returns-4 c =
-    let told = c .before .before .before .before in
-    whole (told .before .before .before) _ (told .before .frame4 .given .1) _ (c .before .before .malformed .ensures)
-    (omega (arith, told .known-told4 .given), tt)
+    let d = c .before .before in
+    let b = begun (d .before) in
+    let r = fronted (b .before) .front in
+    let s = start (fronted (b .before)) in
+    let a = s .args in
+    let known = fronted (b .before) .before .before in
+    let n = d .before .count in
+    let put = puts-on (kind-room (a .room .now) (r .result .kind) (omega (arith, line-room (a .frame), s .pre .0))) (b .begin .ensures) (d .answers .ensures) in
+    rw (← n .ensures) (
+      rw (← r .ensures .kind, ← r .ensures .fields) (line-put _ _ put (room-left c)),
+      fit-both (front (a .frame)) _ (r .ensures .fit)
+          (answers-fit (n .result) 0 (a .statuses .now) (a .leftovers .now)
+          (λ j. omega (arith, known .before .shared-slice-known .given j))
+          (λ j. omega (arith, known .shared-slice-known2 .given j))),
+    )
 
 pub lay-spec : {M : Type 1} → statement M
 lay-spec =
     tie.close
     (tie.spec
-    (λ c. search needs)
-    node-requires
-    (λ c. search needs)
-    asked-requires
-    (λ c. search needs)
-    said-requires
-    (λ c. search needs)
-    malformed-requires
-    (λ c. search needs)
-    returns
-    (λ c. search needs)
-    returns-2
-    (λ c. search needs)
-    returns-3
-    (λ c. search needs)
-    returns-4)
+    (λ c κs. search needs) (λ c. search needs) (λ c. search needs)
+    begin-requires
+    (λ c κs. search needs)
+    answers-requires
+    room-left
+    (λ c. simp length-set (search needs))
+    returns)

@@ -16,33 +16,6 @@ Inv-loop line count statuses₀ leftovers₀ at₀ i₀ statuses leftovers at i 
 abbrev μ-loop : tie.MeasureT-loop
 μ-loop line count statuses₀ leftovers₀ at₀ i₀ statuses leftovers at i = count - i
 
-loop-holds : tie.Need-loop-holds Inv-loop μ-loop
-loop-holds c = (omega arith, refl, refl, none-taken _ _ _)
-
-field-requires : tie.Need-field-requires Inv-loop μ-loop
-field-requires c κs = search needs
-
-field-requires-2 : tie.Need-field-requires-2 Inv-loop μ-loop
-field-requires-2 c κs = search needs
-
-cast-statuses : tie.Need-cast-statuses Inv-loop μ-loop
-cast-statuses c = omega (arith, c .before .before .field .ensures .small)
-
-slice-write-statuses : tie.Need-slice-write-statuses Inv-loop μ-loop
-slice-write-statuses c = omega arith
-
-mul-leftovers : tie.Need-mul-leftovers Inv-loop μ-loop
-mul-leftovers c = omega arith
-
-slice-write-leftovers : tie.Need-slice-write-leftovers Inv-loop μ-loop
-slice-write-leftovers c = omega arith
-
-add-i : tie.Need-add-i Inv-loop μ-loop
-add-i c = omega arith
-
-loop-less : tie.Need-loop-less Inv-loop μ-loop
-loop-less c = omega arith
-
 loop-again : tie.Need-loop-again Inv-loop μ-loop
 loop-again c = let l = c .before .before .before .before .loop in (
   omega arith,
@@ -51,12 +24,6 @@ loop-again c = let l = c .before .before .before .before .loop in (
   take-more _ (l .i) (l .at) _ (l .statuses) _ (l .leftovers) (c .before .before .field .result) (c .before .field2 .result) (omega arith) (omega arith) (l .inv .3)
       (c .before .before .field .ensures) (c .before .field2 .ensures),
 )
-
-same-length : tie.Need-same-length Inv-loop μ-loop
-same-length c = c .before .loop .inv .1
-
-same-length-2 : tie.Need-same-length-2 Inv-loop μ-loop
-same-length-2 c = c .before .loop .inv .2
 
 returns : tie.Need-returns Inv-loop μ-loop
 returns c = let l = c .before .loop in
@@ -68,16 +35,9 @@ fill-spec =
     (tie.spec
     Inv-loop
     μ-loop
-    loop-holds
-    field-requires
-    field-requires-2
-    cast-statuses
-    slice-write-statuses
-    mul-leftovers
-    slice-write-leftovers
-    add-i
-    loop-less
+    (λ c. (omega arith, refl, refl, none-taken _ _ _))
+    (λ c κs. search needs) (λ c κs. search needs) (λ c. omega (arith, c .before .before .field .ensures .small))
+    (λ c. omega arith) (λ c. omega arith) (λ c. omega arith) (λ c. omega arith) (λ c. omega arith)
     loop-again
-    same-length
-    same-length-2
+    (λ c. c .before .loop .inv .1) (λ c. c .before .loop .inv .2)
     returns)

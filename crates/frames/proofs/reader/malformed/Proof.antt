@@ -6,32 +6,21 @@ use borrow.Author.Needs.{needs}
 use Rattle.frames.proofs.reader.malformed.Statement.{statement}
 use Rattle.frames.proofs.reader.malformed.Tie as tie
 
-field-requires : tie.Need-field-requires
-field-requires c κs = search needs
-
-ends-requires : tie.Need-ends-requires
-ends-requires c κs = search needs
-
-cast-t6 : tie.Need-cast-t6
-cast-t6 c = search needs
+-- ---- what is known on the way: the field that was read
+abbrev start : tie.After-ends → tie.Start
+start d = d .before .before .before
 
 abbrev read : tie.After-ends → List Seen
 read d = (4, d .before .field .result) ∷ []
 
-chain : (d : tie.After-ends) → Chain (d .before .before .before .args .line .now) (d .before .before .before .args .at) (read d) (d .before .field .result .next)
+chain : (d : tie.After-ends) → Chain (start d .args .line .now) (start d .args .at) (read d) (d .before .field .result .next)
 chain d = (d .before .field .ensures, refl)
 
 returns : tie.Need-returns
-returns c =
-    let d = c .before .before in
-    let a = d .before .before .before .args in
-    body-is 0x8f _ (a .line .now) (a .at) (d .before .field .result .next) (read d) refl refl refl (chain d) (ended _ _ (c .before .if1 .taken) (d .ends .ensures))
+returns c = let d = c .before .before in body-is 0x8f _ _ _ _ (read d) refl refl refl (chain d) (ended _ _ (c .before .if1 .taken) (d .ends .ensures))
 
 returns-2 : tie.Need-returns-2
-returns-2 c =
-    let d = c .before in
-    let a = d .before .before .before .args in
-    body-not 0x8f (a .line .now) (a .at) (d .before .field .result .next) (read d) (λ fs xs ys. refl) (chain d) (not-ended _ _ (c .if1 .left) (d .ends .ensures))
+returns-2 c = let d = c .before in body-not 0x8f _ _ _ (read d) (λ fs xs ys. refl) (chain d) (not-ended _ _ (c .if1 .left) (d .ends .ensures))
 
 pub malformed-spec : {M : Type 1} → statement M
-malformed-spec = tie.close (tie.spec field-requires ends-requires cast-t6 returns returns-2)
+malformed-spec = tie.close (tie.spec (λ c κs. search needs) (λ c κs. search needs) (λ c. search needs) returns returns-2)

@@ -48,32 +48,19 @@ returns : tie.Need-returns
 returns c =
     let test = c .before .before .before .before .before in
     let d = test .before in
-    let a = start d .args in
-    body-is (saidNo (a .call)) _ (a .line .now) (a .at) (d .before .field6 .result .next) (read d) refl refl refl (chain d)
-    (ended _ _ (test .if1 .taken) (d .ends .ensures))
+    body-is (saidNo (start d .args .call)) _ _ _ _ (read d) refl refl refl (chain d) (ended _ _ (test .if1 .taken) (d .ends .ensures))
 
 returns-2 : tie.Need-returns-2
 returns-2 c =
     let d = c .before in
-    let a = start d .args in
-    body-not (saidNo (a .call)) (a .line .now) (a .at) (d .before .field6 .result .next) (read d) (shape d (a .call)) (chain d)
-    (not-ended _ _ (c .if1 .left) (d .ends .ensures))
+    let call = start d .args .call in
+    body-not (saidNo call) _ _ _ (read d) (shape d call) (chain d) (not-ended _ _ (c .if1 .left) (d .ends .ensures))
 
 pub said-spec : {M : Type 1} → statement M
 said-spec =
     tie.close
     (tie.spec
-    (λ c κs. search needs)
-    (λ c κs. search needs)
-    (λ c κs. search needs)
-    (λ c κs. search needs)
-    (λ c κs. search needs)
-    (λ c κs. search needs)
-    (λ c κs. search needs)
-    (λ c. search needs)
-    (λ c. search needs)
-    (λ c. search needs)
-    (λ c. search needs)
-    (λ c. search needs)
+    (λ c κs. search needs) (λ c κs. search needs) (λ c κs. search needs) (λ c κs. search needs) (λ c κs. search needs) (λ c κs. search needs) (λ c κs. search needs)
+    (λ c. search needs) (λ c. search needs) (λ c. search needs) (λ c. search needs) (λ c. search needs)
     returns
     returns-2)

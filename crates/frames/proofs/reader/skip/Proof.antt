@@ -14,21 +14,6 @@ Inv-loop line from count at₀ k₀ at k = Skips line from k at × (k ≤ count)
 abbrev μ-loop : tie.MeasureT-loop
 μ-loop line from count at₀ k₀ at k = count - k
 
-loop-holds : tie.Need-loop-holds Inv-loop μ-loop
-loop-holds c = (none-yet _ _, omega arith)
-
-field-requires : tie.Need-field-requires Inv-loop μ-loop
-field-requires c κs = search needs
-
-field-requires-2 : tie.Need-field-requires-2 Inv-loop μ-loop
-field-requires-2 c κs = search needs
-
-add-k : tie.Need-add-k Inv-loop μ-loop
-add-k c = omega arith
-
-loop-less : tie.Need-loop-less Inv-loop μ-loop
-loop-less c = omega arith
-
 loop-again : tie.Need-loop-again Inv-loop μ-loop
 loop-again c = let l = c .before .before .before .loop in
     (skips-more _ _ (l .k) (l .at) (c .before .field .result) (c .field2 .result) (l .inv .0) (c .before .field .ensures) (c .field2 .ensures), omega arith)
@@ -43,10 +28,7 @@ skip-spec =
     (tie.spec
     Inv-loop
     μ-loop
-    loop-holds
-    field-requires
-    field-requires-2
-    add-k
-    loop-less
+    (λ c. (none-yet _ _, omega arith))
+    (λ c κs. search needs) (λ c κs. search needs) (λ c. omega arith) (λ c. omega arith)
     loop-again
     returns)
