@@ -10,7 +10,7 @@ use lib.Seq.{getD-set-same, getD-set-other}
 use Rattle.rules.specs.Tree.{Tree, node, Forest, [], _∷_, size, sizes, depth, depths}
 use Rattle.branch.specs.Each.{Each, EachAll, Any}
 use Rattle.branch.specs.Depth.{Known, Deepest}
-use Rattle.calls.specs.Tests.{below-or-not}
+use Rattle.laws.specs.Tests.{below-or-not}
 use Rattle.branch.proofs.Eachs.{size-pos, each-end, eachs-end}
 
 module _ (ends : List ℕ) (from stop : ℕ) (ts : Forest) where

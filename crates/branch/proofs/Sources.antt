@@ -13,7 +13,7 @@ use Rattle.branch.specs.declared.write.Source.{Source}
 use Rattle.branch.specs.declared.write.Source.the-variants.{Old, New}
 use Rattle.rules.specs.Exchange.{GivenExchange}
 use Rattle.branch.specs.Write.{InBoth, InOld, sourceOf, Fits}
-use Rattle.calls.specs.Tests.{below-or-not}
+use Rattle.laws.specs.Tests.{below-or-not}
 
 module _ {A : Type 0} (old new : List A) (s : Source) (j : ℕ) where
   pub both-old : InBoth old new s → s ≡ Old j → j < length old

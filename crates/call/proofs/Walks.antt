@@ -24,8 +24,8 @@ use Rattle.rules.specs.Table.{mostDeep}
 use Rattle.rules.specs.Cells.{cells, withCells, column, timeOf, placeOf, markOf}
 use Rattle.rules.specs.Board.{shown}
 use Rattle.rules.specs.Call.{Given, Run, run, Left, left, answers, counted, ontoRun, ontoBoard, sinceIn, spared, walked}
-use Rattle.calls.specs.Shape.{size-shape, depth-shape}
-use Rattle.calls.specs.Memory.{held, with-shape}
+use Rattle.laws.specs.Shape.{size-shape, depth-shape}
+use Rattle.laws.specs.Memory.{held, with-shape}
 use Rattle.cells.specs.Long.{Long}
 use Rattle.work.specs.declared.result.Result.{Result}
 use Rattle.work.specs.declared.result.Seen.{Seen}

@@ -9,7 +9,7 @@ use lib.ListN.{length, take, drop, getD}
 use Rattle.rules.specs.declared.behavior.Kind.{Kind}
 use Rattle.rules.specs.Tree.{Cell, Tree, node, Forest, [], _∷_, size, sizes}
 use Rattle.rules.specs.Exchange.{replaced, sizeAt, listed, listedAll, newSinces}
-use Rattle.calls.specs.Listed.{listed-replaced}
+use Rattle.laws.specs.Listed.{listed-replaced}
 use Rattle.branch.specs.declared.write.Cut.{Cut}
 use Rattle.branch.specs.Each.{Each, EachAll}
 use Rattle.branch.specs.Write.{values, sourceOf, from, at, always}

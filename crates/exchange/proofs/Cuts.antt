@@ -16,9 +16,9 @@ use Rattle.rules.specs.Tree.{zeroTime, Cell, Tree, size, depth}
 use Rattle.rules.specs.Cells.{cells}
 use Rattle.rules.specs.Exchange.{Room, GivenExchange, leftExchange, notExchanged, free, replaced, sizeAt, written, replacing, exchangeCall, newSinces, ontoRoom, room, roomLength}
 use Rattle.rules.specs.Exchange.{listed, codeIn, numberIn, limitIn, timeIn, placeIn, markIn}
-use Rattle.calls.specs.Shape.{size-shape, depth-shape}
-use Rattle.calls.specs.Memory.{held, held-shape}
-use Rattle.calls.specs.Tables.{tabled}
+use Rattle.laws.specs.Shape.{size-shape, depth-shape}
+use Rattle.laws.specs.Memory.{held, held-shape}
+use Rattle.laws.specs.Tables.{tabled}
 use Rattle.cells.specs.Long.{cells-length}
 use Rattle.branch.specs.declared.way.Way.{Way}
 use Rattle.branch.specs.declared.way.Way.the-variants.{Free, Held}

@@ -14,8 +14,8 @@ use Rattle.rules.specs.Table.{Table, good, bad, table}
 use Rattle.rules.specs.Cells.{cells, Found, faulty, none, badCell}
 use Rattle.rules.specs.Call.{Run, runLength}
 use Rattle.rules.specs.Exchange.{GivenExchange, notExchanged, replacing, onTrees, onBranch, exchangeCall}
-use Rattle.calls.specs.Shape.{size-shape}
-use Rattle.calls.specs.Memory.{held, held-shape}
+use Rattle.laws.specs.Shape.{size-shape}
+use Rattle.laws.specs.Memory.{held, held-shape}
 use Rattle.tables.specs.declared.table.Checked.{Checked}
 use Rattle.tables.specs.declared.table.Checked.the-variants as checked
 use Rattle.tables.specs.Checks.{checkedOf, Laid, Tabled}

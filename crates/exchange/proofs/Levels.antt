@@ -11,7 +11,7 @@ use Rattle.rules.specs.Tree.{Cell, Tree, node, Forest, [], _∷_, size, sizes, 
 use Rattle.rules.specs.Exchange.{replaced, replacedIn, sizeAt, sizeIn}
 use Rattle.branch.specs.Each.{Each, EachAll}
 use Rattle.branch.specs.Way.{above, aboveIn}
-use Rattle.calls.specs.Tests.{below-or-not}
+use Rattle.laws.specs.Tests.{below-or-not}
 use Rattle.branch.proofs.Eachs.{each-end}
 
 module _ (u : Tree) where

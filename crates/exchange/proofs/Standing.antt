@@ -16,11 +16,11 @@ use Rattle.rules.specs.Codes.{code-kind}
 use Rattle.rules.specs.Tree.{zeroTime, Cell, newCell, Tree, node, Forest, [], _∷_, size, sizes, count}
 use Rattle.rules.specs.Table.{cleaned, countAllowed, limitAllowed, rowAllowed}
 use Rattle.rules.specs.Cells.{cells, withCells, withCellsAll}
-use Rattle.calls.specs.Tables.{Tabled, Tableds}
+use Rattle.laws.specs.Tables.{Tabled, Tableds}
 use Rattle.tables.specs.At.{Row, At, Ats}
 use Rattle.tables.proofs.Placed.{at-end, ats-end}
 use Rattle.branch.specs.Each.{Each, EachAll}
-use Rattle.calls.specs.Tests.{below-or-not}
+use Rattle.laws.specs.Tests.{below-or-not}
 
 -- ---- the cells of a run
 pub record CellAt (c : Cell) (xs : List Float) (ps ms : List ℕ) (q : ℕ) : Type 0 where

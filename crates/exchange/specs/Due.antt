@@ -11,7 +11,7 @@ use Rattle.rules.specs.Cells.{none, badCell}
 use Rattle.rules.specs.Call.{Run}
 use Rattle.rules.specs.Exchange.{GivenExchange, LeftExchange, leftExchange, notExchanged, replacing, exchangeCall}
 use Rattle.rules.specs.declared.exchanged.Exchanged.the-variants.{Done}
-use Rattle.calls.specs.Memory.{held}
+use Rattle.laws.specs.Memory.{held}
 use Rattle.tables.proofs.Good.{Good}
 use Rattle.exchange.specs.declared.gate.Gate.{Gate}
 use Rattle.exchange.specs.declared.gate.Gate.the-variants as gate

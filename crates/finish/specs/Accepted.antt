@@ -12,9 +12,9 @@ use Rattle.rules.specs.declared.behavior.Kind.the-variants.{MemorylessSequence,
 use Rattle.rules.specs.Kinds.{is, timed}
 use Rattle.rules.specs.Tree.{Cell, Tree, node, Forest, [], _∷_, count}
 use Rattle.rules.specs.Bound.{wholeTime, boundable, boundables}
-use Rattle.calls.specs.Shape.{shape, shapes}
-use Rattle.calls.specs.Tables.{Tabled, Tableds, at-least}
-use Rattle.whole.specs.Times.{whole-W}
+use Rattle.laws.specs.Shape.{shape, shapes}
+use Rattle.laws.specs.Tables.{Tabled, Tableds, at-least}
+use Rattle.floats.specs.Times.{whole-W}
 use Rattle.finish.specs.Shaped.{Shaped, Shapeds, Shaped₁, Shaped₂, Shaped₃}
 
 some : (ts : Forest) → T (not (eqb (count ts) 0)) → 1 ≤ count ts

@@ -12,13 +12,13 @@ use Rattle.rules.specs.Table.{good, table}
 use Rattle.rules.specs.Call.{Run, Given, restartCall}
 use Rattle.rules.specs.Bound.{num, boundable}
 use Rattle.rules.specs.Exchange.{GivenExchange, exchangeCall}
-use Rattle.calls.specs.Shape.{fresh-shape}
-use Rattle.calls.specs.Memory.{clear-shape, held, firstCells, held-first}
-use Rattle.calls.specs.Tables.{renewed}
-use Rattle.calls.specs.View.{Call, restarts}
-use Rattle.calls.specs.History.{Standing, isTicked, stands, after, afterAll}
-use Rattle.calls.specs.Invariant.{Asked}
-use Rattle.calls.specs.Fresh.{FreshCells, fresh-held}
+use Rattle.laws.specs.Shape.{fresh-shape}
+use Rattle.laws.specs.Memory.{clear-shape, held, firstCells, held-first}
+use Rattle.laws.specs.Tables.{renewed}
+use Rattle.laws.specs.View.{Call, restarts}
+use Rattle.laws.specs.History.{Standing, isTicked, stands, after, afterAll}
+use Rattle.laws.specs.Invariant.{Asked}
+use Rattle.laws.specs.Fresh.{FreshCells, fresh-held}
 use Rattle.laws.specs.ReadBack.{sound}
 use Rattle.laws.specs.Replaced.{sound-with}
 use Rattle.laws.specs.Exchanged.{Passed, resultOf, runIn, reads, holds}

@@ -10,8 +10,8 @@ use Rattle.rules.specs.Tree.{zeroTime, Tree, Forest, [], _∷_}
 use Rattle.rules.specs.Outcome.{dt, World, Out, done, Ticker, _▸_, largest}
 use Rattle.rules.specs.WhenAll.{afterFrom, afterAt}
 use Rattle.rules.specs.Bound.{num}
-use Rattle.whole.specs.Times.{W, smaller-W, zero-W}
-use Rattle.calls.specs.Shape.{shapes}
+use Rattle.floats.specs.Times.{W, smaller-W, zero-W}
+use Rattle.laws.specs.Shape.{shapes}
 use Rattle.finish.specs.Shaped.{Shapeds}
 use Rattle.laws.specs.Pair.{Pairing, stay, after, either}
 use Rattle.finish.specs.Enough.{Still, StillAll, StillFrom}

@@ -7,7 +7,7 @@ use lib.Ieee.{Format}
 use Rattle.rules.specs.declared.behavior.Kind.the-variants.{Wait, WaitForever, Action, Invert, AlwaysSucceed, Timeout, Select, If, Sequence}
 use Rattle.rules.specs.declared.behavior.Kind.the-variants.{MemorylessSequence, MemorylessSelector, While, WhileAll, WhenAll, WhenAny, After, Race}
 use Rattle.rules.specs.Tree.{Tree, node, Forest, [], _∷_, marked}
-use Rattle.calls.specs.Memory.{clear, clearAll, clears-shape, clear-marked}
+use Rattle.laws.specs.Memory.{clear, clearAll, clears-shape, clear-marked}
 use Rattle.finish.specs.Enough.{unless, Still, StillFirst, StillSum, StillAt, StillIf, StillUnmarked, StillAll, StillFrom, StillMin, StillLoop}
 use Rattle.finish.specs.Valid.{inBody, someOpen, openOrNone, Valid, ValidAt, ValidLoop, ValidAll, ValidFrom, ValidMarks}
 

@@ -9,9 +9,9 @@ use Rattle.rules.specs.declared.behavior.Kind.the-variants.{Wait, WaitForever, 
 use Rattle.rules.specs.declared.behavior.Kind.the-variants.{MemorylessSequence, MemorylessSelector, While, WhileAll, WhenAll, WhenAny, After, Race}
 use Rattle.rules.specs.Tree.{Tree, node, Forest, [], _∷_}
 use Rattle.rules.specs.Bound.{num, Lim, never, within, sumL, maxL, timesL, minL, ownTicks, bound, first, sum, largest, smallest, firstAndLargest, firstTimesSum}
-use Rattle.calls.specs.Shape.{Shape, shp, Shapes, shape, shapes}
+use Rattle.laws.specs.Shape.{Shape, shp, Shapes, shape, shapes}
 use Rattle.finish.specs.Shaped.{Shaped, Shapeds, Shaped₁, Shaped₂, Shaped₃}
-use Rattle.calls.specs.Shape
+use Rattle.laws.specs.Shape
 use Rattle.finish.specs.Enough.{Enough, EnoughFirst, EnoughSum, EnoughMax, EnoughMin, EnoughIf, EnoughLoop}
 
 -- k is at least the number; nothing is at least none

@@ -8,7 +8,7 @@ use Rattle.rules.specs.declared.behavior.Kind.the-variants.{MemorylessSequence,
 use Rattle.rules.specs.Tree.{Tree, node, Forest, marked}
 use Rattle.rules.specs.Tree
 use Rattle.rules.specs.Bound.{num}
-use Rattle.calls.specs.Shape.{Shape, shp, Shapes, [], _∷_, shapes}
+use Rattle.laws.specs.Shape.{Shape, shp, Shapes, [], _∷_, shapes}
 
 abbrev pub unless : Bool → Type 0 → Type 0
 unless true X = Unit {0}

@@ -12,7 +12,7 @@ use Rattle.rules.specs.declared.behavior.Kind.the-variants.{Wait, WaitForever, 
 use Rattle.rules.specs.declared.behavior.Kind.the-variants.{MemorylessSequence, MemorylessSelector, While, WhileAll, WhenAll, WhenAny, After, Race}
 use Rattle.rules.specs.Tree.{Cell, Tree, node, Forest, [], _∷_, size, count, marked}
 use Rattle.rules.specs.Exchange.{spot, free, freeIn, replaced, replacedIn}
-use Rattle.calls.specs.Tests.{below-or-not}
+use Rattle.laws.specs.Tests.{below-or-not}
 use Rattle.laws.specs.ReadBack.{Sound, Sounds}
 use Rattle.finish.specs.Enough.{unless}
 use Rattle.finish.specs.Valid.{someOpen, openOrNone, inBody, Valid, ValidAt, ValidLoop, ValidAll, ValidFrom, ValidMarks}

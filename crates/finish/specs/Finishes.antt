@@ -15,11 +15,11 @@ use Rattle.rules.specs.Tree.{Tree, fresh}
 use Rattle.rules.specs.Outcome.{World, world, done}
 use Rattle.rules.specs.State.{tick}
 use Rattle.rules.specs.Bound.{num, within, bound}
-use Rattle.calls.specs.Shape.{shape, fresh-shape}
-use Rattle.calls.specs.Memory.{clear, clear-shape}
-use Rattle.calls.specs.Invariant.{After}
+use Rattle.laws.specs.Shape.{shape, fresh-shape}
+use Rattle.laws.specs.Memory.{clear, clear-shape}
+use Rattle.laws.specs.Invariant.{After}
 use Rattle.laws.specs.Used.{used-alone}
-use Rattle.whole.specs.Times.{W}
+use Rattle.floats.specs.Times.{W}
 use Rattle.finish.specs.Shaped.{Shaped}
 use Rattle.finish.specs.Enough.{Still}
 use Rattle.finish.specs.Valid.{Valid}

@@ -8,8 +8,8 @@ use Rattle.rules.specs.declared.behavior.Kind.the-variants.{Wait, WaitForever, 
 use Rattle.rules.specs.declared.behavior.Kind.the-variants.{MemorylessSequence, MemorylessSelector, While, WhileAll, WhenAll, WhenAny, After, Race}
 use Rattle.rules.specs.Tree.{zeroTime, Tree, node, Forest, [], _∷_, fresh, freshAll, marked}
 use Rattle.rules.specs.Bound.{num}
-use Rattle.whole.specs.Times.{zero-num, zero-W}
-use Rattle.calls.specs.Shape.{shape, shapes, fresh-unmarked}
+use Rattle.floats.specs.Times.{zero-num, zero-W}
+use Rattle.laws.specs.Shape.{shape, shapes, fresh-unmarked}
 use Rattle.finish.specs.Shaped.{Shaped, Shapeds, Shaped₁, Shaped₂, Shaped₃}
 use Rattle.finish.specs.Enough.{unless}
 use Rattle.finish.specs.Valid.{openOrNone, Valid, ValidAt, ValidLoop, ValidAll, ValidFrom, ValidMarks}

@@ -9,8 +9,8 @@ use Rattle.rules.specs.declared.event.Event.the-variants.{Update}
 use Rattle.rules.specs.Tree.{Tree, Forest, [], _∷_, fresh}
 use Rattle.rules.specs.Outcome.{Ticker}
 use Rattle.rules.specs.State.{ifAt}
-use Rattle.whole.specs.Times.{W}
-use Rattle.calls.specs.Shape.{shapes, fresh-shape}
+use Rattle.floats.specs.Times.{W}
+use Rattle.laws.specs.Shape.{shapes, fresh-shape}
 use Rattle.finish.specs.Shaped.{Shaped₃}
 use Rattle.laws.specs.Pair.{Pairing, Known, stay, cut, after}
 use Rattle.laws.specs.PairDrivers.{join}

@@ -17,9 +17,9 @@ use Rattle.rules.specs.Table.{table}
 use Rattle.rules.specs.Cells.{cells, column}
 use Rattle.rules.specs.Call.{Run, run, Given, given, tickCall}
 use Rattle.rules.specs.Bound.{num, wholeTime, boundCall}
-use Rattle.calls.specs.Tables.{one-tree}
-use Rattle.calls.specs.View.{Call, ticks}
-use Rattle.calls.specs.History.{stands, afterAll}
+use Rattle.laws.specs.Tables.{one-tree}
+use Rattle.laws.specs.View.{Call, ticks}
+use Rattle.laws.specs.History.{stands, afterAll}
 use Rattle.finish.specs.WholeTicks.{WholeHistory}
 use Rattle.finish.specs.Answered.{is-told}
 use Rattle.finish.specs.Public.{FinishesBy, finishes}

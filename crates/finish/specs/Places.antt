@@ -14,7 +14,7 @@ use Rattle.rules.specs.Bound.{num}
 use Rattle.rules.specs.Tree.{Tree, Forest, [], _∷_, count}
 use Rattle.rules.specs.Outcome.{dt, Ticker}
 use Rattle.rules.specs.Loops.{put, freshAt, childAt}
-use Rattle.calls.specs.Shape.{shapes, fresh-at-shapes, count-shape}
+use Rattle.laws.specs.Shape.{shapes, fresh-at-shapes, count-shape}
 use Rattle.finish.specs.Shaped.{Shapeds}
 use Rattle.laws.specs.Pair.{Pairing, Both, weak}
 use Rattle.laws.specs.PairDrivers.{join}

@@ -13,8 +13,8 @@ use Rattle.rules.specs.Tree.{Cell, Tree, node, Forest, [], _∷_}
 use Rattle.rules.specs.Outcome.{dt, World, world, Out, done, Ticker, _▸_, exchange, exchanging, byte}
 use Rattle.rules.specs.State.{Next}
 use Rattle.rules.specs.Bound.{num}
-use Rattle.whole.specs.Times.{W}
-use Rattle.calls.specs.Shape.{shape}
+use Rattle.floats.specs.Times.{W}
+use Rattle.laws.specs.Shape.{shape}
 use Rattle.laws.specs.PairDrivers.{Same}
 use Rattle.laws.specs.Pair.{Pairing, Both, weak, stay, after}
 use Rattle.laws.specs.PairRules.{exchange-pair}

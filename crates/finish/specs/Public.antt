@@ -13,12 +13,12 @@ use Rattle.rules.specs.Table.{good, table}
 use Rattle.rules.specs.declared.answer.Record.{Record}
 use Rattle.rules.specs.Call.{Run, Given, restartCall}
 use Rattle.rules.specs.Bound.{num, wholeTime, within, bound, boundable, stepAllowed}
-use Rattle.calls.specs.Shape.{shape}
-use Rattle.calls.specs.Memory.{held}
-use Rattle.calls.specs.View.{Call, restarts}
-use Rattle.calls.specs.History.{isTicked, Standing, stands, after, afterAll}
-use Rattle.calls.specs.Fresh.{FreshCells, fresh-held}
-use Rattle.calls.specs.Invariant.{Keeps, Steps, calls-keep, restart-keeps}
+use Rattle.laws.specs.Shape.{shape}
+use Rattle.laws.specs.Memory.{held}
+use Rattle.laws.specs.View.{Call, restarts}
+use Rattle.laws.specs.History.{isTicked, Standing, stands, after, afterAll}
+use Rattle.laws.specs.Fresh.{FreshCells, fresh-held}
+use Rattle.laws.specs.Invariant.{Keeps, Steps, calls-keep, restart-keeps}
 use Rattle.finish.specs.Shaped.{Shaped}
 use Rattle.finish.specs.WholeTicks.{WholeTick, WholeHistory}
 use Rattle.finish.specs.Answered.{FinishBound, bounded}

@@ -9,7 +9,7 @@ use lib.Ieee.{Format}
 use Rattle.rules.specs.declared.behavior.Kind.the-variants.{Wait, WaitForever, Action, Invert, AlwaysSucceed, Timeout, Select, If, Sequence}
 use Rattle.rules.specs.declared.behavior.Kind.the-variants.{MemorylessSequence, MemorylessSelector, While, WhileAll, WhenAll, WhenAny, After, Race}
 use Rattle.rules.specs.Tree.{Tree, node, Forest, [], _∷_, marked}
-use Rattle.calls.specs.Shape.{shape, shapes}
+use Rattle.laws.specs.Shape.{shape, shapes}
 use Rattle.finish.specs.Enough.{unless, Enough, EnoughFirst, EnoughSum, EnoughMax, EnoughMin, EnoughIf, EnoughLoop, Still}
 use Rattle.finish.specs.Enough.{StillFirst, StillSum, StillAt, StillIf, StillUnmarked, StillAll, StillFrom, StillMin, StillLoop}
 use Rattle.finish.specs.Valid.{inBody, Valid, ValidAt, ValidLoop, ValidAll, ValidFrom, ValidMarks}

@@ -9,8 +9,8 @@ use Rattle.rules.specs.declared.event.Event.the-variants.{Update, Other}
 use Rattle.rules.specs.Tree.{Tree, Forest, [], _∷_, fresh}
 use Rattle.rules.specs.Outcome.{World, Out, Ticker}
 use Rattle.rules.specs.Sequence.{pass, sequenceFrom, sequenceAt, memoryless}
-use Rattle.whole.specs.Times.{W}
-use Rattle.calls.specs.Shape.{shape, shapes, fresh-shape}
+use Rattle.floats.specs.Times.{W}
+use Rattle.laws.specs.Shape.{shape, shapes, fresh-shape}
 use Rattle.finish.specs.Shaped.{Shaped, Shapeds}
 use Rattle.laws.specs.Pair.{Pairing, stay, after}
 use Rattle.laws.specs.PairDrivers.{join}

@@ -2,8 +2,8 @@
 use lib.Ieee.{Format}
 use Rattle.rules.specs.declared.behavior.Kind.the-variants.{Wait, WaitForever, Action, Invert, AlwaysSucceed, Timeout, Select, If, Sequence}
 use Rattle.rules.specs.declared.behavior.Kind.the-variants.{MemorylessSequence, MemorylessSelector, While, WhileAll, WhenAll, WhenAny, After, Race}
-use Rattle.calls.specs.Shape.{Shape, shp, Shapes, [], _∷_}
-use Rattle.whole.specs.Times.{W}
+use Rattle.laws.specs.Shape.{Shape, shp, Shapes, [], _∷_}
+use Rattle.floats.specs.Times.{W}
 
 module _ (F : Format) where
   -- the children that a kind must have, and whole limits

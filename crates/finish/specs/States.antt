@@ -15,13 +15,13 @@ use Rattle.rules.specs.State.{tick}
 use Rattle.rules.specs.Table.{mostDeep, good, table}
 use Rattle.rules.specs.Call.{Run, Given, answers, cleanedEvent, restartCall}
 use Rattle.rules.specs.Bound.{boundable, num}
-use Rattle.calls.specs.Shape.{shape}
-use Rattle.calls.specs.Memory.{held}
-use Rattle.calls.specs.Tables.{tabled, tabled-fresh}
-use Rattle.calls.specs.View.{Call, restarts}
-use Rattle.calls.specs.History.{Standing, isTicked, after, afterAll}
-use Rattle.calls.specs.Invariant.{After, Asked, Steps, calls-keep, restart-keeps}
-use Rattle.whole.specs.Times.{whole-W}
+use Rattle.laws.specs.Shape.{shape}
+use Rattle.laws.specs.Memory.{held}
+use Rattle.laws.specs.Tables.{tabled, tabled-fresh}
+use Rattle.laws.specs.View.{Call, restarts}
+use Rattle.laws.specs.History.{Standing, isTicked, after, afterAll}
+use Rattle.laws.specs.Invariant.{After, Asked, Steps, calls-keep, restart-keeps}
+use Rattle.floats.specs.Times.{whole-W}
 use Rattle.finish.specs.Shaped.{Shaped}
 use Rattle.finish.specs.Accepted.{accepted}
 use Rattle.finish.specs.Post.{TickQ}

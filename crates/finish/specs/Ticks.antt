@@ -17,13 +17,13 @@ use Rattle.rules.specs.Tree.{Cell, withPlace, Tree, node, Forest, [], _∷_}
 use Rattle.rules.specs.Outcome.{dt, World, world, Out, done, asks, short, Ticker, _▸_, exchanging}
 use Rattle.rules.specs.State.{rule, tick}
 use Rattle.rules.specs.Bound.{num}
-use Rattle.whole.specs.Times.{W}
+use Rattle.floats.specs.Times.{W}
 use Rattle.laws.specs.Pair.{nothing, Pairing, Known, Sim, goes, ends, back, stay, after}
 use Rattle.laws.specs.PairDrivers.{Same}
 use Rattle.laws.specs.PairRules.{ruleWith, rule-with, leave}
 use Rattle.laws.specs.Alone.{NotDone, stop-on, AfterTick, tick-keeps}
-use Rattle.calls.specs.Shape.{Shape, shp, Shapes, shape, shapes}
-use Rattle.calls.specs.Shape
+use Rattle.laws.specs.Shape.{Shape, shp, Shapes, shape, shapes}
+use Rattle.laws.specs.Shape
 use Rattle.finish.specs.Shaped.{Shaped, Shapeds, Shaped₁}
 use Rattle.finish.specs.Enough.{EnoughSum, Still, StillSum, StillLoop}
 use Rattle.finish.specs.Valid.{Valid}

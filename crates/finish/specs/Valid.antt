@@ -7,7 +7,7 @@ use Rattle.rules.specs.declared.behavior.Kind.the-variants.{Wait, WaitForever, 
 use Rattle.rules.specs.declared.behavior.Kind.the-variants.{MemorylessSequence, MemorylessSelector, While, WhileAll, WhenAll, WhenAny, After, Race}
 use Rattle.rules.specs.Tree.{Tree, node, Forest, [], _∷_, marked}
 use Rattle.rules.specs.Bound.{num}
-use Rattle.whole.specs.Times.{W}
+use Rattle.floats.specs.Times.{W}
 use Rattle.finish.specs.Enough.{unless}
 
 -- one at least has no mark; or there is none

@@ -13,8 +13,8 @@ use Rattle.rules.specs.Tree.{Cell, Tree, Forest, _∷_}
 use Rattle.rules.specs.Outcome.{World, Out, Ticker}
 use Rattle.rules.specs.State.{rule}
 use Rattle.rules.specs.Bound.{num}
-use Rattle.whole.specs.Times.{W, Passed, reached, passing, passed}
-use Rattle.calls.specs.Shape.{shape}
+use Rattle.floats.specs.Times.{W, Passed, reached, passing, passed}
+use Rattle.laws.specs.Shape.{shape}
 use Rattle.laws.specs.Pair.{Pairing, stay, after}
 use Rattle.finish.specs.Shaped.{Shaped}
 use Rattle.finish.specs.Valid.{Valid}

@@ -14,8 +14,8 @@ use Rattle.rules.specs.Outcome.{dt, World, Out, Ticker, largest, smaller}
 use Rattle.rules.specs.Sequence.{keep}
 use Rattle.rules.specs.WhenAll.{whenAllFrom, whenAll, raceFrom}
 use Rattle.rules.specs.Bound.{num}
-use Rattle.whole.specs.Times.{W, smaller-W}
-use Rattle.calls.specs.Shape.{shapes, mark-marked}
+use Rattle.floats.specs.Times.{W, smaller-W}
+use Rattle.laws.specs.Shape.{shapes, mark-marked}
 use Rattle.laws.specs.Pair.{Pairing, stay, after, either}
 use Rattle.finish.specs.Shaped.{Shapeds}
 use Rattle.finish.specs.Enough.{unless, Still, StillUnmarked, StillMin}

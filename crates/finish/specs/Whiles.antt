@@ -13,11 +13,11 @@ use Rattle.rules.specs.Tree.{Tree, Forest, [], _∷_, count}
 use Rattle.rules.specs.Outcome.{dt, World, Out, Ticker}
 use Rattle.rules.specs.Loops.{budget, put, freshAt, next, moved, whileBody, whileAll}
 use Rattle.rules.specs.Bound.{num}
-use Rattle.whole.specs.Times.{W}
-use Rattle.calls.specs.Shape.{Shape, Shapes, shape, shapes, moved-shapes}
+use Rattle.floats.specs.Times.{W}
+use Rattle.laws.specs.Shape.{Shape, Shapes, shape, shapes, moved-shapes}
 use Rattle.laws.specs.Pair.{Pairing, Known, stay, cut, after}
 use Rattle.finish.specs.Shaped.{Shaped, Shapeds}
-use Rattle.calls.specs.Shape
+use Rattle.laws.specs.Shape
 use Rattle.finish.specs.Enough.{EnoughSum, Still, StillSum, StillLoop}
 use Rattle.finish.specs.Valid.{inBody, Valid, ValidAt, ValidLoop}
 use Rattle.finish.specs.Ranks.{still-pos, valid-sum}

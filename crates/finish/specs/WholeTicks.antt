@@ -11,10 +11,10 @@ use Rattle.rules.specs.declared.event.Event.the-variants.{Update, Other}
 use Rattle.rules.specs.Tree.{Tree}
 use Rattle.rules.specs.Call.{answers, cleanedEvent}
 use Rattle.rules.specs.Bound.{num, wholeTime}
-use Rattle.calls.specs.View.{Call}
-use Rattle.calls.specs.History.{Standing, TakesUp}
-use Rattle.calls.specs.Invariant.{AllAsked}
-use Rattle.whole.specs.Times.{whole-W}
+use Rattle.laws.specs.View.{Call}
+use Rattle.laws.specs.History.{Standing, TakesUp}
+use Rattle.laws.specs.Invariant.{AllAsked}
+use Rattle.floats.specs.Times.{whole-W}
 use Rattle.finish.specs.Post.{WAll}
 
 -- an update with a whole time from d to the cap: 2 ^ 40, of f32 2 ^ 20

@@ -18,9 +18,9 @@ use Rattle.rules.specs.Table.{mostDeep, cleaned}
 use Rattle.rules.specs.Cells.{none}
 use Rattle.rules.specs.Board.{shown}
 use Rattle.rules.specs.Call.{Given, Left, left, counted, ontoRun, ontoBoard, sinceIn, spared, answers, cleanedEvent, answerAllowed, badAnswer, walked}
-use Rattle.calls.specs.View.{Call, leftBy, heldBy, startOf, walk, Walked, NotWalked, not-walked, View, walking, refusing, view}
-use Rattle.calls.specs.Walks.{walks}
-use Rattle.calls.specs.History.{isTicked, not-ticked}
+use Rattle.laws.specs.View.{Call, leftBy, heldBy, startOf, walk, Walked, NotWalked, not-walked, View, walking, refusing, view}
+use Rattle.laws.specs.Walks.{walks}
+use Rattle.laws.specs.History.{isTicked, not-ticked}
 use Rattle.laws.specs.Lent.{allowed-of, none-if, Paired, allowed-append, answers-append}
 use Rattle.laws.specs.Alone.{Answers}
 use Rattle.laws.specs.More.{Grown, tick-more}

@@ -11,13 +11,13 @@ use Rattle.rules.specs.declared.event.Event.{Event}
 use Rattle.rules.specs.Tree.{Cell, Tree, node, Forest, [], _∷_, depth}
 use Rattle.rules.specs.Outcome.{dt, World, world, Out, done, asks, short, Ticker, _▸_}
 use Rattle.rules.specs.State.{Next, rule, tick}
-use Rattle.calls.specs.Shape.{Shape, Shapes, shape, shapes, sizeOf, sizesOf}
-use Rattle.calls.specs.Shape
+use Rattle.laws.specs.Shape.{Shape, Shapes, shape, shapes, sizeOf, sizesOf}
+use Rattle.laws.specs.Shape
 use mathlib.Core.List.{_++_, append-assoc}
 use native.Mathlib.Nat.{le-refl, le-trans, le-of-suc-le-suc, not-suc-le-zero}
 use native.Mathlib.Omega.{arith}
 use Prim.Native.Nat.{max}
-use Rattle.calls.specs.Shape.{depthOf, depthsOf, depth-of}
+use Rattle.laws.specs.Shape.{depthOf, depthsOf, depth-of}
 use Rattle.laws.specs.Pair.{nothing, Pairing, Of, Sim, goes, ends}
 use Rattle.laws.specs.PairDrivers.{Same, Each, Visited, Alike, Any, any-each}
 use Rattle.laws.specs.PairRules.{rule-with, leave, Acts, rule-pair, visit-pair}

@@ -10,7 +10,7 @@ use Rattle.rules.specs.declared.event.Event.{Event}
 use Rattle.rules.specs.Tree.{Tree, node, [], _∷_}
 use Rattle.rules.specs.Outcome.{dt, World, world, Out, done, asks, short, _▸_}
 use Rattle.rules.specs.State.{rule, tick}
-use Rattle.calls.specs.Shape.{shape, shapes, sizeOf}
+use Rattle.laws.specs.Shape.{shape, shapes, sizeOf}
 use mathlib.Core.List.{_++_, append-assoc}
 use native.Mathlib.Omega.{arith}
 use lib.ListN.{length, length-append}

@@ -18,12 +18,12 @@ use Rattle.rules.specs.State.{tick}
 use Rattle.rules.specs.Table.{mostDeep, cleaned, number, good, table}
 use Rattle.rules.specs.Cells.{elapsed, Found, faulty, none, badCell}
 use Rattle.rules.specs.Call.{Given, Left, answers, cleanedEvent, answerAllowed, badAnswer, timeAllowed, sinceIn, walked, tickCall, restartCall}
-use Rattle.calls.specs.Shape.{shape}
-use Rattle.calls.specs.Memory.{held, held-onto}
-use Rattle.calls.specs.Tables.{tabled, tabled-fresh}
-use Rattle.calls.specs.View.{Call, ticks, restarts, leftBy, heldBy, startOf, walk, start-shape, Why, not-walked, View, walking, refusing, view}
-use Rattle.calls.specs.History.{isTicked, not-ticked, Standing, stands, behind, after, afterAll, TakesUp, same-tree}
-use Rattle.calls.specs.Fresh.{FreshCells, fresh-held}
+use Rattle.laws.specs.Shape.{shape}
+use Rattle.laws.specs.Memory.{held, held-onto}
+use Rattle.laws.specs.Tables.{tabled, tabled-fresh}
+use Rattle.laws.specs.View.{Call, ticks, restarts, leftBy, heldBy, startOf, walk, start-shape, Why, not-walked, View, walking, refusing, view}
+use Rattle.laws.specs.History.{isTicked, not-ticked, Standing, stands, behind, after, afterAll, TakesUp, same-tree}
+use Rattle.laws.specs.Fresh.{FreshCells, fresh-held}
 use Rattle.laws.specs.Elapsed.{number-elapsed}
 use Rattle.laws.specs.Fine.{fine-of, none-of, IfNone}
 use Rattle.laws.specs.Live.{Live, fresh-live, live-clear, live-fine, root-live, Right, tabled-right}

@@ -7,9 +7,9 @@ use Rattle.rules.specs.Outcome.{world}
 use Rattle.rules.specs.State.{tick}
 use Rattle.rules.specs.Table.{mostDeep}
 use Rattle.rules.specs.Call.{answers, cleanedEvent}
-use Rattle.calls.specs.Shape.{depth-shape}
-use Rattle.calls.specs.Tables.{tabled}
-use Rattle.calls.specs.View.{Call, startOf, walk, start-shape, Walked}
+use Rattle.laws.specs.Shape.{depth-shape}
+use Rattle.laws.specs.Tables.{tabled}
+use Rattle.laws.specs.View.{Call, startOf, walk, start-shape, Walked}
 use Rattle.laws.specs.Alone.{depth-free}
 
 pub deep-enough : (F : Format) (a : Call) (t : Tree) → Walked a t → (d : ℕ) → depth t ≤ d

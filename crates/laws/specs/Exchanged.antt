@@ -18,9 +18,9 @@ use Rattle.rules.specs.Cells.{Found, faulty, none, badCell, column, columns}
 use Rattle.rules.specs.Call.{Run, run, runLength, ontoRun, Given, Left, tooShort, refused, walked, onTable, onInputs, atEntry, walkFrom, tickCall}
 use Rattle.rules.specs.Exchange.{Room, GivenExchange, LeftExchange, leftExchange, notExchanged, free, replaced, newSinces, ontoRoom, roomLength, written, replacing, onTrees, onBranch, exchangeCall}
 use Rattle.rules.specs.Exchange.{listed, listedAll}
-use Rattle.calls.specs.Shape.{fresh-shape, size-shape}
-use Rattle.calls.specs.Memory.{clear, clear-shape, held, held-onto}
-use Rattle.calls.specs.Tables.{tabled, renewed}
+use Rattle.laws.specs.Shape.{fresh-shape, size-shape}
+use Rattle.laws.specs.Memory.{clear, clear-shape, held, held-onto}
+use Rattle.laws.specs.Tables.{tabled, renewed}
 use Rattle.laws.specs.Fine.{fine-of, none-of}
 use Rattle.laws.specs.ReadBack.{sound, read-back}
 use Rattle.laws.specs.Replaced.{sound-replaced, sound-with, tabled-blank, cells-lent, blank-with, blank-replaced, blank-clear, fine-replaced}

@@ -17,11 +17,11 @@ use Rattle.rules.specs.Outcome.{world, Out, done, asks, short}
 use Rattle.rules.specs.Table.{mostDeep, Table, good, bad, table}
 use Rattle.rules.specs.Cells.{Found, faulty, none, badCell}
 use Rattle.rules.specs.Call.{Given, Left, answers, cleanedEvent, badAnswer, timeAllowed, counted, sinceIn, refused, walked, tooShort, onTable, onInputs, walkFrom, tickCall, restartCall, saidOf}
-use Rattle.calls.specs.Shape.{shape, fresh-shape}
-use Rattle.calls.specs.Memory.{clear, held, held-onto, held-shape}
-use Rattle.calls.specs.View.{Call, leftBy, heldBy}
-use Rattle.calls.specs.History.{Standing, behind, afterLeft, after, afterAll, TakesUp, same-tree}
-use Rattle.calls.specs.Fresh.{FreshCells, fresh-held}
+use Rattle.laws.specs.Shape.{shape, fresh-shape}
+use Rattle.laws.specs.Memory.{clear, held, held-onto, held-shape}
+use Rattle.laws.specs.View.{Call, leftBy, heldBy}
+use Rattle.laws.specs.History.{Standing, behind, afterLeft, after, afterAll, TakesUp, same-tree}
+use Rattle.laws.specs.Fresh.{FreshCells, fresh-held}
 use Rattle.laws.specs.Alone.{AfterTick, tick-keeps}
 use Rattle.laws.specs.PairDrivers.{Same}
 

@@ -16,8 +16,8 @@ use Rattle.rules.specs.Kinds.{is}
 use Rattle.rules.specs.Tree.{Tree, node, size}
 use Rattle.rules.specs.Outcome.{dt, World, world, Out, done, asks, short, _▸_}
 use Rattle.rules.specs.State.{rule, tick}
-use Rattle.calls.specs.Shape.{Shape, shp, Shapes, shape, shapes, sizeOf, size-of, depthOf, depthsOf}
-use Rattle.calls.specs.Shape
+use Rattle.laws.specs.Shape.{Shape, shp, Shapes, shape, shapes, sizeOf, size-of, depthOf, depthsOf}
+use Rattle.laws.specs.Shape
 use Rattle.laws.specs.Alone.{max-left, max-right}
 use Rattle.laws.specs.Live.{Live, any-time, Right, Rights}
 use Rattle.laws.specs.LiveTicks.{fuelIn}

@@ -11,9 +11,9 @@ use Rattle.rules.specs.Tree.{Tree, node, Forest, [], _∷_, size}
 use Rattle.rules.specs.Outcome.{world, Out, done, asks, short}
 use Rattle.rules.specs.Table.{mostDeep, good, table}
 use Rattle.rules.specs.Call.{Given, Left, answers, cleanedEvent, walked}
-use Rattle.calls.specs.Shape.{shape, shapes, size-shape, depth-of}
-use Rattle.calls.specs.Tables.{tabled, one-tree}
-use Rattle.calls.specs.View.{Call, leftBy, heldBy, startOf, walk, start-shape, Why, View, walking, refusing, view}
+use Rattle.laws.specs.Shape.{shape, shapes, size-shape, depth-of}
+use Rattle.laws.specs.Tables.{tabled, one-tree}
+use Rattle.laws.specs.View.{Call, leftBy, heldBy, startOf, walk, start-shape, Why, View, walking, refusing, view}
 use Rattle.laws.specs.Fuel.{noLoop, NoLoops, NoLoopsIn, Plain, never-short}
 use Rattle.laws.specs.Live.{tabled-right}
 use Rattle.laws.specs.CellsGood.{live-of}

@@ -8,7 +8,7 @@ use Rattle.rules.specs.Tree.{Tree}
 use Rattle.rules.specs.Outcome.{world, Out, done, asks, short}
 use Rattle.rules.specs.Table.{good, table}
 use Rattle.rules.specs.Call.{Given, Left, left, spared, walked, refused, restartCall}
-use Rattle.calls.specs.View.{Call, restarts, leftBy, heldBy, walk, NotWalked, Why, not-walked, View, walking, refusing, view}
+use Rattle.laws.specs.View.{Call, restarts, leftBy, heldBy, walk, NotWalked, Why, not-walked, View, walking, refusing, view}
 
 -- by the answer: 0 leaves what the rules say; 7 and 1 all but the spare; any other all
 abbrev pub Leaves : Given → Left → Answer → Type 0

@@ -1,3 +1,15 @@
+pub mod Shape
+pub mod Memory
+pub mod Tables
+pub mod Tests
+pub mod Listed
+pub mod View
+pub mod Walks
+pub mod History
+pub mod Fresh
+pub mod Invariant
+pub mod Zeros
+pub mod Sinces
 pub mod Pair
 pub mod PairDrivers
 pub mod PairLoops

@@ -11,10 +11,10 @@ use Rattle.rules.specs.Kinds.{timed, marksChildren, children}
 use Rattle.rules.specs.Tree.{zeroTime, Cell, Tree, node, Forest, [], _∷_, fresh, freshAll, marked, mark}
 use Rattle.rules.specs.Table.{zeroBits, countAllowed, limitAllowed}
 use Rattle.rules.specs.Cells.{elapsed, lastPlace, cellAllowed, endedIn}
-use Rattle.calls.specs.Shape.{Shape, shp, Shapes, shape, shapes, countOf, count-of, fresh-unmarked}
-use Rattle.calls.specs.Shape
-use Rattle.calls.specs.Memory.{clear, clearAll, clear-marked}
-use Rattle.calls.specs.Tables.{Tabled, Tableds}
+use Rattle.laws.specs.Shape.{Shape, shp, Shapes, shape, shapes, countOf, count-of, fresh-unmarked}
+use Rattle.laws.specs.Shape
+use Rattle.laws.specs.Memory.{clear, clearAll, clear-marked}
+use Rattle.laws.specs.Tables.{Tabled, Tableds}
 use Rattle.laws.specs.Fine.{Fine, Fines}
 
 -- a child that has ended, as the cell check has it: marked, and all else fresh

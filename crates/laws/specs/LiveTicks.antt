@@ -13,8 +13,8 @@ use Rattle.rules.specs.Tree.{Tree, node}
 use Rattle.rules.specs.Outcome.{dt, World, world, Out, done, asks, short, _▸_}
 use Rattle.rules.specs.State.{rule, tick}
 use Rattle.rules.specs.Cells.{elapsed}
-use Rattle.calls.specs.Shape.{Shapes, shape, shapes, sizeOf}
-use Rattle.calls.specs.Shape
+use Rattle.laws.specs.Shape.{Shapes, shape, shapes, sizeOf}
+use Rattle.laws.specs.Shape
 use Rattle.laws.specs.Elapsed.{add-elapsed, sub-elapsed, number-elapsed, smaller-elapsed, largest-elapsed}
 use Rattle.laws.specs.Live.{Live, Right, Rights}
 use Rattle.laws.specs.Pair.{Terms, Pairing, Sim, goes, ends}

@@ -10,7 +10,7 @@ use Rattle.rules.specs.declared.event.Event.{Event}
 use Rattle.rules.specs.Tree.{Cell, Tree, node, Forest, [], _∷_}
 use Rattle.rules.specs.Outcome.{dt, World, world, Out, done, asks, short, Ticker, _▸_}
 use Rattle.rules.specs.State.{rule, tick}
-use Rattle.calls.specs.Shape.{shape, shapes, sizeOf}
+use Rattle.laws.specs.Shape.{shape, shapes, sizeOf}
 use mathlib.Core.List.{_++_}
 use native.Mathlib.Nat.{suc-add}
 use native.Mathlib.Omega.{arith}

@@ -16,11 +16,11 @@ use Rattle.rules.specs.State.{rule, tick}
 use Rattle.rules.specs.Table.{mostDeep, good, table}
 use Rattle.rules.specs.Cells.{elapsed}
 use Rattle.rules.specs.Call.{Left, answers, cleanedEvent, walked}
-use Rattle.calls.specs.Shape.{Shape, Shapes, shape, shapes, sizeOf, depthOf, depthsOf, depth-of}
-use Rattle.calls.specs.Shape
-use Rattle.calls.specs.Tables.{tabled}
-use Rattle.calls.specs.View.{Call, leftBy, heldBy, startOf, walk, start-shape, Walked, Why, View, walking, refusing, view}
-use Rattle.calls.specs.Walks.{walks}
+use Rattle.laws.specs.Shape.{Shape, Shapes, shape, shapes, sizeOf, depthOf, depthsOf, depth-of}
+use Rattle.laws.specs.Shape
+use Rattle.laws.specs.Tables.{tabled}
+use Rattle.laws.specs.View.{Call, leftBy, heldBy, startOf, walk, start-shape, Walked, Why, View, walking, refusing, view}
+use Rattle.laws.specs.Walks.{walks}
 use Rattle.laws.specs.Pair.{Pairing, Sim, goes, ends}
 use Rattle.laws.specs.PairDrivers.{Each, Visited, Alike}
 use Rattle.laws.specs.PairRules.{rule-with, leave, visit-pair}

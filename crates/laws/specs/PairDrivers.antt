@@ -13,8 +13,8 @@ use Rattle.rules.specs.Tree.{zeroTime, Tree, Forest, [], _∷_, fresh, freshAll
 use Rattle.rules.specs.Outcome.{dt, rest, Out, Ticker, exchanging, largest, smaller}
 use Rattle.rules.specs.Sequence.{sequenceFrom, sequenceAt, memoryless}
 use Rattle.rules.specs.WhenAll.{whenAllFrom, whenAll, raceFrom, afterFrom, afterAt}
-use Rattle.calls.specs.Shape.{Shape, Shapes, shape, shapes, sizeOf, sizesOf, fresh-shape, fresh-shapes, mark-shape, mark-marked}
-use Rattle.calls.specs.Shape
+use Rattle.laws.specs.Shape.{Shape, Shapes, shape, shapes, sizeOf, sizesOf, fresh-shape, fresh-shapes, mark-shape, mark-marked}
+use Rattle.laws.specs.Shape
 use Rattle.laws.specs.Pair.{Pairing, Known, Time, from, from-both, Of, Sim, Both, up, weak, stay, then, after, either}
 use Rattle.laws.specs.Live.{choose, Ended, LiveBy, LivesBy, MarksBy, live-unmarked, fresh-live-by, fresh-lives-by, fresh-ended}
 

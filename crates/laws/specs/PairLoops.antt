@@ -14,7 +14,7 @@ use Rattle.rules.specs.Tree.{Tree, Forest, [], _∷_, count}
 use Rattle.rules.specs.Outcome.{dt, rest, Ticker}
 use Rattle.rules.specs.Loops.{put, freshAt, next, moved, childAt, whileBody, whileAll}
 use Rattle.rules.specs.State.{ifAt}
-use Rattle.calls.specs.Shape.{Shape, shape, shapes, sizeOf, sizesOf, fresh-shape, moved-shapes, count-shape}
+use Rattle.laws.specs.Shape.{Shape, shape, shapes, sizeOf, sizesOf, fresh-shape, moved-shapes, count-shape}
 use Rattle.laws.specs.Live.{fresh-live-by}
 use Rattle.laws.specs.Pair.{Pairing, Known, Time, from, from-both, Of, Both, up, weak, stay, cut, then, after}
 use Rattle.laws.specs.PairDrivers.{join, Each, Livelies, fresh-lively, KeptAt, Alike, rest-time, visit, visit-fresh}

@@ -21,8 +21,8 @@ use Rattle.rules.specs.Loops.{whileBody, whileAll}
 use Rattle.rules.specs.State.{Next, atPlace, inCell, only, rule}
 use Rattle.rules.specs.Table.{countAllowed, limitAllowed}
 use Rattle.rules.specs.Cells.{lastPlace}
-use Rattle.calls.specs.Shape.{Shape, shape, shapes, shp, sizeOf, sizesOf, countOf, count-of}
-use Rattle.calls.specs.Tables.{at-least}
+use Rattle.laws.specs.Shape.{Shape, shape, shapes, shp, sizeOf, sizesOf, countOf, count-of}
+use Rattle.laws.specs.Tables.{at-least}
 use Rattle.laws.specs.Live.{choose, LiveCellBy}
 use Rattle.laws.specs.Pair.{Pairing, Known, Time, from, from-both, Of, Sim, Both, back, up, spent, weak, stay, cut, then, after, either}
 use Rattle.laws.specs.PairDrivers.{join, Each, Livelies, Marked, Visited, KeptAt, Alike, exchanging-alike, visit, race-pair, seq-pair, mem-pair, all-pair, after-pair}

@@ -19,9 +19,9 @@ use Rattle.rules.specs.Codes.{kind-code}
 use Rattle.rules.specs.Tree.{Cell, Tree, node, Forest, [], _∷_, fresh, freshAll, size, sizes, depth, depths, count}
 use Rattle.rules.specs.Table.{mostNodes, mostDeep, cleaned, Row, row, rows, countAllowed, limitAllowed, rowAllowed, Read, got, fault, _andThen_, readChildren, readTree, Table, good, bad, whole, table}
 use Rattle.rules.specs.Exchange.{listed, listedAll, codeIn, numberIn, limitIn}
-use Rattle.calls.specs.Memory.{clear, clearAll}
-use Rattle.calls.specs.Tables.{renewed}
-use Rattle.calls.specs.Listed.{take-listed}
+use Rattle.laws.specs.Memory.{clear, clearAll}
+use Rattle.laws.specs.Tables.{renewed}
+use Rattle.laws.specs.Listed.{take-listed}
 
 code-low : (k : Kind) → leb (code k) 16 ≡ true
 code-low Wait = refl

@@ -13,9 +13,9 @@ use Rattle.rules.specs.Kinds.{timed, marksChildren}
 use Rattle.rules.specs.Tree.{Cell, newCell, Tree, node, Forest, [], _∷_, size, count}
 use Rattle.rules.specs.Cells.{cells, withCells, withCellsAll, lastPlace, cellAllowed, endedIn}
 use Rattle.rules.specs.Exchange.{replaced, replacedIn}
-use Rattle.calls.specs.Memory.{clear, clearAll}
-use Rattle.calls.specs.Tables.{Tabled, Tableds}
-use Rattle.calls.specs.Tests.{below-or-not}
+use Rattle.laws.specs.Memory.{clear, clearAll}
+use Rattle.laws.specs.Tables.{Tabled, Tableds}
+use Rattle.laws.specs.Tests.{below-or-not}
 use Rattle.laws.specs.Fine.{Fine, Fines}
 use Rattle.laws.specs.ReadBack.{Sound, Sounds}
 

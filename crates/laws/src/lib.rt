@@ -1,1 +1,1 @@
-// What holds of every walk of the rules and of every call: the theorems stand in specs/.
+// What holds of every walk of the rules, of every call, and from one call to the next: the theorems stand in specs/.

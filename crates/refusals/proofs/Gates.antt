@@ -18,10 +18,10 @@ use Rattle.rules.specs.Tree.{Tree, fresh, size}
 use Rattle.rules.specs.Cells.{Found, faulty, none, badCell}
 use Rattle.rules.specs.Call.{Given, Left, runLength, badAnswer, cleanedEvent, timeAllowed, refused, walked, tooShort, onTable, onInputs, atEntry, walkFrom, tickCall, restartCall}
 use Rattle.rules.specs.Levels.{Levels, flatLeft, entries, cleared, ofWalk, noRoom, withRoom}
-use Rattle.calls.specs.Tables.{tabled, fresh-fine}
-use Rattle.calls.specs.Fresh.{made-fresh}
-use Rattle.calls.specs.Memory.{held}
-use Rattle.calls.specs.Zeros.{withEvent, same-event, same-walk}
+use Rattle.laws.specs.Tables.{tabled, fresh-fine}
+use Rattle.laws.specs.Fresh.{made-fresh}
+use Rattle.laws.specs.Memory.{held}
+use Rattle.laws.specs.Zeros.{withEvent, same-event, same-walk}
 use Rattle.tables.specs.declared.number.Number.{Number}
 use Rattle.tables.specs.declared.number.Number.the-variants as number
 use Rattle.tables.specs.declared.answers.Answered.{Answered}

@@ -16,8 +16,8 @@ use Rattle.rules.specs.Table.{mostDeep, Table, good, bad, rows, table}
 use Rattle.rules.specs.Cells.{cells, withCells, none, badCell}
 use Rattle.rules.specs.Call.{Run, Given, Left, runLength, answers, cleanedEvent, timeAllowed, refused, walked, tickCall, restartCall}
 use Rattle.rules.specs.Levels.{Levels, FlatLeft, flatLeft, entries, withRoom}
-use Rattle.calls.specs.Memory.{held}
-use Rattle.calls.specs.Zeros.{withEvent}
+use Rattle.laws.specs.Memory.{held}
+use Rattle.laws.specs.Zeros.{withEvent}
 use Rattle.tables.specs.At.{At}
 use Rattle.cells.specs.Long.{Long}
 use Rattle.load.specs.Load.{loadWords}

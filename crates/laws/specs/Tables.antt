@@ -13,7 +13,7 @@ use Rattle.rules.specs.Kinds.{kindOf, children, fewest, most, timed, marksChild
 use Rattle.rules.specs.Tree.{freshCell, newCell, Tree, node, Forest, [], _∷_, fresh, freshAll, depth, depths, count}
 use Rattle.rules.specs.Table.{mostNodes, mostDeep, Row, row, rows, countAllowed, limitAllowed, rowAllowed, Read, got, fault, _andThen_, readChildren, readTree, Table, good, bad, whole, table}
 use Rattle.rules.specs.Cells.{lastPlace, cellAllowed, Found, faulty, none, badCell, badCells}
-use Rattle.calls.specs.Memory.{clear, clearAll}
+use Rattle.laws.specs.Memory.{clear, clearAll}
 use Rattle.rules.specs.declared.behavior.Kind.{Kind}
 
 abbrev mutual

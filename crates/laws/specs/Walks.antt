@@ -9,8 +9,8 @@ use Rattle.rules.specs.Tree.{Tree, size}
 use Rattle.rules.specs.Table.{Table, good, bad, table}
 use Rattle.rules.specs.Cells.{Found, faulty, none, badCell}
 use Rattle.rules.specs.Call.{Left, tooShort}
-use Rattle.calls.specs.Tables.{one-tree}
-use Rattle.calls.specs.View.{Call, leftBy, heldBy, walkedBy, Walked, Why, View, walking, refusing, view}
+use Rattle.laws.specs.Tables.{one-tree}
+use Rattle.laws.specs.View.{Call, leftBy, heldBy, walkedBy, Walked, Why, View, walking, refusing, view}
 
 abbrev IsGood : Table → Type 0
 IsGood (good t) = Unit {0}

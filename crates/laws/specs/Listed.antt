@@ -11,7 +11,7 @@ use lib.Seq.{take-append-add, drop-append-add, drop-at, take-at}
 use Rattle.rules.specs.declared.behavior.Kind.{Kind}
 use Rattle.rules.specs.Tree.{Cell, Tree, node, Forest, [], _∷_, size, sizes}
 use Rattle.rules.specs.Exchange.{replaced, replacedIn, sizeAt, sizeIn, listed, listedAll}
-use Rattle.calls.specs.Tests.{below-or-not}
+use Rattle.laws.specs.Tests.{below-or-not}
 
 module _ {A : Type 0} (field : Kind → ℕ → Float → Cell → A) where
   mutual

@@ -10,8 +10,8 @@ use Rattle.rules.specs.Tree.{Cell, freshCell, newCell, Tree, node, Forest, [], 
 use Rattle.rules.specs.Table.{good, table}
 use Rattle.rules.specs.Cells.{withCells, withCellsAll}
 use Rattle.rules.specs.Call.{Run}
-use Rattle.calls.specs.Memory.{held, firstCells, first-held}
-use Rattle.calls.specs.Tables.{Tabled, Tableds, tabled}
+use Rattle.laws.specs.Memory.{held, firstCells, first-held}
+use Rattle.laws.specs.Tables.{Tabled, Tableds, tabled}
 
 abbrev pub AllFresh : List Cell → Type 0
 AllFresh List.[] = Unit {0}

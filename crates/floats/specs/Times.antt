@@ -16,7 +16,7 @@ use borrow.Author.Tests.{lt-ltb, leb-true, leb-false}
 use Rattle.rules.specs.Tree.{zeroTime}
 use Rattle.rules.specs.Outcome.{smaller, largest}
 use Rattle.rules.specs.Bound.{cap, num, wholeTime}
-use Rattle.whole.specs.Values.{add-val, sub-val, order-val}
+use Rattle.floats.specs.Values.{add-val, sub-val, order-val}
 
 pub cap-fits : (F : Format) → cap F + cap F ≤ 2 ^ prec F
 cap-fits binary32 = lit≤ tt

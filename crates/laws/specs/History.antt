@@ -14,8 +14,8 @@ use Rattle.rules.specs.declared.answer.Record.{Record}
 use Rattle.rules.specs.Tree.{Tree, size}
 use Rattle.rules.specs.Table.{good, table}
 use Rattle.rules.specs.Call.{Run, Given, Left, runLength, tooShort}
-use Rattle.calls.specs.Memory.{held, firstCells, held-first}
-use Rattle.calls.specs.View.{Call, leftBy, heldBy, NotWalked}
+use Rattle.laws.specs.Memory.{held, firstCells, held-first}
+use Rattle.laws.specs.View.{Call, leftBy, heldBy, NotWalked}
 
 -- ---- answer 0
 abbrev pub isTicked : Answer → Bool

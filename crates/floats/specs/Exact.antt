@@ -7,7 +7,7 @@ use lib.Dec.{T, leb}
 use lib.Ieee.{Float, Format, add, sub, le}
 use lib.Ieee.Exact.{HasValue}
 use Rattle.rules.specs.Bound.{num, wholeTime}
-use Rattle.whole.specs.Times.{cap-fits, W, whole-W, val-num, add-W, sub-W, le-W}
+use Rattle.floats.specs.Times.{cap-fits, W, whole-W, val-num, add-W, sub-W, le-W}
 
 module _ (F : Format) (x y : Float) (wx : T (wholeTime F x)) (wy : T (wholeTime F y)) where
   -- the sum has the value of the sum: nothing is rounded

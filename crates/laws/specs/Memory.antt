@@ -10,8 +10,8 @@ use lib.Ieee.{Float}
 use Rattle.rules.specs.Tree.{Cell, Tree, node, Forest, [], _∷_, size, sizes, marked}
 use Rattle.rules.specs.Cells.{cellOf, cells, withCells, withCellsAll, column, columns, timeOf, placeOf, markOf}
 use Rattle.rules.specs.Call.{Run, ontoRun}
-use Rattle.calls.specs.Shape.{Shape, shp, Shapes, shape, shapes}
-use Rattle.calls.specs.Shape
+use Rattle.laws.specs.Shape.{Shape, shp, Shapes, shape, shapes}
+use Rattle.laws.specs.Shape
 
 -- a cell as it is lent, and a tree between two ticks: its board is cleared, and no tick has made it fresh
 abbrev lentCell : Cell → ℕ → Cell

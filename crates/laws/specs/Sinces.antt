@@ -19,7 +19,7 @@ use Rattle.rules.specs.Board.{shown}
 use Rattle.rules.specs.Cells.{column, timeOf, placeOf, markOf, anewOf, Found, faulty, none, badCell}
 use Rattle.rules.specs.Call.{Run, run, Given, given, Left, left, answers, badAnswer, timeAllowed, ontoRun, stamped, ontoBoard, counted, sinceIn, spared, refused, walked, tooShort}
 use Rattle.rules.specs.Call.{onTable, onInputs, atEntry, walkFrom, tickCall, restartCall}
-use Rattle.calls.specs.View.{Call, leftBy}
+use Rattle.laws.specs.View.{Call, leftBy}
 
 -- ---- all but the numbers, of which it is known how many there are
 abbrev pub unnumbered : Run → Run

@@ -12,10 +12,10 @@ use Rattle.rules.specs.declared.status.Status.the-variants.{Running, Success, F
 use Rattle.rules.specs.Tree.{Tree, fresh}
 use Rattle.rules.specs.Outcome.{World, world, Out, done, asks, short}
 use Rattle.rules.specs.Call.{Run, Given, Left, counted, ontoRun, sinceIn, walked, walkFrom, restartCall}
-use Rattle.calls.specs.Shape.{shape}
-use Rattle.calls.specs.Memory.{clear, held, held-onto}
-use Rattle.calls.specs.View.{Call, restarts, leftBy, heldBy, startOf, walk, Walked, not-walked, View, walking, refusing, view}
-use Rattle.calls.specs.History.{isTicked, not-ticked, OfTicked, Standing, stands, behind, afterLeft, after, afterAll, TakesUp, same-tree}
+use Rattle.laws.specs.Shape.{shape}
+use Rattle.laws.specs.Memory.{clear, held, held-onto}
+use Rattle.laws.specs.View.{Call, restarts, leftBy, heldBy, startOf, walk, Walked, not-walked, View, walking, refusing, view}
+use Rattle.laws.specs.History.{isTicked, not-ticked, OfTicked, Standing, stands, behind, afterLeft, after, afterAll, TakesUp, same-tree}
 
 -- what a walk that started with a tree of the shape of t leaves: its shape, and P or E
 abbrev pub After : Tree → (Tree → ℕ → Type 0) → (ℕ → Type 0) → ℕ → Out Tree → Type 0

@@ -12,9 +12,9 @@ use Rattle.rules.specs.Outcome.{Out}
 use Rattle.rules.specs.Table.{Table, good, bad, table}
 use Rattle.rules.specs.Cells.{Found, faulty, none, badCell}
 use Rattle.rules.specs.Call.{Given, Left, badAnswer, timeAllowed, refused, walked, tooShort, onTable, onInputs, walkFrom, tickCall, restartCall}
-use Rattle.calls.specs.Shape.{shape, fresh-shape}
-use Rattle.calls.specs.Memory.{held, held-shape}
-use Rattle.calls.specs.Tables.{fresh-fine}
+use Rattle.laws.specs.Shape.{shape, fresh-shape}
+use Rattle.laws.specs.Memory.{held, held-shape}
+use Rattle.laws.specs.Tables.{fresh-fine}
 
 -- a tick or, with a tree that starts fresh, a restart; and all that it is given
 pub record Call : Type 0 where
