@@ -34,7 +34,7 @@ FAULTS = [
     ),
     (
         "an Action's (Running, 7) becomes (Running, 0)",
-        "work/src/leaves.rt",
+        "leaves/src/lib.rt",
         "left: leftover,",
         "left: if statuses[at] == 1 { 0.0 } else { leftover },",
     ),

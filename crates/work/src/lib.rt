@@ -1,8 +1,5 @@
-// The working array of a tick, what is read and written there, and the rules of the nodes that visit
-// no other: leaves, and decorators once their child has given a result. specs/ has the tick over it.
+// The working array of a tick, what is read and written there, and how a driver moves on. specs/ has the tick over it.
 mod array;
-mod decorator;
-mod leaves;
 mod moves;
 mod result;
 mod word;
@@ -14,14 +11,14 @@ pub use array::USED;
 pub use array::child;
 pub use array::end_of;
 pub use array::fresh;
+pub use array::number_at;
 pub use array::passed;
 pub use array::put_mark;
 pub use array::put_place;
 pub use array::put_seen;
+pub use array::put_time;
+pub use array::time_at;
 pub use array::updates;
-pub use decorator::decorated;
-pub use leaves::leaf;
-pub use leaves::visit_leaf;
 pub use moves::choice;
 pub use moves::choose;
 pub use moves::decorates;

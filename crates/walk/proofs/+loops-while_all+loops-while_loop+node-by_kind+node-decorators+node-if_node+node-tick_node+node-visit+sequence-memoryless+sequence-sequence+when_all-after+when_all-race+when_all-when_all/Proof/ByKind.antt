@@ -13,7 +13,7 @@ use Rattle.walk.proofs.sequence.sequence.Reads as sequence
 use Rattle.walk.proofs.when_all.after.Reads as after
 use Rattle.walk.proofs.when_all.race.Reads as race
 use Rattle.walk.proofs.when_all.when_all.Reads as when-all
-use Rattle.work.proofs.leaf.Reads as leaf
+use Rattle.leaves.proofs.leaf.Reads as leaf
 use Rattle.work.proofs.exchanges.Reads as exchanges
 use Rattle.walk.proofs.+loops-while_all+loops-while_loop+node-by_kind+node-decorators+node-if_node+node-tick_node+node-visit+sequence-memoryless+sequence-sequence+when_all-after+when_all-race+when_all-when_all as cycle
 use cycle.Lts-node-by_kind as lts

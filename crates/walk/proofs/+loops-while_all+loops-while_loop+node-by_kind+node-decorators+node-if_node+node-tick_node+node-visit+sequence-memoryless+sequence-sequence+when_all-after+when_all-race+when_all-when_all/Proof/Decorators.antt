@@ -13,7 +13,7 @@ use Rattle.walk.proofs.NodeLaws as node-law
 use Rattle.walk.proofs.node.decorators.Reads as own
 use Rattle.walk.proofs.node.visit.Reads as visit
 use Rattle.work.proofs.put_seen.Reads as put-seen
-use Rattle.work.proofs.decorated.Reads as decorated
+use Rattle.leaves.proofs.decorated.Reads as decorated
 use Rattle.work.proofs.decorates.Reads as decorates
 use Rattle.work.proofs.stopped.Reads as stopped
 use Rattle.work.proofs.kind_of.Reads as kind-of

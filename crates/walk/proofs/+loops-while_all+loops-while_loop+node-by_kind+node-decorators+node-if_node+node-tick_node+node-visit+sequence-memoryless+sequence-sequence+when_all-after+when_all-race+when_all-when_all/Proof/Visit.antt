@@ -6,7 +6,7 @@ use borrow.Author.Needs.{needs}
 use Rattle.work.proofs.VisitLaws as law
 use Rattle.walk.proofs.node.tick_node.Reads as tick-node
 use Rattle.walk.proofs.node.visit.Reads as own
-use Rattle.work.proofs.visit_leaf.Reads as visit-leaf
+use Rattle.leaves.proofs.visit_leaf.Reads as visit-leaf
 use Rattle.work.proofs.is_leaf.Reads as is-leaf
 use Rattle.work.proofs.kind_of.Reads as kind-of
 use Rattle.walk.proofs.+loops-while_all+loops-while_loop+node-by_kind+node-decorators+node-if_node+node-tick_node+node-visit+sequence-memoryless+sequence-sequence+when_all-after+when_all-race+when_all-when_all as cycle

@@ -1,10 +1,10 @@
 -- No fuel, a stop, and a status that goes onto the board.
 use borrow.Author.Tests.{ne-eqb}
 use Rattle.work.specs.Flat.{visitLeaf}
 use Rattle.work.proofs.Laws.{seen-told}
 use borrow.Author.Needs.{needs}
-use Rattle.work.proofs.leaves.visit_leaf.Statement.{statement}
-use Rattle.work.proofs.leaves.visit_leaf.Tie as tie
+use Rattle.leaves.proofs.visit_leaf.Statement.{statement}
+use Rattle.leaves.proofs.visit_leaf.Tie as tie
 
 returns : tie.Need-returns
 unfolding visitLeaf

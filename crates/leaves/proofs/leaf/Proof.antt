@@ -6,10 +6,10 @@ use Prim.Native.Nat.{ℕ}
 use Rattle.rules.specs.declared.behavior.Kind.the-variants.{Wait, Action}
 use Rattle.rules.specs.Kinds.{kindOf, is}
 use Rattle.rules.proofs.Arms.{arm}
 use Rattle.work.specs.Flat.{leaf}
 use borrow.Author.Needs.{needs}
-use Rattle.work.proofs.leaves.leaf.Statement.{statement}
-use Rattle.work.proofs.leaves.leaf.Tie as tie
+use Rattle.leaves.proofs.leaf.Statement.{statement}
+use Rattle.leaves.proofs.leaf.Tie as tie
 
 -- the kinds of the last arm
 abbrev others : List ℕ

@@ -9,15 +9,15 @@ use Rattle.rules.specs.declared.behavior.Kind.{Kind}
 use Rattle.rules.specs.declared.behavior.Kind.the-variants.{Invert, Timeout}
 use Rattle.rules.specs.Kinds.{kindOf, is}
 use Rattle.rules.proofs.Arms.{arm}
 use Rattle.work.specs.declared.result.Seen.{Seen}
 use Rattle.work.specs.declared.result.Seen.the-variants.{Stopped, Running, Success, Failure}
 use Rattle.work.specs.Word.{kindIn}
 use Rattle.work.specs.Array.{wordAt}
 use Rattle.work.specs.Flat.{Lent, lent, out, andThen, turned, succeeded, decorated}
 use Rattle.work.proofs.Laws.{Among}
 use borrow.Author.Needs.{needs}
-use Rattle.work.proofs.decorator.decorated.Statement.{statement}
-use Rattle.work.proofs.decorator.decorated.Tie as tie
+use Rattle.leaves.proofs.decorator.decorated.Statement.{statement}
+use Rattle.leaves.proofs.decorator.decorated.Tie as tie
 
 -- the kinds of the last arm
 abbrev others : List ℕ

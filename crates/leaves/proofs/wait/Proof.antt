@@ -1,9 +1,9 @@
 -- An other event, and the two sides of the test.
 use borrow.Author.Tests.{not-true, not-false}
 use Rattle.work.specs.Flat.{wait}
 use borrow.Author.Needs.{needs}
-use Rattle.work.proofs.leaves.wait.Statement.{statement}
-use Rattle.work.proofs.leaves.wait.Tie as tie
+use Rattle.leaves.proofs.wait.Statement.{statement}
+use Rattle.leaves.proofs.wait.Tie as tie
 
 returns : tie.Need-returns
 unfolding wait

@@ -1,18 +1,18 @@
 // Decorators: Invert, AlwaysSucceed and Timeout, each once its child has given a result.
-use crate::array::number_at;
-use crate::array::passed;
-use crate::array::put_time;
-use crate::array::time_at;
-use crate::result::Result;
-use crate::result::Seen;
-use crate::result::waiting;
-use crate::word::kind_of;
 use rules::Kind;
+use work::Result;
+use work::Seen;
+use work::kind_of;
+use work::number_at;
+use work::passed;
+use work::put_time;
+use work::time_at;
+use work::waiting;
 ghost use mathlib.Core.Path.{_≡_};
 ghost use mathlib.Core.List.{List};
 ghost use Prim.Native.Nat.{ℕ, _<_};
 ghost use lib.Ieee.{Float, binary64};
 ghost use Rattle.work.specs.Flat.{out, lent, andThen, timesOut, decorated};
 
 // The time goes on while the child is Running.
 fn timed(work: &[u32; 260], limits: &&[f64], times: &mut [f64], p: usize, dt: f64) -> Result

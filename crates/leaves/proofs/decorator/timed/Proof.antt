@@ -1,8 +1,8 @@
 -- The two sides of the test.
 use Rattle.work.specs.Flat.{timesOut}
 use borrow.Author.Needs.{needs}
-use Rattle.work.proofs.decorator.timed.Statement.{statement}
-use Rattle.work.proofs.decorator.timed.Tie as tie
+use Rattle.leaves.proofs.decorator.timed.Statement.{statement}
+use Rattle.leaves.proofs.decorator.timed.Tie as tie
 
 returns : tie.Need-returns
 unfolding timesOut

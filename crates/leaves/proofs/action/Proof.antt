@@ -9,11 +9,11 @@ use lib.ListN.{length}
 use borrow.Author.Tests.{lt-ltb, le-ltb}
 use Rattle.rules.specs.Tree.{zeroTime}
 use Rattle.rules.specs.Table.{cleaned}
 use Rattle.work.specs.Flat.{action}
 use Rattle.work.proofs.Laws.{any-default}
 use borrow.Author.Needs.{needs}
-use Rattle.work.proofs.leaves.action.Statement.{statement}
-use Rattle.work.proofs.leaves.action.Tie as tie
+use Rattle.leaves.proofs.action.Statement.{statement}
+use Rattle.leaves.proofs.action.Tie as tie
 
 returns : tie.Need-returns
 unfolding action

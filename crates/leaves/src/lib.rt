@@ -1,24 +1,27 @@
-// Leaves: Wait, WaitForever and Action.
-use crate::array::ASKED;
-use crate::array::FUEL;
-use crate::array::USED;
-use crate::array::number_at;
-use crate::array::passed;
-use crate::array::put_seen;
-use crate::array::put_time;
-use crate::array::time_at;
-use crate::array::updates;
-use crate::result::Result;
-use crate::result::Seen;
-use crate::result::stopped;
-use crate::result::waiting;
+// The rules of the nodes that visit no other: leaves, and decorators once their child has given a result.
+mod decorator;
+
+pub use decorator::decorated;
 use rules::Kind;
 use rules::cleaned;
+use work::ASKED;
+use work::FUEL;
+use work::Result;
+use work::Seen;
+use work::USED;
+use work::number_at;
+use work::passed;
+use work::put_seen;
+use work::put_time;
+use work::stopped;
+use work::time_at;
+use work::updates;
+use work::waiting;
 ghost use mathlib.Core.Path.{_≡_};
 ghost use mathlib.Core.List.{List};
 ghost use Prim.Native.Nat.{ℕ, _<_};
 ghost use lib.Ieee.{Float, binary64};
 ghost use Rattle.work.specs.Flat.{out, lent, wait, action, leaf, visitLeaf};
 
 fn wait(work: &[u32; 260], limits: &&[f64], times: &mut [f64], p: usize, dt: f64) -> Result
     requires { ⌜ p < 256 ⌝ }
