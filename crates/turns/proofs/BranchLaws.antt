@@ -10,7 +10,7 @@ use Rattle.work.specs.declared.result.Seen.{Seen}
 use Rattle.work.specs.declared.result.Seen.the-variants.{Stopped, Running, Success, Failure}
 use Rattle.work.specs.Word.{placeOf}
 use Rattle.work.specs.Array.{wordAt, endOf, childFrom, decidedWords, chosenWords, chosenTimes}
-use Rattle.work.specs.Flat.{Out, out, Visitor, andThen, choiceOf, ifOn, branch, chosen, ifNode}
+use Rattle.work.specs.Flat.{out, Visitor, andThen, choiceOf, ifOn, branch, chosen, ifNode}
 use Rattle.turns.specs.declared.level.Level.{Level}
 use Rattle.turns.specs.Levels.{ifResumed}
 

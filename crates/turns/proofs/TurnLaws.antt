@@ -1,5 +1,5 @@
 -- A turn that is done, and one that is due; and where children stand.
-use mathlib.Core.Path.{_≡_, refl, ap, _∙_}
+use mathlib.Core.Path.{_≡_, ap, _∙_}
 use mathlib.Core.Bool.{Bool, true, false, cond}
 use mathlib.Core.List.{List}
 use Prim.Native.Nat.{ℕ, zero, suc, _+_, _-_, _≤_, _<_}
@@ -12,11 +12,11 @@ use Rattle.work.specs.declared.result.Result.{Result}
 use Rattle.work.specs.declared.result.Seen.{Seen}
 use Rattle.work.specs.Word.{belowOf}
 use Rattle.work.specs.Array.{wordAt, fuelOf, endOf, setPlace, freshWords, childFrom}
-use Rattle.work.specs.Flat.{Out, out, Visitor, turned}
+use Rattle.work.specs.Flat.{out, turned}
 use Rattle.work.proofs.VisitLaws.{turned-back}
 use Rattle.turns.specs.declared.level.Level.{Level}
 use Rattle.turns.specs.declared.level.Turn.{Turn}
-use Rattle.turns.specs.Levels.{Fine, Keeps, Resumed, goes, dueTurn, doneTurn}
+use Rattle.turns.specs.Levels.{Fine, Keeps, dueTurn, doneTurn}
 use Rattle.turns.proofs.FuelLaws.{fuel-set, fuel-fresh-to}
 
 -- ---- a node that is done, with the equation of its turn put in
@@ -76,6 +76,3 @@ fuel-placed ws ws₁ p i h e = rw e (fuel-set ws p _ h)
 
 pub fuel-freshed : (ws ws₁ : List ℕ) (q to : ℕ) → to ≤ 256 → ws₁ ≡ freshWords q (to - q) ws → fuelOf ws₁ ≡ fuelOf ws
 fuel-freshed ws ws₁ q to h e = rw e (fuel-fresh-to ws q to h)
-
-pub fuel-fresh-placed : (ws ws₁ ws₂ : List ℕ) (q to p i : ℕ) → to ≤ 256 → ws₁ ≡ freshWords q (to - q) ws → p < 256 → ws₂ ≡ setPlace ws₁ p i → fuelOf ws₂ ≡ fuelOf ws
-fuel-fresh-placed ws ws₁ ws₂ q to p i g f h e = fuel-placed ws₁ ws₂ p i h e ∙ fuel-freshed ws ws₁ q to g f

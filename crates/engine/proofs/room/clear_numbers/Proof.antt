@@ -1,6 +1,5 @@
 -- The entries before i are zero.
 use Prim.Native.Nat.{_-_}
-use native.Mathlib.Omega.{arith}
 use borrow.Author.Needs.{needs}
 use lib.Ieee.{ofBits}
 use Rattle.rules.specs.Tree.{zeroTime}

@@ -1,6 +1,5 @@
 -- The entries before i are zero.
 use Prim.Native.Nat.{_-_}
-use native.Mathlib.Omega.{arith}
 use borrow.Author.Needs.{needs}
 use Rattle.work.proofs.Filling.{Filling, filling-start, filling-more, filling-end}
 use Rattle.engine.proofs.room.clear_opens.Statement.{statement}

@@ -2,7 +2,7 @@
 use mathlib.Core.Path.{refl, sym, _∙_}
 use native.Mathlib.Omega.{arith}
 use borrow.Author.Tests.{not-true, not-false}
-use Rattle.turns.proofs.TurnLaws.{none, over, due-keeps, node-within, fuel-placed, fuel-freshed}
+use Rattle.turns.proofs.TurnLaws.{over, due-keeps, node-within, fuel-placed, fuel-freshed}
 use Rattle.turns.proofs.SequenceLaws as law
 use borrow.Author.Needs.{needs}
 use Rattle.turns.proofs.sequence.sequence_resumed.Statement.{statement}

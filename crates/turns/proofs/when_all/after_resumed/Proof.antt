@@ -1,6 +1,6 @@
 -- Each arm of the match, and the test of a success.
 use borrow.Author.Needs.{needs}
-use mathlib.Core.Path.{_≡_, refl, sym, _∙_}
+use mathlib.Core.Path.{refl, sym, _∙_}
 use borrow.Author.Tests.{not-true, not-false}
 use lib.Ieee.{ofBits}
 use Rattle.turns.proofs.TurnLaws.{none, over}

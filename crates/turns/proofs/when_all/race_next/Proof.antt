@@ -1,5 +1,5 @@
 -- The child that is due, or none.
-use mathlib.Core.Path.{_≡_, refl}
+use mathlib.Core.Path.{refl}
 use native.Mathlib.Omega.{arith}
 use borrow.Author.Needs.{needs}
 use Rattle.turns.proofs.TurnLaws.{none, over}

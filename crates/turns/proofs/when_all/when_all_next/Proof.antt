@@ -1,6 +1,6 @@
 -- The child that is due, or none: then whether each was marked.
 use borrow.Author.Needs.{needs}
-use mathlib.Core.Path.{_≡_, refl}
+use mathlib.Core.Path.{refl}
 use native.Mathlib.Omega.{arith}
 use Rattle.work.specs.Flat.{turning}
 use Rattle.turns.proofs.TurnLaws.{none, over}

@@ -1,6 +1,6 @@
 -- Each arm of the match.
 use borrow.Author.Needs.{needs}
-use mathlib.Core.Path.{_≡_, refl, sym, _∙_}
+use mathlib.Core.Path.{refl, sym, _∙_}
 use Rattle.turns.proofs.TurnLaws.{none, over}
 use Rattle.turns.proofs.WhenAllLaws.{when-ended, when-runs, when-succeeds, when-fuel}
 use Rattle.turns.proofs.when_all.when_all_resumed.Statement.{statement}
