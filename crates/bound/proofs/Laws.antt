@@ -23,7 +23,8 @@ use Rattle.limits.specs.declared.node.Join.{Join}
 use Rattle.limits.specs.declared.ticks.Ticks.{Ticks}
 use Rattle.limits.specs.Ticks.{lim, clipped}
 use Rattle.limits.specs.Node.{joinOf, noneL, joinL, joined, Alone, Together, rowBounded}
-use Rattle.bound.proofs.Joins.{onto, onto-all, clip-join}
+use Rattle.limits.proofs.Laws.{clip-join}
+use Rattle.bound.proofs.Joins.{onto, onto-all}
 use Rattle.bound.specs.Ready.{Stands, Stand, Room, Ready, Readys, after}
 
 pub and-first : (a b : Bool) → (a && b) ≡ true → a ≡ true

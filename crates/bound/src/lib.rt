@@ -9,6 +9,7 @@ use limits::together;
 use rules::BoundAnswer;
 use rules::Kind;
 use tables::Checked;
+use tables::MOST_DEEP;
 use tables::check_table;
 ghost use mathlib.Core.Path.{_≡_};
 ghost use mathlib.Core.List.{List};
@@ -100,7 +101,7 @@ pub fn finish_bound(kinds: &[u8], ns: &[u16], limits: &[f64], step: f64) -> Boun
     ensures { λ r. ⌜ r ≡ boundCall binary64 (now (kinds .entry)) (now (ns .entry)) (now (limits .entry)) step ⌝ }
 {
     let mut ends = [0u16; 256];
-    match check_table(kinds, ns, limits, &mut ends) {
+    match check_table(kinds, ns, limits, &mut ends, MOST_DEEP) {
         Checked::Bad(place) => BoundAnswer::BadTable(place),
         Checked::Good(count) => match Whole::of(step) {
             Whole::No => BoundAnswer::NoBound,

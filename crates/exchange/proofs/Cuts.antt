@@ -13,6 +13,7 @@ use Rattle.rules.specs.declared.behavior.Kind.{Kind}
 use Rattle.rules.specs.declared.exchanged.Exchanged.{Exchanged}
 use Rattle.rules.specs.declared.exchanged.Exchanged.the-variants.{Done, StateHeld, TooLarge, ShortRoom}
 use Rattle.rules.specs.Tree.{zeroTime, Cell, Tree, size, depth}
+use Rattle.rules.specs.Table.{table}
 use Rattle.rules.specs.Cells.{cells}
 use Rattle.rules.specs.Exchange.{Room, GivenExchange, leftExchange, notExchanged, free, replaced, sizeAt, written, replacing, exchangeCall, newSinces, ontoRoom, room, roomLength}
 use Rattle.rules.specs.Exchange.{listed, codeIn, numberIn, limitIn, timeIn, placeIn, markIn}
@@ -120,6 +121,7 @@ module _ {g : GivenExchange} {ends newEnds : List ℕ} {n m : ℕ} (d : Due g en
       (omega (arith, d .old .sized, d .in-times, d .in-places, d .in-marks))
 
   new : Each newEnds New 0 u
+  unfolding table
   new = fresh-stands (g .newKinds) (g .newNs) (g .newLimits) newEnds u 0 (d .new .stands) (tabled (g .newKinds) (g .newNs) (g .newLimits) u (d .new .is) .0)
 
   on-way : Stands (g .kinds) (g .ns) ends (g .cells' .places) (g .cells' .marks) t

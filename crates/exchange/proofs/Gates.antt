@@ -10,16 +10,12 @@ use lib.Ieee.{Float}
 use lib.ListN.{length}
 use Rattle.rules.specs.declared.exchanged.Exchanged.the-variants.{Finished, BadTable, BadBranch, TooShort, BadCell, NoNode}
 use Rattle.rules.specs.Tree.{Tree, size}
-use Rattle.rules.specs.Table.{Table, good, bad, table}
+use Rattle.rules.specs.Table.{mostDeep, bad, tableWithin}
 use Rattle.rules.specs.Cells.{cells, Found, faulty, none, badCell}
 use Rattle.rules.specs.Call.{Run, runLength}
 use Rattle.rules.specs.Exchange.{GivenExchange, notExchanged, replacing, onTrees, onBranch, exchangeCall}
 use Rattle.laws.specs.Shape.{size-shape}
 use Rattle.laws.specs.Memory.{held, held-shape}
-use Rattle.tables.specs.declared.table.Checked.{Checked}
-use Rattle.tables.specs.declared.table.Checked.the-variants as checked
-use Rattle.tables.specs.Checks.{checkedOf, Laid, Tabled}
-use Rattle.tables.proofs.Rows.{length-rows}
 use Rattle.cells.specs.declared.check.Found.{Found as Said}
 use Rattle.cells.specs.declared.check.Found.the-variants.{Faulty, Fine}
 use Rattle.tables.proofs.Good.{Good}
@@ -29,16 +25,16 @@ use Rattle.exchange.specs.Due.{Due}
 
 module _ (g : GivenExchange) where
   -- ---- 3
-  pub bad-table : (p : ℕ) → table (g .kinds) (g .ns) (g .limits) ≡ bad p → exchangeCall g ≡ notExchanged g (BadTable p)
+  pub bad-table : (p : ℕ) → tableWithin mostDeep (g .kinds) (g .ns) (g .limits) ≡ bad p → exchangeCall g ≡ notExchanged g (BadTable p)
   unfolding exchangeCall
   bad-table p e = rw (exchangeCall, e)
 
-  module _ {ends : List ℕ} {n : ℕ} (old : Good (g .kinds) (g .ns) (g .limits) ends n) where
-    pub bad-branch : (p : ℕ) → table (g .newKinds) (g .newNs) (g .newLimits) ≡ bad p → exchangeCall g ≡ notExchanged g (BadBranch p)
+  module _ {ends : List ℕ} {n : ℕ} (old : Good mostDeep (g .kinds) (g .ns) (g .limits) ends n) where
+    pub bad-branch : (p : ℕ) → tableWithin mostDeep (g .newKinds) (g .newNs) (g .newLimits) ≡ bad p → exchangeCall g ≡ notExchanged g (BadBranch p)
     unfolding exchangeCall
     bad-branch p e = rw (exchangeCall, old .is) (rw (onBranch, e))
 
-    module _ {newEnds : List ℕ} {m : ℕ} (new : Good (g .newKinds) (g .newNs) (g .newLimits) newEnds m) where
+    module _ {newEnds : List ℕ} {m : ℕ} (new : Good mostDeep (g .newKinds) (g .newNs) (g .newLimits) newEnds m) where
       both : exchangeCall g ≡ onTrees g (old .tree) (new .tree)
       unfolding exchangeCall
       both = rw (exchangeCall, old .is) (rw (onBranch, new .is))

@@ -6,7 +6,7 @@ use Prim.Native.Nat.{ℕ, _≤_, _<_}
 use lib.Ieee.{Float}
 use lib.ListN.{length}
 use Rattle.rules.specs.Tree.{Tree, size, depth}
-use Rattle.rules.specs.Table.{good, table}
+use Rattle.rules.specs.Table.{mostDeep}
 use Rattle.rules.specs.Cells.{none, badCell}
 use Rattle.rules.specs.Call.{Run}
 use Rattle.rules.specs.Exchange.{GivenExchange, LeftExchange, leftExchange, notExchanged, replacing, exchangeCall}
@@ -21,8 +21,8 @@ use Rattle.branch.specs.Write.{Fits, filledRoom}
 
 -- 17 is passed: the tree of n nodes with its cells and the branch of m are all that is left of the call
 pub record Due (g : GivenExchange) (ends newEnds : List ℕ) (n m : ℕ) : Type 0 where
-  pub old : Good (g .kinds) (g .ns) (g .limits) ends n
-  pub new : Good (g .newKinds) (g .newNs) (g .newLimits) newEnds m
+  pub old : Good mostDeep (g .kinds) (g .ns) (g .limits) ends n
+  pub new : Good mostDeep (g .newKinds) (g .newNs) (g .newLimits) newEnds m
   pub in-times : n ≤ length (g .cells' .times)
   pub in-places : n ≤ length (g .cells' .places)
   pub in-marks : n ≤ length (g .cells' .marks)

@@ -10,6 +10,7 @@ use cells::long_enough;
 use rules::Exchanged;
 use rules::Record;
 use tables::Checked;
+use tables::MOST_DEEP;
 use tables::check_table;
 ghost use mathlib.Core.Path.{_≡_};
 ghost use lib.ListN.{length};
@@ -53,9 +54,9 @@ fn checks(
         (now («new_kinds» .entry)) (now («new_ns» .entry)) (now («new_limits» .entry)) to) (now (ends .exit)) (now («new_ends» .exit)) r)
         ⌝ }
 {
-    match check_table(kinds, ns, limits, ends) {
+    match check_table(kinds, ns, limits, ends, MOST_DEEP) {
         Checked::Bad(p) => Gate::Refused(Exchanged::BadTable(p)),
-        Checked::Good(n) => match check_table(new_kinds, new_ns, new_limits, new_ends) {
+        Checked::Good(n) => match check_table(new_kinds, new_ns, new_limits, new_ends, MOST_DEEP) {
             Checked::Bad(p) => Gate::Refused(Exchanged::BadBranch(p)),
             Checked::Good(m) => {
                 if !long_enough(times, places, marks, sinces, n) {

@@ -1,5 +1,5 @@
 -- What the operations do with numbers above 2 ^ 53: each stands for all of them, and what comes out is the same.
-use mathlib.Core.Path.{_≡_, refl, ap}
+use mathlib.Core.Path.{_≡_, refl, ap, _∙_}
 use mathlib.Core.Bool.{Bool, true, false}
 use Prim.Native.Nat.{ℕ, zero, suc, _+_, _-_, _*_, _/_, _^_, min, max, _≤_, _<_}
 use native.Mathlib.Nat.{le-div-iff-mul-le, not-le-of-lt, lt-of-not-le, mul-zero, zero-mul}
@@ -12,7 +12,10 @@ use Rattle.rules.specs.Bound.{Lim, never, within, sumL, maxL, minL, timesL, tol
 use Rattle.rules.specs.declared.answer.BoundAnswer.the-variants as says
 use Rattle.limits.specs.declared.ticks.Ticks.{Ticks}
 use Rattle.limits.specs.declared.ticks.Ticks.the-variants.{Within}
+use Rattle.limits.specs.declared.node.Join.{Join}
+use Rattle.limits.specs.declared.node.Join.the-variants.{Sum, Largest, Smallest, Product}
 use Rattle.limits.specs.Ticks.{above, lim, clipped}
+use Rattle.limits.specs.Node.{joinL}
 
 product-small : (a b : ℕ) → (b ≡ 0 → ⊥) → a ≤ above / b → a * b ≤ above
 product-small a b n h = le-div-iff-mul-le {k = b} (lt-of-not-le (λ z. n (omega arith))) .0 h
@@ -58,17 +61,17 @@ module _ (x : Ticks) (n : ℕ) (p : x ≡ Within n) where
   told-above h = let e : leb n mostTicks ≡ false = lt-leb n mostTicks (omega arith) in cc
 
 -- ---- the clipped of the clipped
-pub clip-sum : (a b : Lim) → clipped (sumL (lim (clipped a)) (lim (clipped b))) ≡ clipped (sumL a b)
+clip-sum : (a b : Lim) → clipped (sumL (lim (clipped a)) (lim (clipped b))) ≡ clipped (sumL a b)
 clip-sum never b = refl
 clip-sum (within a) never = refl
 clip-sum (within a) (within b) = ap Within (omega arith)
 
-pub clip-max : (a b : Lim) → clipped (maxL (lim (clipped a)) (lim (clipped b))) ≡ clipped (maxL a b)
+clip-max : (a b : Lim) → clipped (maxL (lim (clipped a)) (lim (clipped b))) ≡ clipped (maxL a b)
 clip-max never b = refl
 clip-max (within a) never = refl
 clip-max (within a) (within b) = ap Within (omega arith)
 
-pub clip-min : (a b : Lim) → clipped (minL (lim (clipped a)) (lim (clipped b))) ≡ clipped (minL a b)
+clip-min : (a b : Lim) → clipped (minL (lim (clipped a)) (lim (clipped b))) ≡ clipped (minL a b)
 clip-min never never = refl
 clip-min never (within b) = ap Within (omega arith)
 clip-min (within a) never = ap Within (omega arith)
@@ -92,12 +95,19 @@ times-clipped a b = go (leb (suc a) above) (leb (suc b) above) refl refl
         let y : 1 ≤ min (suc b) above = omega arith in
         rw x (omega (arith, leb-false (suc a) above p))
 
-pub clip-times : (a b : Lim) → clipped (timesL (lim (clipped a)) (lim (clipped b))) ≡ clipped (timesL a b)
+clip-times : (a b : Lim) → clipped (timesL (lim (clipped a)) (lim (clipped b))) ≡ clipped (timesL a b)
 clip-times never b = refl
 clip-times (within a) never = refl
 clip-times (within zero) (within b) = ap Within (rw (zero-mul, zero-mul))
 clip-times (within (suc a)) (within zero) = ap Within (rw (mul-zero, mul-zero))
 clip-times (within (suc a)) (within (suc b)) = ap Within (times-clipped a b)
+
+-- x and y are a and b clipped
+pub clip-join : (j : Join) (x y r : Ticks) (a b : Lim) → r ≡ clipped (joinL j (lim x) (lim y)) → x ≡ clipped a → y ≡ clipped b → r ≡ clipped (joinL j a b)
+clip-join Sum x y r a b e p q = e ∙ rw (p, q) (clip-sum a b)
+clip-join Largest x y r a b e p q = e ∙ rw (p, q) (clip-max a b)
+clip-join Smallest x y r a b e p q = e ∙ rw (p, q) (clip-min a b)
+clip-join Product x y r a b e p q = e ∙ rw (p, q) (clip-times a b)
 
 -- what is above is told as such
 pub clip-told : (a : Lim) → told (lim (clipped a)) ≡ told a

@@ -11,36 +11,54 @@ use Rattle.rules.specs.declared.behavior.Kind.the-variants.{MemorylessSequence,
 use Rattle.rules.specs.declared.behavior.Kind.{Kind}
 use Rattle.rules.specs.Kinds.{code, is, timed}
 use Rattle.rules.specs.Bound.{Lim, wholeTime, within, sumL, maxL, minL, timesL, ownTicks, bound, sum, largest, smallest}
-use Rattle.rules.specs.Tree.{Forest, [], _∷_}
-use Rattle.limits.specs.declared.node.Join.the-variants.{Sum, Largest, Smallest}
+use Rattle.rules.specs.Tree.{Cell, Tree, node, Forest, [], _∷_}
+use Rattle.limits.specs.declared.node.Join.{Join}
+use Rattle.limits.specs.declared.node.Join.the-variants.{Sum, Largest, Smallest, Product}
 use Rattle.limits.specs.declared.ticks.Ticks.{Ticks}
 use Rattle.limits.specs.declared.ticks.Ticks.the-variants.{Never, Within}
 use Rattle.limits.specs.Ticks.{lim, clipped}
-use Rattle.limits.specs.Node.{joined, Alone, Together, rowBounded}
-use Rattle.limits.proofs.Laws.{clip-sum, clip-max, clip-min, clip-times}
+use Rattle.limits.specs.Node.{joinOf, noneL, joinL, joined, Alone, Together, rowBounded}
+use Rattle.limits.proofs.Laws.{clip-join}
 
 -- ---- children counted together
-pub joined-sum : (d : ℕ) (ts : Forest) → joined Sum d ts ≡ sum d ts
-unfolding joined bound
-joined-sum d [] = refl
-joined-sum d (t ∷ ts) = ap (sumL (bound d t)) (joined-sum d ts)
+joined-as : (j : Join) (d : ℕ) (all : Forest → Lim)
+    → noneL j ≡ all []
+    → ((t : Tree) (ts : Forest) → joinL j (bound d t) (all ts) ≡ all (t ∷ ts))
+    → (ts : Forest) → joined j d ts ≡ all ts
+unfolding joined
+joined-as j d all none one [] = none
+joined-as j d all none one (t ∷ ts) = ap (joinL j (bound d t)) (joined-as j d all none one ts) ∙ one t ts
 
-pub joined-largest : (d : ℕ) (ts : Forest) → joined Largest d ts ≡ largest d ts
-unfolding joined bound
-joined-largest d [] = refl
-joined-largest d (t ∷ ts) = ap (maxL (bound d t)) (joined-largest d ts)
+joined-sum : (d : ℕ) (ts : Forest) → joined Sum d ts ≡ sum d ts
+unfolding bound
+joined-sum d = joined-as Sum d (sum d) refl (λ t ts. refl)
 
-pub joined-smallest : (d : ℕ) (ts : Forest) → joined Smallest d ts ≡ smallest d ts
-unfolding joined bound
-joined-smallest d [] = refl
-joined-smallest d (t ∷ ts) = ap (minL (bound d t)) (joined-smallest d ts)
+joined-largest : (d : ℕ) (ts : Forest) → joined Largest d ts ≡ largest d ts
+unfolding bound
+joined-largest d = joined-as Largest d (largest d) refl (λ t ts. refl)
 
--- an operation on ticks, where x and y are a and b clipped
-over :
-    (op : Lim → Lim → Lim) → ((a b : Lim) → clipped (op (lim (clipped a)) (lim (clipped b))) ≡ clipped (op a b)) →
-    (x y r : Ticks) (a b : Lim) →
-    r ≡ clipped (op (lim x) (lim y)) → x ≡ clipped a → y ≡ clipped b → r ≡ clipped (op a b)
-over op law x y r a b e p q = e ∙ rw (p, q) (law a b)
+joined-smallest : (d : ℕ) (ts : Forest) → joined Smallest d ts ≡ smallest d ts
+unfolding bound
+joined-smallest d = joined-as Smallest d (smallest d) refl (λ t ts. refl)
+
+-- a node with children counts the first and the others together
+abbrev pub Counts : Kind → Join → Type 0
+Counts k j = (d n : ℕ) (l : Float) (c : Cell) (b : ℕ) (t : Tree) (ts : Forest) → joinL j (bound d t) (joined (joinOf k) d ts) ≡ bound d (node k n l c b (t ∷ ts))
+
+pub counts :
+    Counts Select Sum × Counts If Sum × Counts Sequence Sum × Counts WhileAll Product ×
+    Counts WhenAll Largest × Counts WhenAny Largest × Counts After Largest × Counts Race Smallest
+unfolding bound
+counts = (
+  λ d n l c b t ts. ap (sumL (bound d t)) (joined-sum d ts),
+  λ d n l c b t ts. ap (sumL (bound d t)) (joined-largest d ts),
+  λ d n l c b t ts. ap (sumL (bound d t)) (joined-sum d ts),
+  λ d n l c b t ts. ap (timesL (bound d t)) (joined-sum d ts),
+  λ d n l c b t ts. ap (maxL (bound d t)) (joined-largest d ts),
+  λ d n l c b t ts. ap (maxL (bound d t)) (joined-largest d ts),
+  λ d n l c b t ts. ap (maxL (bound d t)) (joined-largest d ts),
+  λ d n l c b t ts. ap (minL (bound d t)) (joined-smallest d ts),
+)
 
 -- a count that the kind does not allow
 not-allowed : {A : Type 0} → 1 ≤ 0 → A
@@ -90,36 +108,10 @@ module _ (own first rest : Ticks) where
   module _ (r : Ticks) where
     pub in-time : r ≡ clipped (minL (lim own) (lim first)) → Together Timeout own first rest r
     unfolding bound
-    in-time e d n l c b t ts m o p q = over minL clip-min own first r (within (ownTicks d l)) (bound d t) e (o refl) p
+    in-time e d n l c b t ts m o p q = clip-join Smallest own first r (within (ownTicks d l)) (bound d t) e (o refl) p
 
-    pub in-sum : r ≡ clipped (sumL (lim first) (lim rest)) → Together Select own first rest r × Together Sequence own first rest r
-    unfolding bound
-    in-sum e = (
-      λ d n l c b t ts m o p q. over sumL clip-sum first rest r (bound d t) (sum d ts) e p (q ∙ ap clipped (joined-sum d ts)),
-      λ d n l c b t ts m o p q. over sumL clip-sum first rest r (bound d t) (sum d ts) e p (q ∙ ap clipped (joined-sum d ts)),
-    )
-
-    pub in-branch : r ≡ clipped (sumL (lim first) (lim rest)) → Together If own first rest r
-    unfolding bound
-    in-branch e d n l c b t ts m o p q = over sumL clip-sum first rest r (bound d t) (largest d ts) e p (q ∙ ap clipped (joined-largest d ts))
-
-    pub in-product : r ≡ clipped (timesL (lim first) (lim rest)) → Together WhileAll own first rest r
-    unfolding bound
-    in-product e d n l c b t ts m o p q = over timesL clip-times first rest r (bound d t) (sum d ts) e p (q ∙ ap clipped (joined-sum d ts))
-
-    pub in-largest :
-        r ≡ clipped (maxL (lim first) (lim rest)) →
-        Together WhenAll own first rest r × Together WhenAny own first rest r × Together After own first rest r
-    unfolding bound
-    in-largest e = (
-      λ d n l c b t ts m o p q. over maxL clip-max first rest r (bound d t) (largest d ts) e p (q ∙ ap clipped (joined-largest d ts)),
-      λ d n l c b t ts m o p q. over maxL clip-max first rest r (bound d t) (largest d ts) e p (q ∙ ap clipped (joined-largest d ts)),
-      λ d n l c b t ts m o p q. over maxL clip-max first rest r (bound d t) (largest d ts) e p (q ∙ ap clipped (joined-largest d ts)),
-    )
-
-    pub in-smallest : r ≡ clipped (minL (lim first) (lim rest)) → Together Race own first rest r
-    unfolding bound
-    in-smallest e d n l c b t ts m o p q = over minL clip-min first rest r (bound d t) (smallest d ts) e p (q ∙ ap clipped (joined-smallest d ts))
+    pub counted : (k : Kind) (j : Join) → Counts k j → r ≡ clipped (joinL j (lim first) (lim rest)) → Together k own first rest r
+    counted k j law e d n l c b t ts m o p q = clip-join j first rest r (bound d t) (joined (joinOf k) d ts) e p q ∙ ap clipped (law d n l c b t ts)
 
 -- ---- the row of a tree that has a bound
 timed-not-after : (k : Kind) → timed k ≡ true → is k After ≡ false

@@ -74,8 +74,7 @@ pub fn together(kind: Kind, own: Ticks, first: Ticks, rest: Ticks) -> Ticks
     match kind {
         Kind::Invert | Kind::AlwaysSucceed | Kind::While => first,
         Kind::Timeout => Join::Smallest.with(own, first),
-        Kind::Select | Kind::Sequence => Join::Sum.with(first, rest),
-        Kind::If => Join::Sum.with(first, rest),
+        Kind::Select | Kind::If | Kind::Sequence => Join::Sum.with(first, rest),
         Kind::WhileAll => Join::Product.with(first, rest),
         Kind::WhenAll | Kind::WhenAny | Kind::After => Join::Largest.with(first, rest),
         Kind::Race => Join::Smallest.with(first, rest),

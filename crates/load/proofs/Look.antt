@@ -14,7 +14,7 @@ use Rattle.rules.specs.declared.behavior.Kind.{Kind}
 use Rattle.rules.specs.Kinds.{kindOf, children, marksChildren}
 use Rattle.rules.specs.Tree.{zeroTime, Tree, size}
 use Rattle.rules.specs.Table as T
-use Rattle.rules.specs.Table.{cleaned, rows, rowAllowed, got, fault, readTree, table, good, bad}
+use Rattle.rules.specs.Table.{mostDeep, cleaned, rows, rowAllowed, got, fault, readTree, table, good, bad}
 use Rattle.rules.specs.Cells.{cells, withCells, cellAllowed, endedIn, badCell}
 use Rattle.tables.specs.declared.table.Row.{Row}
 use Rattle.tables.specs.declared.table.Row.the-variants as row
@@ -31,31 +31,75 @@ use Rattle.load.specs.Scans.{firstOf, scannedAs, withBelow, Passes, Lent
 use Rattle.load.proofs.Faults.{Agrees, Known, Done, first-known, leaf-done, opened, next-known, close-done, root-passes, finds, found-none, found-at}
 use Rattle.load.proofs.Ends.{endsOf, ends-long, end-at, set-end, below-none, below-with, Packed, packed-new, packed-with, packed-other, packed-loads}
 
+-- the arrays are long enough for the open nodes, and `at` is a place of the table
+pub record Fits
+    (kinds ns : List ℕ) (limits : List Float) (begins owed : List ℕ) (under may : List Bool) (ws : List ℕ) (open' at : ℕ) : Type 0 where
+  pub begins-long : length begins ≡ mostDeep
+  pub owed-long : length owed ≡ mostDeep
+  pub under-long : length under ≡ mostDeep
+  pub may-long : length may ≡ mostDeep
+  pub long : length ws ≡ 260
+  pub low : at ≤ 256
+  pub inside : at ≤ length (rows kinds ns limits)
+  pub room : open' < mostDeep
+
 -- the words before `at` are those of their nodes, the others are as they were
 pub record Kept
     (kinds ns : List ℕ) (limits : List Float) (places marks : List ℕ) (State : Type 0)
     (ws₀ begins owed : List ℕ) (under may : List Bool) (ws : List ℕ) (open' at : ℕ) : Type 0 where
   pub state : State
-  pub begins-long : length begins ≡ 16
-  pub owed-long : length owed ≡ 16
-  pub under-long : length under ≡ 16
-  pub may-long : length may ≡ 16
-  pub long : length ws ≡ 260
-  pub low : at ≤ 256
-  pub inside : at ≤ length (rows kinds ns limits)
-  pub room : open' < 16
+  pub fits : Fits kinds ns limits begins owed under may ws open' at
   pub words : (i : ℕ) → i < at → Packed kinds places marks ws i
   pub stays : (i : ℕ) → at ≤ i → getD ws i 0 ≡ getD ws₀ i 0
+
+-- a place of the table is one of every slice that is lent
+pub record In (kinds ns : List ℕ) (limits times : List Float) (places marks : List ℕ) (at : ℕ) : Type 0 where
+  pub in-table : at < min (length (rows kinds ns limits)) 256
+  pub in-kinds : at < length kinds
+  pub in-ns : at < length ns
+  pub in-limits : at < length limits
+  pub in-times : at < length times
+  pub in-places : at < length places
+  pub in-marks : at < length marks
+
+pub all-in : {kinds ns : List ℕ} {limits times : List Float} {places marks : List ℕ} {n at : ℕ}
+    → Lent kinds ns limits times places marks n → at < min (length (rows kinds ns limits)) 256 → In kinds ns limits times places marks at
+all-in {kinds = kinds} {ns = ns} {limits = limits} lent h =
+    let long = length-rows kinds ns limits in
+    record { in-table = h; in-kinds = omega arith; in-ns = omega arith; in-limits = omega arith; in-times = omega arith; in-places = omega arith; in-marks = omega arith }
+
+-- the node at `at`: how many children its row tells, its word, and whether its cell is one that it allows; the code reads the limit with a default of its own
+pub record Node
+    (kinds ns : List ℕ) (limits times : List Float) (places marks : List ℕ) (ended mayEnd : Bool) (at c w : ℕ) (fine : Bool) : Type 0 where
+  pub told : rowOf (getD kinds at 0) (getD ns at 0) (cleaned (getD limits at nan)) ≡ row.Children c
+  pub packed : w ≡ pack 0 (getD kinds at 0) (getD places at 0) (getD marks at 0) false 0
+  pub looks : fine ≡ cellAllowed ended mayEnd (kindOf (getD kinds at 0)) (getD ns at 0) (cellAt times places marks at)
+
+-- words are written, and the place and the level move
+moved : {kinds ns : List ℕ} {limits : List Float} {begins owed : List ℕ} {under may : List Bool} {ws ws' : List ℕ} {open' open'' at at' : ℕ}
+    → Fits kinds ns limits begins owed under may ws open' at
+    → length ws' ≡ 260 → at' ≤ 256 → at' ≤ length (rows kinds ns limits) → open'' < mostDeep
+    → Fits kinds ns limits begins owed under may ws' open'' at'
+moved f long low inside room = record {
+  begins-long = f .begins-long;
+  owed-long = f .owed-long;
+  under-long = f .under-long;
+  may-long = f .may-long;
+  long = long;
+  low = low;
+  inside = inside;
+  room = room;
+}
 
 module _ (kinds ns : List ℕ) (limits times : List Float) (places marks : List ℕ) where
   -- a tree is next, or one has ended; s is the first bad cell so far
   abbrev pub Nodes : List ℕ → List ℕ → List ℕ → List Bool → List Bool → List ℕ → ℕ → ℕ → Bool → Bool → ℕ → ℕ → Type 0
   Nodes ws₀ begins owed under may ws open' left ended mayEnd s at = Kept kinds ns limits places marks
-      (Reading kinds ns limits (Known times places marks under may ended mayEnd s at) begins owed (endsOf ws) open' left at) ws₀ begins owed under may ws open' at
+      (Reading kinds ns limits mostDeep (Known times places marks under may ended mayEnd s at) begins owed (endsOf ws) open' left at) ws₀ begins owed under may ws open' at
 
   abbrev pub Ended : List ℕ → List ℕ → List ℕ → List Bool → List Bool → List ℕ → ℕ → ℕ → Bool → Bool → ℕ → ℕ → Type 0
   Ended ws₀ begins owed under may ws open' left ended mayEnd s at = Kept kinds ns limits places marks
-      (Closing kinds ns limits (Done times places marks under may ended mayEnd s) begins owed (endsOf ws) open' left at) ws₀ begins owed under may ws open' at
+      (Closing kinds ns limits mostDeep (Done times places marks under may ended mayEnd s) begins owed (endsOf ws) open' left at) ws₀ begins owed under may ws open' at
 
 -- seen from before the outer loop
 pub since : {kinds ns : List ℕ} {limits : List Float} {places marks : List ℕ} {State : Type 0} {first middle begins owed : List ℕ} {under may : List Bool} {ws : List ℕ} {open' at : ℕ}
@@ -64,19 +108,12 @@ pub since : {kinds ns : List ℕ} {limits : List Float} {places marks : List ℕ
     → Kept kinds ns limits places marks State first begins owed under may ws open' at
 since m v = record {
   state = v .state;
-  begins-long = v .begins-long;
-  owed-long = v .owed-long;
-  under-long = v .under-long;
-  may-long = v .may-long;
-  long = v .long;
-  low = v .low;
-  inside = v .inside;
-  room = v .room;
+  fits = v .fits;
   words = v .words;
   stays = λ i h. v .stays i h ∙ m i h;
 }
 
-refused : (kinds ns : List ℕ) (limits : List Float) (at : ℕ) → readTree 16 0 (rows kinds ns limits) ≡ fault at → table kinds ns limits ≡ bad at
+refused : (kinds ns : List ℕ) (limits : List Float) (at : ℕ) → readTree mostDeep 0 (rows kinds ns limits) ≡ fault at → table kinds ns limits ≡ bad at
 unfolding table
 refused kinds ns limits at e = rw e
 
@@ -88,9 +125,9 @@ pub record Leaf
   fine : true ≡ cellAllowed ended mayEnd (kindOf (getD kinds i 0)) (getD ns i 0) (cellAt times places marks i)
   ends-here : getD ends i 0 ≡ i + 1
 
-module _ (kinds ns : List ℕ) (limits times : List Float) (places marks : List ℕ) (under may : List Bool) (ended mayEnd : Bool) (begins owed ends : List ℕ) (open' s : ℕ) (room : open' < 16) where
+module _ (kinds ns : List ℕ) (limits times : List Float) (places marks : List ℕ) (under may : List Bool) (ended mayEnd : Bool) (begins owed ends : List ℕ) (open' s : ℕ) (room : open' < mostDeep) where
   abbrev At : ℕ → ℕ → Type 0
-  At left at = Reading kinds ns limits (Known times places marks under may ended mayEnd s at) begins owed ends open' left at
+  At left at = Reading kinds ns limits mostDeep (Known times places marks under may ended mayEnd s at) begins owed ends open' left at
 
   leaf-passed : (left at : ℕ) → At left at → 1 < left → at < 256 → at < length (rows kinds ns limits) → at < length ends
       → Leaf kinds ns limits times places marks ended mayEnd ends at
@@ -99,7 +136,7 @@ module _ (kinds ns : List ℕ) (limits times : List Float) (places marks : List 
       let closed = leaves kinds ns limits begins owed ends open' left at r low inside room (h .allowed) 0 (h .alone) (omega arith) long
       (λ σ k. leaf-done times places marks (kindOf (getD kinds at 0)) (getD ns at 0) (cleaned (getD limits at zeroTime)) true (h .fine) σ k) in
       let same : set ends at (at + 1) ≡ ends = rw (← h .ends-here) (set-getD ends at 0) in
-      let closed' = subst (λ (x : List ℕ). Closing kinds ns limits (Done times places marks under may ended mayEnd s) begins owed x open' (left - 1) (at + 1)) same closed in
+      let closed' = subst (λ (x : List ℕ). Closing kinds ns limits mostDeep (Done times places marks under may ended mayEnd s) begins owed x open' (left - 1) (at + 1)) same closed in
       nexts kinds ns limits begins owed ends open' (left - 1) (at + 1) (omega arith) closed'
       (λ p k n l kids m m' σ t q e h. next-known times places marks p k n l kids m σ t q h (at + 1) m' e) (omega arith)
 
@@ -116,18 +153,11 @@ module _ (kinds ns : List ℕ) (limits times : List Float) (places marks : List 
 
 module _ {kinds ns : List ℕ} {limits times : List Float} {places marks : List ℕ} where
   pub first : {begins owed : List ℕ} {under may : List Bool} {ws : List ℕ}
-      → length begins ≡ 16 → length owed ≡ 16 → length under ≡ 16 → length may ≡ 16 → length ws ≡ 260
+      → length begins ≡ mostDeep → length owed ≡ mostDeep → length under ≡ mostDeep → length may ≡ mostDeep → length ws ≡ 260
       → Nodes kinds ns limits times places marks ws begins owed under may ws 0 1 false false 256 0
   first {begins} {owed} {under} {may} {ws} lb lo lu lm lw = record {
     state = start kinds ns limits begins owed (endsOf ws) (first-known times places marks under may);
-    begins-long = lb;
-    owed-long = lo;
-    under-long = lu;
-    may-long = lm;
-    long = lw;
-    low = omega arith;
-    inside = omega arith;
-    room = omega arith;
+    fits = record { begins-long = lb; owed-long = lo; under-long = lu; may-long = lm; long = lw; low = omega arith; inside = omega arith; room = omega arith };
     words = λ i h. absurd (omega (arith, h));
     stays = λ i h. refl;
   }
@@ -138,7 +168,7 @@ module _ {kinds ns : List ℕ} {limits times : List Float} {places marks : List 
     at-end v h = refused kinds ns limits at (past kinds ns limits begins owed (endsOf ws) open' left at (v .state) h)
 
     module _ (v : Ended kinds ns limits times places marks ws₀ begins owed under may ws open' left ended mayEnd s at) (none : open' ≡ 0) where
-      abbrev w : Whole kinds ns limits (Done times places marks under may ended mayEnd s) (endsOf ws) at
+      abbrev w : Whole kinds ns limits mostDeep (Done times places marks under may ended mayEnd s) (endsOf ws) at
       w = whole kinds ns limits begins owed (endsOf ws) open' left at (v .state) none
 
       pub too-long : at < length (rows kinds ns limits) → table kinds ns limits ≡ bad at
@@ -156,12 +186,12 @@ module _ {kinds ns : List ℕ} {limits times : List Float} {places marks : List 
             rw e
 
         all-rows : at ≡ length (rows kinds ns limits)
-        all-rows = omega (arith, v .inside, lent .nodes)
+        all-rows = omega (arith, v .fits .inside, lent .nodes)
 
         found : Agrees s (badCell false false 0 (withCells (w .tree) (cells times places marks) .0)) (size (w .tree))
         found = finds times places marks (w .tree) s
             (omega (arith, w .sized, all-rows, length-cells times places marks, lent .nodes, lent .times-long, lent .places-long, lent .marks-long))
-            (omega (arith, w .sized, v .low)) (root-passes times places marks (w .tree) (w .known))
+            (omega (arith, w .sized, v .fits .low)) (root-passes times places marks (w .tree) (w .known))
 
         pub accepted : s ≡ 256 → Scans kinds ns limits times places marks false ws₀ ws (Good at)
         accepted z = record {
@@ -169,13 +199,13 @@ module _ {kinds ns : List ℕ} {limits times : List Float} {places marks : List 
           is = is-good;
           nodes = all-rows;
           sized = sym (w .sized);
-          few = v .low;
-          levels = read-depth 16 0 (rows kinds ns limits) (w .reads);
+          few = v .fits .low;
+          levels = read-depth mostDeep 0 (rows kinds ns limits) (w .reads);
           ends = endsOf ws;
           stands = w .placed;
           behind = size (w .tree);
           fine = λ e. found-none _ s (size (w .tree)) found z;
-          words = packed-loads kinds places marks at ws₀ ws (omega (arith, v .low, v .long)) (v .long ∙ sym long₀) (v .words) (v .stays);
+          words = packed-loads kinds places marks at ws₀ ws (omega (arith, v .fits .low, v .fits .long)) (v .fits .long ∙ sym long₀) (v .words) (v .stays);
         }
 
         pub faulted : (s ≡ 256 → ⊥) → Scans kinds ns limits times places marks false ws₀ ws (Faulty s)
@@ -213,25 +243,18 @@ module _ {kinds ns : List ℕ} {limits times : List Float} {places marks : List 
 
       alike : (i : ℕ) → i < at → getD (endsOf ws') i 0 ≡ getD (endsOf ws) i 0
       alike i h =
-          end-at ws' i (omega (arith, h, v .low, run .long)) ∙ ap (λ (x : ℕ). i + 1 + belowOf x) (run .before i h) ∙ sym (end-at ws i (omega (arith, h, v .low, v .long)))
+          end-at ws' i (omega (arith, h, v .fits .low, run .long)) ∙ ap (λ (x : ℕ). i + 1 + belowOf x) (run .before i h) ∙ sym (end-at ws i (omega (arith, h, v .fits .low, v .fits .long)))
 
       pub passed : Nodes kinds ns limits times places marks ws₀ begins owed under may ws' open' (left - (next - at)) ended mayEnd s next
       passed =
-          let moved = ends-alike kinds ns limits begins owed (endsOf ws) open' left at (v .state) (endsOf ws') alike (λ σ k. k) in
+          let as-run = ends-alike kinds ns limits begins owed (endsOf ws) open' left at (v .state) (endsOf ws') alike (λ σ k. k) in
           let sum : at + (next - at) ≡ next = omega (arith, run .lower) in
-          let all = leaves-passed kinds ns limits times places marks under may ended mayEnd begins owed (endsOf ws') open' s (v .room) (next - at) left at moved
+          let all = leaves-passed kinds ns limits times places marks under may ended mayEnd begins owed (endsOf ws') open' s (v .fits .room) (next - at) left at as-run
           (omega (arith, run .lower, run .upper, few)) (omega (arith, run .lower, run .upper, low)) (omega (arith, run .lower, run .upper, inside))
           (omega (arith, run .lower, run .upper, low, ends-long ws', run .long)) (λ i a b. leaf-at i a (omega (arith, b, run .lower))) in
           record {
             state = rw sum at all;
-            begins-long = v .begins-long;
-            owed-long = v .owed-long;
-            under-long = v .under-long;
-            may-long = v .may-long;
-            long = run .long;
-            low = omega (arith, run .upper, low);
-            inside = omega (arith, run .upper, inside);
-            room = v .room;
+            fits = moved (v .fits) (run .long) (omega (arith, run .upper, low)) (omega (arith, run .upper, inside)) (v .fits .room);
             words = words-run;
             stays = λ i h. run .behind i h ∙ v .stays i (omega (arith, h, run .lower));
           }
@@ -254,7 +277,7 @@ module _ {kinds ns : List ℕ} {limits times : List Float} {places marks : List 
       in-rows = omega arith
 
       long-at : at < length ws
-      long-at = omega (arith, v .long, low)
+      long-at = omega (arith, v .fits .long, low)
 
       pub owes : 0 < left
       owes = v .state .owes
@@ -270,110 +293,93 @@ module _ {kinds ns : List ℕ} {limits times : List Float} {places marks : List 
 
       pub row-refused : told ≡ row.Bad → table kinds ns limits ≡ bad at
       row-refused h =
-          refused kinds ns limits at (refuses kinds ns limits begins owed (endsOf ws) open' left at (v .state) low in-rows (v .room) (row-bad _ _ _ (same ∙ h)))
+          refused kinds ns limits at (refuses kinds ns limits begins owed (endsOf ws) open' left at (v .state) low in-rows (v .fits .room) (row-bad _ _ _ (same ∙ h)))
 
-      module _ (c : ℕ) (is : told ≡ row.Children c) where
+      module _ {c w : ℕ} {fine : Bool} (node : Node kinds ns limits times places marks ended mayEnd at c w fine) where
         ok : rowAllowed (getD kinds at 0) (getD ns at 0) (cleaned (getD limits at zeroTime)) ≡ true
-        ok = row-allowed _ _ _ c (same ∙ is)
+        ok = row-allowed _ _ _ c (same ∙ node .told)
 
         kids : c ≡ children (kindOf (getD kinds at 0)) (getD ns at 0)
-        kids = row-children _ _ _ c (same ∙ is)
+        kids = row-children _ _ _ c (same ∙ node .told)
 
-        -- the word of the node and its cell
-        module _ (w : ℕ) (packed : w ≡ pack 0 (getD kinds at 0) (getD places at 0) (getD marks at 0) false 0)
-            (fine : Bool) (looks : fine ≡ cellAllowed ended mayEnd (kindOf (getD kinds at 0)) (getD ns at 0) (cellAt times places marks at)) where
-          below-zero : belowOf w ≡ 0
-          below-zero = ap belowOf packed ∙ below-none (getD kinds at 0) (getD places at 0) (getD marks at 0)
+        below-zero : belowOf w ≡ 0
+        below-zero = ap belowOf (node .packed) ∙ below-none (getD kinds at 0) (getD places at 0) (getD marks at 0)
 
-          ends-then : endsOf (set ws at w) ≡ set (endsOf ws) at (at + 1)
-          ends-then = set-end ws at w (at + 1) (omega (arith, below-zero))
+        ends-then : endsOf (set ws at w) ≡ set (endsOf ws) at (at + 1)
+        ends-then = set-end ws at w (at + 1) (omega (arith, below-zero))
 
-          words-then : (i : ℕ) → i < at + 1 → Packed kinds places marks (set ws at w) i
-          words-then i h = go (eqb i at) refl
-            where
-              go : (b : Bool) → eqb i at ≡ b → Packed kinds places marks (set ws at w) i
-              go true e = let z : i ≡ at = eqb-true i at e in rw z (packed-new kinds places marks ws at w long-at packed)
-              go false e =
-                  let z = eqb-false i at e in
-                  packed-other kinds places marks ws at i w z (v .words i (omega (arith, z)))
+        words-then : (i : ℕ) → i < at + 1 → Packed kinds places marks (set ws at w) i
+        words-then i h = go (eqb i at) refl
+          where
+            go : (b : Bool) → eqb i at ≡ b → Packed kinds places marks (set ws at w) i
+            go true e = let z : i ≡ at = eqb-true i at e in rw z (packed-new kinds places marks ws at w long-at (node .packed))
+            go false e =
+                let z = eqb-false i at e in
+                packed-other kinds places marks ws at i w z (v .words i (omega (arith, z)))
 
-          stays-then : (i : ℕ) → at + 1 ≤ i → getD (set ws at w) i 0 ≡ getD ws₀ i 0
-          stays-then i h = getD-set-other ws at i w 0 (omega (arith, h)) ∙ v .stays i (omega (arith, h))
+        pub stays-on : (i : ℕ) → at + 1 ≤ i → getD (set ws at w) i 0 ≡ getD ws₀ i 0
+        stays-on i h = getD-set-other ws at i w 0 (omega (arith, h)) ∙ v .stays i (omega (arith, h))
 
-          module _ (pos : 0 < c) where
-            -- ends from `at` on do not matter, so the word of the node can stand there
-            before-open : Reading kinds ns limits (Known times places marks under may ended mayEnd s at) begins owed (endsOf (set ws at w)) open' left at
-            before-open =
-                ends-alike kinds ns limits begins owed (endsOf ws) open' left at (v .state) (endsOf (set ws at w))
-                (λ i h. rw ends-then (getD-set-other (endsOf ws) at i (at + 1) 0 (omega (arith, h)))) (λ σ k. k)
+        module _ (pos : 0 < c) where
+          -- ends from `at` on do not matter, so the word of the node can stand there
+          before-open : Reading kinds ns limits mostDeep (Known times places marks under may ended mayEnd s at) begins owed (endsOf (set ws at w)) open' left at
+          before-open =
+              ends-alike kinds ns limits begins owed (endsOf ws) open' left at (v .state) (endsOf (set ws at w))
+              (λ i h. rw ends-then (getD-set-other (endsOf ws) at i (at + 1) 0 (omega (arith, h)))) (λ σ k. k)
 
-            below : Reading kinds ns limits
-                (Known times places marks (set under open' ended) (set may open' mayEnd) (ended || endedIn (cellAt times places marks at))
-                (marksChildren (kindOf (getD kinds at 0))) (firstOf s fine at) (at + 1))
-                (set begins open' at) (set owed open' (left - 1)) (endsOf (set ws at w)) (open' + 1) c (at + 1)
-            below =
-                descends kinds ns limits begins owed (endsOf (set ws at w)) open' left at before-open low in-rows (v .room) ok c kids pos (v .begins-long) (v .owed-long)
-                (λ σ m lev k. opened times places marks (kindOf (getD kinds at 0)) (getD ns at 0) (cleaned (getD limits at zeroTime)) fine looks open' m σ lev
-                (omega (arith, v .room, v .under-long)) (omega (arith, v .room, v .may-long)) k)
+          below : Reading kinds ns limits mostDeep
+              (Known times places marks (set under open' ended) (set may open' mayEnd) (ended || endedIn (cellAt times places marks at))
+              (marksChildren (kindOf (getD kinds at 0))) (firstOf s fine at) (at + 1))
+              (set begins open' at) (set owed open' (left - 1)) (endsOf (set ws at w)) (open' + 1) c (at + 1)
+          below =
+              descends kinds ns limits begins owed (endsOf (set ws at w)) open' left at before-open low in-rows (v .fits .room) ok c kids pos
+              (omega (arith, v .fits .begins-long)) (omega (arith, v .fits .owed-long))
+              (λ σ m lev k. opened times places marks (kindOf (getD kinds at 0)) (getD ns at 0) (cleaned (getD limits at zeroTime)) fine (node .looks) open' m σ lev
+              (omega (arith, v .fits .room, v .fits .under-long)) (omega (arith, v .fits .room, v .fits .may-long)) k)
 
-            pub too-deep-at : 16 ≤ open' + 1 → table kinds ns limits ≡ bad (at + 1)
-            unfolding table
-            too-deep-at h =
-                let f = too-deep kinds ns limits (set begins open' at) (set owed open' (left - 1)) (endsOf (set ws at w)) (open' + 1) c (at + 1) below h in
-                rw f
+          pub too-deep-at : mostDeep ≤ open' + 1 → table kinds ns limits ≡ bad (at + 1)
+          unfolding table
+          too-deep-at h =
+              let f = too-deep kinds ns limits (set begins open' at) (set owed open' (left - 1)) (endsOf (set ws at w)) (open' + 1) c (at + 1) below h in
+              rw f
 
-            pub opens : open' + 1 < 16
-                → Nodes kinds ns limits times places marks ws₀ (set begins open' at) (set owed open' (left - 1)) (set under open' ended) (set may open' mayEnd) (set ws at w) (open' + 1) c
-                (ended || endedIn (cellAt times places marks at)) (marksChildren (kindOf (getD kinds at 0))) (firstOf s fine at) (at + 1)
-            opens room = record {
-              state = below;
-              begins-long = length-set begins open' at ∙ v .begins-long;
-              owed-long = length-set owed open' (left - 1) ∙ v .owed-long;
-              under-long = length-set under open' ended ∙ v .under-long;
-              may-long = length-set may open' mayEnd ∙ v .may-long;
-              long = length-set ws at w ∙ v .long;
+          pub opens : open' + 1 < mostDeep
+              → Nodes kinds ns limits times places marks ws₀ (set begins open' at) (set owed open' (left - 1)) (set under open' ended) (set may open' mayEnd) (set ws at w) (open' + 1) c
+              (ended || endedIn (cellAt times places marks at)) (marksChildren (kindOf (getD kinds at 0))) (firstOf s fine at) (at + 1)
+          opens room = record {
+            state = below;
+            fits = record {
+              begins-long = length-set begins open' at ∙ v .fits .begins-long;
+              owed-long = length-set owed open' (left - 1) ∙ v .fits .owed-long;
+              under-long = length-set under open' ended ∙ v .fits .under-long;
+              may-long = length-set may open' mayEnd ∙ v .fits .may-long;
+              long = length-set ws at w ∙ v .fits .long;
               low = omega arith;
               inside = omega arith;
               room = room;
-              words = words-then;
-              stays = stays-then;
-            }
-
-          pub ends-leaf : c ≤ 0 → Ended kinds ns limits times places marks (set ws at w) begins owed under may (set ws at w) open' (left - 1) ended mayEnd (firstOf s fine at) (at + 1)
-          ends-leaf none = record {
-            state = rw ends-then (leaves kinds ns limits begins owed (endsOf ws) open' left at (v .state) low in-rows (v .room) ok c kids none (rw (ends-long ws) long-at)
-                (λ σ k. leaf-done times places marks (kindOf (getD kinds at 0)) (getD ns at 0) (cleaned (getD limits at zeroTime)) fine looks σ k));
-            begins-long = v .begins-long;
-            owed-long = v .owed-long;
-            under-long = v .under-long;
-            may-long = v .may-long;
-            long = length-set ws at w ∙ v .long;
-            low = omega arith;
-            inside = omega arith;
-            room = v .room;
+            };
             words = words-then;
-            stays = λ i h. refl;
+            stays = stays-on;
           }
 
-          pub stays-on : (i : ℕ) → at + 1 ≤ i → getD (set ws at w) i 0 ≡ getD ws₀ i 0
-          stays-on = stays-then
+        pub ends-leaf : c ≤ 0 → Ended kinds ns limits times places marks (set ws at w) begins owed under may (set ws at w) open' (left - 1) ended mayEnd (firstOf s fine at) (at + 1)
+        ends-leaf none = record {
+          state = rw ends-then (leaves kinds ns limits begins owed (endsOf ws) open' left at (v .state) low in-rows (v .fits .room) ok c kids none (rw (ends-long ws) long-at)
+              (λ σ k. leaf-done times places marks (kindOf (getD kinds at 0)) (getD ns at 0) (cleaned (getD limits at zeroTime)) fine (node .looks) σ k));
+          fits = moved (v .fits) (length-set ws at w ∙ v .fits .long) (omega arith) (omega arith) (v .fits .room);
+          words = words-then;
+          stays = λ i h. refl;
+        }
 
     module _ (v : Ended kinds ns limits times places marks ws₀ begins owed under may ws open' left ended mayEnd s at) where
       at-low : at ≤ length (endsOf ws)
-      at-low = omega (arith, ends-long ws, v .long, v .low)
+      at-low = omega (arith, ends-long ws, v .fits .long, v .fits .low)
 
       pub goes-on : 0 < left → Nodes kinds ns limits times places marks ws₀ begins owed under may ws open' left ended mayEnd s at
       goes-on more = record {
         state = nexts kinds ns limits begins owed (endsOf ws) open' left at at-low (v .state)
             (λ p k n l kids m m' σ t q e h. next-known times places marks p k n l kids m σ t q h at m' e) more;
-        begins-long = v .begins-long;
-        owed-long = v .owed-long;
-        under-long = v .under-long;
-        may-long = v .may-long;
-        long = v .long;
-        low = v .low;
-        inside = v .inside;
-        room = v .room;
+        fits = v .fits;
         words = v .words;
         stays = v .stays;
       }
@@ -387,7 +393,7 @@ module _ {kinds ns : List ℕ} {limits times : List Float} {places marks : List 
 
         module _ (w : ℕ) (is : w ≡ withBelow (getD ws done 0) (at - done - 1)) where
           few : at - done - 1 < 256
-          few = omega (arith, v .low, begin-low)
+          few = omega (arith, v .fits .low, begin-low)
 
           ends-closed : endsOf (set ws done w) ≡ set (endsOf ws) done at
           ends-closed = set-end ws done w at (omega (arith, ap belowOf is ∙ below-with (getD ws done 0) (at - done - 1) few, begin-low))
@@ -398,7 +404,7 @@ module _ {kinds ns : List ℕ} {limits times : List Float} {places marks : List 
               go : (b : Bool) → eqb i done ≡ b → Packed kinds places marks (set ws done w) i
               go true e =
                   let z : i ≡ done = eqb-true i done e in
-                  rw z (packed-with kinds places marks ws done w (at - done - 1) (omega (arith, v .long, v .low, begin-low)) few (v .words done begin-low) is)
+                  rw z (packed-with kinds places marks ws done w (at - done - 1) (omega (arith, v .fits .long, v .fits .low, begin-low)) few (v .words done begin-low) is)
               go false e = packed-other kinds places marks ws done i w (eqb-false i done e) (v .words i h)
 
           pub closes-one : left ≡ 0
@@ -407,14 +413,7 @@ module _ {kinds ns : List ℕ} {limits times : List Float} {places marks : List 
           closes-one none = record {
             state = rw ends-closed (closes kinds ns limits begins owed (endsOf ws) open' left at at-low (v .state)
                 (λ p k n l kids m σ t q top h. close-done times places marks p k n l kids m σ t q h open' top) pos none);
-            begins-long = v .begins-long;
-            owed-long = v .owed-long;
-            under-long = v .under-long;
-            may-long = v .may-long;
-            long = length-set ws done w ∙ v .long;
-            low = v .low;
-            inside = v .inside;
-            room = omega (arith, v .room);
+            fits = moved (v .fits) (length-set ws done w ∙ v .fits .long) (v .fits .low) (v .fits .inside) (omega (arith, v .fits .room));
             words = words-closed;
             stays = λ i h. getD-set-other ws done i w 0 (omega (arith, h, begin-low)) ∙ v .stays i h;
           }

@@ -1,6 +1,7 @@
 // The words and times of a tree that starts fresh. Its cells are not looked at.
 use crate::pass::Scanned;
 use tables::Checked;
+use tables::MOST_DEEP;
 use tables::check_table;
 ghost use mathlib.Core.Path.{_≡_};
 ghost use mathlib.Core.Bool.{true};
@@ -55,7 +56,7 @@ pub fn look_fresh(kinds: &[u8], ns: &[u16], limits: &[f64], work: &mut [u32; 260
         ⌝ }
 {
     let mut ends = [0u16; 256];
-    match check_table(kinds, ns, limits, &mut ends) {
+    match check_table(kinds, ns, limits, &mut ends, MOST_DEEP) {
         Checked::Bad(p) => Scanned::Bad(p),
         Checked::Good(n) => {
             load_fresh(work, kinds, &ends, n);

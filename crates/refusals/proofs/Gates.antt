@@ -150,14 +150,17 @@ module _ (fresh : Bool) (k : ℕ) (g : Given) {t : Tree} {n : ℕ} (is : table (
       bad-cell e p b = behind-room _ (room-found ∙ rw (e, dueOf, b)) refl
 
 -- which of the two, by the table's check alone
-module _ (kinds ns : List ℕ) (limits : List Float) (ends₀ ends : List ℕ) (r : Checked) (k : Tabled kinds ns limits ends₀ ends r) where
+module _ (kinds ns : List ℕ) (limits : List Float) (ends₀ ends : List ℕ) (r : Checked) (k : Tabled mostDeep kinds ns limits ends₀ ends r) where
   sized-rows : (t : Tree) → table kinds ns limits ≡ good t → size t ≡ length (rows kinds ns limits)
-  sized-rows t e = let s : Standing kinds ns limits ends t = rw e at (k .tree) in sym (s .nodes)
+  unfolding table
+  sized-rows t e = let s : Standing mostDeep kinds ns limits ends t = rw e at (k .tree) in sym (s .nodes)
 
   pub unmatched-bad : (p : ℕ) → r ≡ checked.Bad p → Unmatched kinds ns limits (BadTable p)
+  unfolding table
   unmatched-bad p e = record { says = rw (found-bad kinds ns limits ends₀ ends r k p e); sized = sized-rows }
 
   pub unmatched-good : (n : ℕ) → r ≡ checked.Good n → Unmatched kinds ns limits TooShort
+  unfolding table
   unmatched-good n e = record { says = rw (found-good kinds ns limits ends₀ ends r k n e .is); sized = sized-rows }
 
 -- memory that is too short for the rows is too short for the tree, which has a node in each

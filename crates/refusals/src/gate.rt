@@ -7,6 +7,7 @@ use rules::Event;
 use rules::Record;
 use tables::Answered;
 use tables::Checked;
+use tables::MOST_DEEP;
 use tables::Number;
 use tables::bad_answer;
 use tables::check_table;
@@ -90,7 +91,7 @@ fn unmatched(kinds: &[u8], ns: &[u16], limits: &[f64]) -> Answer
     ensures { λ r. ⌜ Unmatched (now (kinds .entry)) (now (ns .entry)) (now (limits .entry)) r ⌝ }
 {
     let mut ends = [0u16; 256];
-    match check_table(kinds, ns, limits, &mut ends) {
+    match check_table(kinds, ns, limits, &mut ends, MOST_DEEP) {
         Checked::Bad(p) => Answer::BadTable(p),
         Checked::Good(_) => Answer::TooShort,
     }

@@ -92,6 +92,10 @@ whole (got t at List.[]) = good t
 whole (got t at (List._∷_ r rs)) = bad at
 whole (fault p) = bad p
 
+-- of at most so many levels
+abbrev pub tableWithin : ℕ → List ℕ → List ℕ → List Float → Table
+tableWithin deep kinds ns limits = whole (readTree deep 0 (rows kinds ns limits))
+
 unfoldable pub table : List ℕ → List ℕ → List Float → Table
 unfolding readTree rows
-table kinds ns limits = whole (readTree mostDeep 0 (rows kinds ns limits))
+table kinds ns limits = tableWithin mostDeep kinds ns limits

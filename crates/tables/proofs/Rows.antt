@@ -1,6 +1,6 @@
 -- How a row is answered, and what the answer tells of the row.
 use mathlib.Core.Path.{_≡_, refl}
-use mathlib.Core.Bool.{Bool, true, false, not, cond, _&&_, and-false}
+use mathlib.Core.Bool.{Bool, true, false, not, cond, _&&_, and-true, and-false}
 use mathlib.Core.List.{List}
 use mathlib.Core.List
 use Prim.Native.Nat.{ℕ, zero, suc, _≤_, _<_, min}
@@ -53,13 +53,9 @@ module _ (k n : ℕ) (l : Float) where
     no-limit h = rw (le-leb k 16 low, ← is, ← bs, not-true b h, and-false (countAllowed kind n))
 
     module _ (good : not b ≡ false) {c : ℕ} (cs : c ≡ children kind n) {a : Bool} (counts : a ≡ leb (fewest kind) c && leb c (most kind)) where
-      pub no-count : a ≡ false → Bad ≡ rowOf k n l
+      pub by-count : cond a (Children c) Bad ≡ rowOf k n l
       unfolding rowAllowed
-      no-count h = rw (le-leb k 16 low, ← is, ← cs, ← counts, h)
-
-      pub all-allowed : a ≡ true → Children c ≡ rowOf k n l
-      unfolding rowAllowed
-      all-allowed h = rw (le-leb k 16 low, ← is, ← cs, ← counts, h, ← bs, not-false b good)
+      by-count = rw (le-leb k 16 low, ← is, ← cs, ← counts, ← bs, not-false b good, and-true a)
 
 -- ---- an element that is there needs no default
 pub any-default : {A : Type 0} (xs : List A) (i : ℕ) (d d' : A) → i < length xs → getD xs i d ≡ getD xs i d'

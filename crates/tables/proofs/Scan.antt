@@ -174,39 +174,39 @@ module _ (kinds ns : List ℕ) (limits : List Float) where
   abbrev all : List T.Row
   all = rows kinds ns limits
 
-  -- the tree at `at` is next, and P is known of the frames
-  pub record Reading (P : List Frame → Type 0) (begins owed ends : List ℕ) (open' left at : ℕ) : Type 0 where
+  -- the tree at `at` is next in a table that may be so deep at most, and P is known of the frames
+  pub record Reading (most : ℕ) (P : List Frame → Type 0) (begins owed ends : List ℕ) (open' left at : ℕ) : Type 0 where
     deep : ℕ
     frames : List Frame
     level : open' ≡ length frames
-    levels : deep + length frames ≡ 16
+    levels : deep + length frames ≡ most
     pub owes : 0 < left
     opened : Open begins owed ends frames (left - 1) at
-    reads : resume deep frames (readTree deep at (drop at all)) ≡ readTree 16 0 all
+    reads : resume deep frames (readTree deep at (drop at all)) ≡ readTree most 0 all
     known : P frames
 
   -- a tree that ends at `at` is read, and Q is known of it, its place and the frames
-  pub record Closing (Q : Tree → ℕ → List Frame → Type 0) (begins owed ends : List ℕ) (open' left at : ℕ) : Type 0 where
+  pub record Closing (most : ℕ) (Q : Tree → ℕ → List Frame → Type 0) (begins owed ends : List ℕ) (open' left at : ℕ) : Type 0 where
     deep : ℕ
     frames : List Frame
     tree : Tree
     place : ℕ
     level : open' ≡ length frames
-    levels : deep + length frames ≡ 16
+    levels : deep + length frames ≡ most
     opened : Open begins owed ends frames left place
     placed : At kinds ns limits ends place tree
     stop : getD ends place 0 ≡ at
-    reads : resume deep frames (got tree at (drop at all)) ≡ readTree 16 0 all
+    reads : resume deep frames (got tree at (drop at all)) ≡ readTree most 0 all
     known : Q tree place frames
 
-  pub start : {P : List Frame → Type 0} (begins owed ends : List ℕ) → P List.[] → Reading P begins owed ends 0 1 0
+  pub start : {most : ℕ} {P : List Frame → Type 0} (begins owed ends : List ℕ) → P List.[] → Reading most P begins owed ends 0 1 0
   unfolding resume
-  start begins owed ends h =
-      record { deep = 16; frames = List.[]; level = refl; levels = refl; owes = omega arith; opened = (refl, refl); reads = refl; known = h }
+  start {most = most} begins owed ends h =
+      record { deep = most; frames = List.[]; level = refl; levels = omega arith; owes = omega arith; opened = (refl, refl); reads = refl; known = h }
 
-  module _ {P : List Frame → Type 0} (begins owed ends : List ℕ) (open' left at : ℕ) (r : Reading P begins owed ends open' left at) where
+  module _ {most : ℕ} {P : List Frame → Type 0} (begins owed ends : List ℕ) (open' left at : ℕ) (r : Reading most P begins owed ends open' left at) where
     -- ends from `at` on do not matter
-    pub ends-alike : {P' : List Frame → Type 0} (ends' : List ℕ) → Alike 0 ends ends' at → ((σ : List Frame) → P σ → P' σ) → Reading P' begins owed ends' open' left at
+    pub ends-alike : {P' : List Frame → Type 0} (ends' : List ℕ) → Alike 0 ends ends' at → ((σ : List Frame) → P σ → P' σ) → Reading most P' begins owed ends' open' left at
     ends-alike ends' same knows = record {
       deep = r .deep;
       frames = r .frames;
@@ -218,7 +218,7 @@ module _ (kinds ns : List ℕ) (limits : List Float) where
       known = knows (r .frames) (r .known);
     }
 
-    ends-here : readTree (r .deep) at (drop at all) ≡ fault at → readTree 16 0 all ≡ fault at
+    ends-here : readTree (r .deep) at (drop at all) ≡ fault at → readTree most 0 all ≡ fault at
     ends-here e = sym (r .reads) ∙ ap (resume (r .deep) (r .frames)) e ∙ resume-fault (r .deep) (r .frames) at
 
     fault-none : (d : ℕ) → length all ≤ at → readTree d at (drop at all) ≡ fault at
@@ -232,22 +232,22 @@ module _ (kinds ns : List ℕ) (limits : List Float) where
     fault-wide (suc d) h List.[] = refl
     fault-wide (suc d) h (List._∷_ (row k n l) rs) = rw (le-ltb at 256 h)
 
-    past-by : (b : Bool) → leb (length all) at ≡ b → min (length all) 256 ≤ at → readTree 16 0 all ≡ fault at
+    past-by : (b : Bool) → leb (length all) at ≡ b → min (length all) 256 ≤ at → readTree most 0 all ≡ fault at
     past-by true e h = ends-here (fault-none (r .deep) (leb-true (length all) at e))
     past-by false e h =
         let f = leb-false (length all) at e in
         ends-here (fault-wide (r .deep) (omega arith) (drop at all))
 
-    pub past : min (length all) 256 ≤ at → readTree 16 0 all ≡ fault at
+    pub past : min (length all) 256 ≤ at → readTree most 0 all ≡ fault at
     past h = past-by _ refl h
 
-    pub too-deep : 16 ≤ open' → readTree 16 0 all ≡ fault at
+    pub too-deep : most ≤ open' → readTree most 0 all ≡ fault at
     unfolding readTree
     too-deep h =
         let z : r .deep ≡ 0 = omega (arith, r .level, r .levels) in
         ends-here (rw z)
 
-    module _ (low : at < 256) (inside : at < length all) (room : open' < 16) where
+    module _ (low : at < 256) (inside : at < length all) (room : open' < most) where
       abbrev k : ℕ
       k = getD kinds at 0
 
@@ -263,24 +263,24 @@ module _ (kinds ns : List ℕ) (limits : List Float) where
       abbrev from : List T.Row
       from = List._∷_ (row k n l) (drop (suc at) all)
 
-      reads-row : resume (suc (r .deep - 1)) (r .frames) (readTree (suc (r .deep - 1)) at from) ≡ readTree 16 0 all
+      reads-row : resume (suc (r .deep - 1)) (r .frames) (readTree (suc (r .deep - 1)) at from) ≡ readTree most 0 all
       reads-row =
           let reads = rw (drop-rows kinds ns limits at inside) at (r .reads) in
-          subst (λ (d : ℕ). resume d (r .frames) (readTree d at from) ≡ readTree 16 0 all) level-up reads
+          subst (λ (d : ℕ). resume d (r .frames) (readTree d at from) ≡ readTree most 0 all) level-up reads
 
       row-here : {m : ℕ} → rowAllowed k n l ≡ true → m ≡ children (kindOf k) n → Row kinds ns limits at (kindOf k) n l m
       row-here ok e = record { kind = refl; number = refl; limit = refl; allowed = ok; kids = e }
 
-      pub refuses : rowAllowed k n l ≡ false → readTree 16 0 all ≡ fault at
+      pub refuses : rowAllowed k n l ≡ false → readTree most 0 all ≡ fault at
       refuses h =
           let none = refused (r .deep - 1) at k n l (drop (suc at) all) (r .frames) low h in
           sym reads-row ∙ ap (resume (suc (r .deep - 1)) (r .frames)) none ∙ resume-fault (suc (r .deep - 1)) (r .frames) at
 
       module _ (ok : rowAllowed k n l ≡ true) (c : ℕ) (e : c ≡ children (kindOf k) n) where
         pub descends :
-            {P' : List Frame → Type 0} → 0 < c → length begins ≡ 16 → length owed ≡ 16 →
+            {P' : List Frame → Type 0} → 0 < c → most ≤ length begins → most ≤ length owed →
             ((σ : List Frame) (m : ℕ) → open' ≡ length σ → P σ → P' (List._∷_ (frame at (kindOf k) n l [] m) σ)) →
-            Reading P' (set begins open' at) (set owed open' (left - 1)) ends (open' + 1) c (at + 1)
+            Reading most P' (set begins open' at) (set owed open' (left - 1)) ends (open' + 1) c (at + 1)
         descends pos lb lo knows =
             let σ = r .frames in
             let lev = r .level in
@@ -307,7 +307,7 @@ module _ (kinds ns : List ℕ) (limits : List Float) where
         pub leaves :
             {Q : Tree → ℕ → List Frame → Type 0} → c ≤ 0 → at < length ends →
             ((σ : List Frame) → P σ → Q (made (kindOf k) n l []) at σ) →
-            Closing Q begins owed (set ends at (at + 1)) open' (left - 1) (at + 1)
+            Closing most Q begins owed (set ends at (at + 1)) open' (left - 1) (at + 1)
         leaves none le knows =
             let σ = r .frames in
             let ends' = set ends at (at + 1) in
@@ -345,13 +345,13 @@ module _ (kinds ns : List ℕ) (limits : List Float) where
   module _ (begins owed ends : List ℕ) (open' left at : ℕ) (low : at ≤ length ends) where
     module _ (d : ℕ) (t : Tree) (q : ℕ) (placed : At kinds ns limits ends q t) (stop : getD ends q 0 ≡ at) where
       nexts-at :
-          (Q : Tree → ℕ → List Frame → Type 0) (P : List Frame → Type 0)
-          (σ : List Frame) → open' ≡ length σ → d + length σ ≡ 16 → Open begins owed ends σ left q →
-          resume d σ (got t at (drop at all)) ≡ readTree 16 0 all →
+          (most : ℕ) (Q : Tree → ℕ → List Frame → Type 0) (P : List Frame → Type 0)
+          (σ : List Frame) → open' ≡ length σ → d + length σ ≡ most → Open begins owed ends σ left q →
+          resume d σ (got t at (drop at all)) ≡ readTree most 0 all →
           Q t q σ → Nexts Q P at → 0 < left →
-          Reading P begins owed ends open' left at
-      nexts-at Q P List.[] lev ups (none, z) reads known knows more = absurd (omega arith)
-      nexts-at Q P (List._∷_ (frame p k n l kids m) σ) lev ups (r, (b, (o, (g, h)))) reads known knows more =
+          Reading most P begins owed ends open' left at
+      nexts-at most Q P List.[] lev ups (none, z) reads known knows more = absurd (omega arith)
+      nexts-at most Q P (List._∷_ (frame p k n l kids m) σ) lev ups (r, (b, (o, (g, h)))) reads known knows more =
           let m' : m ≡ suc (left - 1) = omega arith in
           record {
             deep = d;
@@ -373,13 +373,13 @@ module _ (kinds ns : List ℕ) (limits : List Float) where
           omega (arith, behind-le kids ends (suc p) q b, at-end kinds ns limits t ends q placed)
 
       closes-at :
-          (Q Q' : Tree → ℕ → List Frame → Type 0)
-          (σ : List Frame) → open' ≡ length σ → d + length σ ≡ 16 → Open begins owed ends σ left q →
-          resume d σ (got t at (drop at all)) ≡ readTree 16 0 all →
+          (most : ℕ) (Q Q' : Tree → ℕ → List Frame → Type 0)
+          (σ : List Frame) → open' ≡ length σ → d + length σ ≡ most → Open begins owed ends σ left q →
+          resume d σ (got t at (drop at all)) ≡ readTree most 0 all →
           Q t q σ → Closes Q Q' open' → 0 < open' → left ≡ 0 →
-          Closing Q' begins owed (set ends (getD begins (open' - 1) 0) at) (open' - 1) (getD owed (open' - 1) 0) at
-      closes-at Q Q' List.[] lev ups opened reads known knows pos none = absurd (omega arith)
-      closes-at Q Q' (List._∷_ (frame p k n l kids m) σ) lev ups (r, (b, (o, (g, h)))) reads known knows pos none =
+          Closing most Q' begins owed (set ends (getD begins (open' - 1) 0) at) (open' - 1) (getD owed (open' - 1) 0) at
+      closes-at most Q Q' List.[] lev ups opened reads known knows pos none = absurd (omega arith)
+      closes-at most Q Q' (List._∷_ (frame p k n l kids m) σ) lev ups (r, (b, (o, (g, h)))) reads known knows pos none =
           let top : open' - 1 ≡ length σ = omega arith in
           let g' : getD begins (open' - 1) 0 ≡ p = rw top g in
           let h' : Open begins owed ends σ (getD owed (open' - 1) 0) p = rw top h in
@@ -407,39 +407,39 @@ module _ (kinds ns : List ℕ) (limits : List Float) where
             known = knows p k n l kids m σ t q top known;
           })
 
-    module _ {Q : Tree → ℕ → List Frame → Type 0} (c : Closing Q begins owed ends open' left at) where
-      pub nexts : {P : List Frame → Type 0} → Nexts Q P at → 0 < left → Reading P begins owed ends open' left at
-      nexts {P} = nexts-at (c .deep) (c .tree) (c .place) (c .placed) (c .stop) Q P (c .frames) (c .level) (c .levels) (c .opened) (c .reads) (c .known)
+    module _ {most : ℕ} {Q : Tree → ℕ → List Frame → Type 0} (c : Closing most Q begins owed ends open' left at) where
+      pub nexts : {P : List Frame → Type 0} → Nexts Q P at → 0 < left → Reading most P begins owed ends open' left at
+      nexts {P} = nexts-at (c .deep) (c .tree) (c .place) (c .placed) (c .stop) most Q P (c .frames) (c .level) (c .levels) (c .opened) (c .reads) (c .known)
 
       pub begins-before : 0 < open' → getD begins (open' - 1) 0 < at
       begins-before = begins-at (c .deep) (c .tree) (c .place) (c .placed) (c .stop) (c .frames) (c .level) (c .opened)
 
       pub closes :
           {Q' : Tree → ℕ → List Frame → Type 0} → Closes Q Q' open' → 0 < open' → left ≡ 0 →
-          Closing Q' begins owed (set ends (getD begins (open' - 1) 0) at) (open' - 1) (getD owed (open' - 1) 0) at
-      closes {Q'} = closes-at (c .deep) (c .tree) (c .place) (c .placed) (c .stop) Q Q' (c .frames) (c .level) (c .levels) (c .opened) (c .reads) (c .known)
+          Closing most Q' begins owed (set ends (getD begins (open' - 1) 0) at) (open' - 1) (getD owed (open' - 1) 0) at
+      closes {Q'} = closes-at (c .deep) (c .tree) (c .place) (c .placed) (c .stop) most Q Q' (c .frames) (c .level) (c .levels) (c .opened) (c .reads) (c .known)
 
   -- ---- the root is read
-  pub record Whole (Q : Tree → ℕ → List Frame → Type 0) (ends : List ℕ) (at : ℕ) : Type 0 where
+  pub record Whole (most : ℕ) (Q : Tree → ℕ → List Frame → Type 0) (ends : List ℕ) (at : ℕ) : Type 0 where
     pub tree : Tree
-    pub reads : readTree 16 0 all ≡ got tree at (drop at all)
+    pub reads : readTree most 0 all ≡ got tree at (drop at all)
     pub placed : At kinds ns limits ends 0 tree
     pub sized : at ≡ size tree
     pub known : Q tree 0 List.[]
 
   module _ (begins owed ends : List ℕ) where
     whole-at :
-        (Q : Tree → ℕ → List Frame → Type 0) (left at d : ℕ) (σ : List Frame) (t : Tree) (q : ℕ) →
+        (most : ℕ) (Q : Tree → ℕ → List Frame → Type 0) (left at d : ℕ) (σ : List Frame) (t : Tree) (q : ℕ) →
         length σ ≡ 0 → Open begins owed ends σ left q → At kinds ns limits ends q t → getD ends q 0 ≡ at →
-        resume d σ (got t at (drop at all)) ≡ readTree 16 0 all → Q t q σ →
-        Whole Q ends at
+        resume d σ (got t at (drop at all)) ≡ readTree most 0 all → Q t q σ →
+        Whole most Q ends at
     unfolding resume
-    whole-at Q left at d List.[] t q lev (none, opened) placed stop reads known =
+    whole-at most Q left at d List.[] t q lev (none, opened) placed stop reads known =
         let root : At kinds ns limits ends 0 t = rw opened at placed in
         record { tree = t; reads = sym reads; placed = root; sized = omega (arith, at-end kinds ns limits t ends q placed); known = rw opened at known }
-    whole-at Q left at d (List._∷_ f σ) t q lev opened placed stop reads known = absurd (omega arith)
+    whole-at most Q left at d (List._∷_ f σ) t q lev opened placed stop reads known = absurd (omega arith)
 
-    pub whole : {Q : Tree → ℕ → List Frame → Type 0} (open' left at : ℕ) → Closing Q begins owed ends open' left at → open' ≡ 0 → Whole Q ends at
-    whole {Q} open' left at c h =
+    pub whole : {most : ℕ} {Q : Tree → ℕ → List Frame → Type 0} (open' left at : ℕ) → Closing most Q begins owed ends open' left at → open' ≡ 0 → Whole most Q ends at
+    whole {most} {Q} open' left at c h =
         let none : length (c .frames) ≡ 0 = omega (arith, c .level) in
-        whole-at Q left at (c .deep) (c .frames) (c .tree) (c .place) none (c .opened) (c .placed) (c .stop) (c .reads) (c .known)
+        whole-at most Q left at (c .deep) (c .frames) (c .tree) (c .place) none (c .opened) (c .placed) (c .stop) (c .reads) (c .known)

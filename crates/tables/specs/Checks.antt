@@ -7,7 +7,7 @@ use lib.Ieee.{Float}
 use lib.ListN.{length, getD}
 use Rattle.rules.specs.Kinds.{kindOf, children}
 use Rattle.rules.specs.Tree.{Tree, size, depth}
-use Rattle.rules.specs.Table.{cleaned, number, rowAllowed, Table, good, bad, rows, table}
+use Rattle.rules.specs.Table.{cleaned, number, rowAllowed, Table, good, bad, rows, tableWithin}
 use Rattle.rules.specs.Cells.{Found, faulty, none}
 use Rattle.rules.specs.Call.{badAnswer}
 use Rattle.tables.specs.declared.number.Number.{Number}
@@ -40,24 +40,24 @@ abbrev pub checkedOf : Table → Checked
 checkedOf (good t) = checked.Good (size t)
 checkedOf (bad p) = checked.Bad p
 
--- a tree that the slices hold, and nothing else; `ends` has each subtree's end
-pub record Standing (kinds ns : List ℕ) (limits : List Float) (ends : List ℕ) (t : Tree) : Type 0 where
+-- a tree of at most so many levels that the slices hold, and nothing else; `ends` has each subtree's end
+pub record Standing (deep : ℕ) (kinds ns : List ℕ) (limits : List Float) (ends : List ℕ) (t : Tree) : Type 0 where
   pub nodes : length (rows kinds ns limits) ≡ size t
   pub few : size t ≤ 256
-  pub levels : depth t ≤ 16
+  pub levels : depth t ≤ deep
   pub placed : At kinds ns limits ends 0 t
 
-abbrev pub Laid : List ℕ → List ℕ → List Float → List ℕ → Table → Type 0
-Laid kinds ns limits ends (good t) = Standing kinds ns limits ends t
-Laid kinds ns limits ends (bad p) = Unit {0}
+abbrev pub Laid : ℕ → List ℕ → List ℕ → List Float → List ℕ → Table → Type 0
+Laid deep kinds ns limits ends (good t) = Standing deep kinds ns limits ends t
+Laid deep kinds ns limits ends (bad p) = Unit {0}
 
 abbrev pub upTo : Checked → ℕ
 upTo (checked.Good n) = n
 upTo (checked.Bad p) = p
 
--- what the table check leaves in `ends`, which held ends₀
-pub record Tabled (kinds ns : List ℕ) (limits : List Float) (ends₀ ends : List ℕ) (r : Checked) : Type 0 where
-  pub said : r ≡ checkedOf (table kinds ns limits)
-  pub tree : Laid kinds ns limits ends (table kinds ns limits)
+-- what the check of a table that may be so deep leaves in `ends`, which held ends₀
+pub record Tabled (deep : ℕ) (kinds ns : List ℕ) (limits : List Float) (ends₀ ends : List ℕ) (r : Checked) : Type 0 where
+  pub said : r ≡ checkedOf (tableWithin deep kinds ns limits)
+  pub tree : Laid deep kinds ns limits ends (tableWithin deep kinds ns limits)
   pub long : length ends ≡ 256
   pub stays : (i : ℕ) → upTo r ≤ i → getD ends i 0 ≡ getD ends₀ i 0

@@ -3,12 +3,15 @@ use crate::number::is_number;
 use rules::Kind;
 ghost use mathlib.Core.Path.{_≡_};
 ghost use mathlib.Core.Bool.{_&&_};
-ghost use Prim.Native.Nat.{min};
+ghost use Prim.Native.Nat.{_<_, _≤_, min};
 ghost use lib.Dec.{leb};
 ghost use lib.ListN.{length};
 ghost use Rattle.rules.specs.Kinds.{fewest, most};
 ghost use Rattle.rules.specs.Table.{rows, cleaned, limitAllowed};
 ghost use Rattle.tables.specs.Checks.{rowOf, Tabled};
+
+// A table is at most 16 deep.
+pub const MOST_DEEP: usize = 16;
 
 // How many nodes a good table has, or the smallest faulty place.
 pub enum Checked {
@@ -76,18 +79,25 @@ pub fn row_of(number: u8, n: u16, limit: f64) -> Row
     }
 }
 
-// Whether the slices hold exactly one tree of at most 256 nodes, at most 16 deep. Of a good table
+// Whether the slices hold exactly one tree of at most 256 nodes, at most so many levels deep. Of a good table
 // ends says for each node where its subtree ends; the entries behind the nodes stay.
-pub fn check_table(kinds: &[u8], ns: &[u16], limits: &[f64], ends: &mut [u16; 256]) -> Checked
+pub fn check_table(
+    kinds: &[u8],
+    ns: &[u16],
+    limits: &[f64],
+    ends: &mut [u16; 256],
+    deep: usize,
+) -> Checked
+    requires { ⌜ (0 < deep) × (deep ≤ 64) ⌝ }
     requires { ⌜ length (now ends) ≡ 256 ⌝ }
-    ensures { λ r. ⌜ Tabled (now (kinds .entry)) (now (ns .entry)) (now (limits .entry)) (now (ends .entry)) (now (ends .exit)) r ⌝ }
+    ensures { λ r. ⌜ Tabled deep (now (kinds .entry)) (now (ns .entry)) (now (limits .entry)) (now (ends .entry)) (now (ends .exit)) r ⌝ }
 {
     let rows = rows_of(kinds, ns, limits);
     let last = least(rows, 256);
     // The open nodes: where each begins, and how many of its parent's children are still to be read;
     // `left` is how many of the innermost's are, and at first 1, for the root.
-    let mut begins = [0u16; 16];
-    let mut owed = [0u16; 16];
+    let mut begins = [0u16; 64];
+    let mut owed = [0u16; 64];
     let mut open: usize = 0;
     let mut left: u16 = 1;
     let mut at: usize = 0;
@@ -104,7 +114,7 @@ pub fn check_table(kinds: &[u8], ns: &[u16], limits: &[f64], ends: &mut [u16; 25
             owed[open] = left;
             left = children;
             open += 1;
-            if 16 <= open {
+            if deep <= open {
                 return Checked::Bad(at);
             }
         } else {

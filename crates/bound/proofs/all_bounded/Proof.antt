@@ -42,11 +42,7 @@ all c ends t h e =
     sym (all-rows _ _ _ _ ends _ (loop .before .before .before .before .pre .in-limits) 0 t h (omega arith) (λ j p q. loop .loop .inv .1 j (omega arith)))
 
 pub all-bounded-spec : {M : Type 1} → statement M
-all-bounded-spec =
-    tie.close
-    (tie.spec
-    Inv-loop
-    μ-loop
+all-bounded-spec = tie.close (tie.spec Inv-loop μ-loop
     (λ c. (omega arith, λ j h. absurd (not-suc-le-zero h)))
     (λ c. omega arith)
     (λ c κs. tt)

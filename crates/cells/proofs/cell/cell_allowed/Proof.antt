@@ -54,9 +54,7 @@ returns-7 c =
     rw (marked .before .if1 .left, ne-eqb _ 0 (marked .if3 .left), may, eq-eqb _ 1 (c .before .if6 .left)) (c .at-start2 .ensures)
 
 pub cell-allowed-spec : {M : Type 1} → statement M
-cell-allowed-spec =
-    tie.close
-    (tie.spec
+cell-allowed-spec = tie.close (tie.spec
     (λ c κs. search needs)
     returns
     returns-2

@@ -11,5 +11,4 @@ returns-2 : tie.Need-returns-2
 returns-2 c = rw (sym (c .before .before .timed .ensures) ∙ c .before .if1 .left) (c .zero-bits .ensures)
 
 pub time-allowed-spec : {M : Type 1} → statement M
-time-allowed-spec =
-    tie.close (tie.spec (λ c κs. search needs) (λ c κs. search needs) (λ c κs. search needs) returns returns-2)
+time-allowed-spec = tie.close (tie.spec (λ c κs. search needs) (λ c κs. search needs) (λ c κs. search needs) returns returns-2)

@@ -87,11 +87,7 @@ loop-again-2 c =
     passed (joined (next cell)) (kind cell .of .ensures) (cell .cell-allowed .ensures) (good .if3 .left) (c .before .wide .ensures) (c .if4 .left)
 
 pub check-cells-spec : {M : Type 1} → statement M
-check-cells-spec =
-    tie.close
-    (tie.spec
-    Inv-loop
-    μ-loop
+check-cells-spec = tie.close (tie.spec Inv-loop μ-loop
     (λ c. search needs)
     loop-holds
     returns

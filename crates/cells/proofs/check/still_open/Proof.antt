@@ -37,11 +37,7 @@ returns-2 c =
     sym (ends (a .stops .now) (a .at) (loop .loop .left) (c .loop-test .left)) ∙ loop .loop .inv .1
 
 pub still-open-spec : {M : Type 1} → statement M
-still-open-spec =
-    tie.close
-    (tie.spec
-    Inv-loop
-    μ-loop
+still-open-spec = tie.close (tie.spec Inv-loop μ-loop
     loop-holds
     (λ c. search needs)
     (λ c. search needs)

@@ -6,6 +6,7 @@ use Prim.Native.Nat.{ℕ}
 use borrow.Author.Needs.{needs}
 use borrow.Author.Tests.{not-true, not-false}
 use lib.Dec.{leb}
+use Rattle.rules.specs.Table.{mostDeep}
 use Rattle.rules.specs.Call.{run, runLength}
 use Rattle.rules.specs.Exchange.{Room, GivenExchange, givenExchange}
 use Rattle.rules.specs.Exchange
@@ -31,12 +32,12 @@ abbrev table : tie.After-check-table2 → tie.After-check-table
 table c = first c .before .before
 
 -- the tree's table is good
-old : (c : tie.After-n) → let a = entry (c .before .before) .args in Good (a .kinds .now) (a .ns .now) (a .limits .now) (c .before .before .check-table .last .1 .1 .1 .0) (c .n .given .0 .0)
+old : (c : tie.After-n) → let a = entry (c .before .before) .args in Good mostDeep (a .kinds .now) (a .ns .now) (a .limits .now) (c .before .before .check-table .last .1 .1 .1 .0) (c .n .given .0 .0)
 old c = found-good _ _ _ _ _ _ (c .before .before .check-table .ensures) _ (c .n .given .1)
 
 -- and so is the branch's
 new : (c : tie.After-m) → let a = entry (table (c .before .before)) .args in
-    Good (a .new-kinds .now) (a .new-ns .now) (a .new-limits .now) (c .before .before .check-table2 .last .1 .1 .1 .0) (c .m .given .0 .0)
+    Good mostDeep (a .new-kinds .now) (a .new-ns .now) (a .new-limits .now) (c .before .before .check-table2 .last .1 .1 .1 .0) (c .m .given .0 .0)
 new c = found-good _ _ _ _ _ _ (c .before .before .check-table2 .ensures) _ (c .m .given .1)
 
 abbrev branch : tie.Else1 → tie.After-m
@@ -56,7 +57,7 @@ module _ (c : tie.After-check-cells) (to : Room) where
   abbrev g : GivenExchange
   g = call (table (m .before .before)) to
 
-  abbrev tree : Good (g .kinds) (g .ns) (g .limits) (table (m .before .before) .check-table .last .1 .1 .1 .0) (first (m .before .before) .n .given .0 .0)
+  abbrev tree : Good mostDeep (g .kinds) (g .ns) (g .limits) (table (m .before .before) .check-table .last .1 .1 .1 .0) (first (m .before .before) .n .given .0 .0)
   tree = old (first (m .before .before))
 
 -- ---- the needs

@@ -23,9 +23,7 @@ returns-4 c =
     row-other binary64 (a .kind) (a .n) (cleaned (a .limit)) _ (c .before .before .timed .ensures) (c .before .if1 .left) (sym not-after)
 
 pub bounded-spec : {M : Type 1} → statement M
-bounded-spec =
-    tie.close
-    (tie.spec
+bounded-spec = tie.close (tie.spec
     (λ c κs. search needs)
     (λ c κs. search needs)
     (λ c. search needs)

@@ -33,11 +33,7 @@ returns : tie.Need-returns Inv-loop μ-loop
 returns c = sym (load-none _ _ _ _ _ _ _ _ (omega arith)) ∙ c .before .loop .inv
 
 pub load-fresh-spec : {M : Type 1} → statement M
-load-fresh-spec =
-    tie.close
-    (tie.spec
-    Inv-loop
-    μ-loop
+load-fresh-spec = tie.close (tie.spec Inv-loop μ-loop
     loop-holds
     (λ c. search needs)
     (λ c. search needs)

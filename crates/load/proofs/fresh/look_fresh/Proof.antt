@@ -3,6 +3,7 @@ use mathlib.Core.Path.{sym}
 use mathlib.Core.Bool.{false≢true}
 use native.Mathlib.Omega.{arith}
 use borrow.Author.Needs.{needs}
+use Rattle.rules.specs.Table.{table}
 use Rattle.tables.proofs.Good.{found-good, found-bad}
 use Rattle.load.proofs.fresh.look_fresh.Statement.{statement}
 use Rattle.load.proofs.fresh.look_fresh.Tie as tie
@@ -13,9 +14,11 @@ load-fresh-requires c κs =
     (good .few, good .in-kinds, omega (arith, good .few, good .ends-long))
 
 returns : tie.Need-returns
+unfolding table
 returns c times places marks = found-bad _ _ _ _ _ _ (c .before .before .before .check-table .ensures) _ (c .before .p .given .1)
 
 returns-2 : tie.Need-returns-2
+unfolding table
 returns-2 c times places marks =
     let good = found-good _ _ _ _ _ _ (c .before .before .before .before .before .before .check-table .ensures) _ (c .before .before .before .before .n .given .1) in
     record {
@@ -33,9 +36,7 @@ returns-2 c times places marks =
     }
 
 pub look-fresh-spec : {M : Type 1} → statement M
-look-fresh-spec =
-    tie.close
-    (tie.spec
+look-fresh-spec = tie.close (tie.spec
     (λ c κs. search needs)
     (λ c. search needs)
     (λ c. search needs)

@@ -19,5 +19,4 @@ returns-4 : tie.Need-returns-4
 returns-4 c = let a = c .before .before .before .before .args in c .zero-bits .ensures ∙ marked (a .may-end) (a .time) (a .mark) (c .before .if3 .left) (not-false _ (c .before .before .if2 .left))
 
 pub leaf-allowed-spec : {M : Type 1} → statement M
-leaf-allowed-spec =
-    tie.close (tie.spec (λ c κs. search needs) returns returns-2 returns-3 (λ c κs. search needs) returns-4)
+leaf-allowed-spec = tie.close (tie.spec (λ c κs. search needs) returns returns-2 returns-3 (λ c κs. search needs) returns-4)

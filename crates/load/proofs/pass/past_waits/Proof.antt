@@ -31,11 +31,7 @@ returns-2 : tie.Need-returns-2 Inv-loop μ-loop
 returns-2 c = c .before .loop .inv
 
 pub past-waits-spec : {M : Type 1} → statement M
-past-waits-spec =
-    tie.close
-    (tie.spec
-    Inv-loop
-    μ-loop
+past-waits-spec = tie.close (tie.spec Inv-loop μ-loop
     loop-holds
     (λ c. search needs)
     (λ c. search needs)

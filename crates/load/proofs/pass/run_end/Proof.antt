@@ -10,5 +10,4 @@ returns-2 : tie.Need-returns-2
 returns-2 c = (search needs, search needs, search needs, λ e. absurd (false≢true (sym (c .before .before .if1 .left) ∙ e)))
 
 pub run-end-spec : {M : Type 1} → statement M
-run-end-spec =
-    tie.close (tie.spec (λ c. search needs) (λ c κs. search needs) (λ c. search needs) (λ c κs. search needs) (λ c. search needs) returns-2)
+run-end-spec = tie.close (tie.spec (λ c. search needs) (λ c κs. search needs) (λ c. search needs) (λ c κs. search needs) (λ c. search needs) returns-2)

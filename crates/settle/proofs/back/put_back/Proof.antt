@@ -49,13 +49,7 @@ returns c =
     (putting-end (inv .0) left, (putting-end (inv .1) left, (stamping-end (c .before .loop2 .inv) (c .loop2-test .left), putting-end (inv .2) left)))
 
 pub put-back-spec : {M : Type 1} → statement M
-put-back-spec =
-    tie.close
-    (tie.spec
-    Inv-loop
-    μ-loop
-    Inv-loop2
-    μ-loop2
+put-back-spec = tie.close (tie.spec Inv-loop μ-loop Inv-loop2 μ-loop2
     loop-holds
     (λ c. search needs)
     (λ c. search needs)

@@ -49,11 +49,7 @@ returns-3 c =
     ends-first (a .statuses .now) (a .leftovers .now) (loop .loop .i) (loop .loop .inv .1 .1) (c .loop-test .left)
 
 pub bad-answer-spec : {M : Type 1} → statement M
-bad-answer-spec =
-    tie.close
-    (tie.spec
-    Inv-loop
-    μ-loop
+bad-answer-spec = tie.close (tie.spec Inv-loop μ-loop
     loop-holds
     returns
     (λ c. search needs)

@@ -9,9 +9,7 @@ use Rattle.limits.proofs.node.Join.of.Tie as tie
 
 pub of-spec : {M : Type 1} → statement M
 unfolding kindOf
-of-spec =
-    tie.close
-    (tie.spec
+of-spec = tie.close (tie.spec
     (λ c. search needs)
     (λ c. search needs)
     (λ c. gives joinOf (6 ∷ 8 ∷ []) (c .before .args .kind) (c .match .keys1) (search depth 20))

@@ -4,9 +4,7 @@ use Rattle.limits.proofs.node.Join.with.Statement.{statement}
 use Rattle.limits.proofs.node.Join.with.Tie as tie
 
 pub with-spec : {M : Type 1} → statement M
-with-spec =
-    tie.close
-    (tie.spec
+with-spec = tie.close (tie.spec
     (λ c. search needs)
     (λ c κs. search needs)
     (λ c. search needs)

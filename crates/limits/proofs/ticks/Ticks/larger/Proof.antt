@@ -5,9 +5,7 @@ use Rattle.limits.proofs.ticks.Ticks.larger.Statement.{statement}
 use Rattle.limits.proofs.ticks.Ticks.larger.Tie as tie
 
 pub larger-spec : {M : Type 1} → statement M
-larger-spec =
-    tie.close
-    (tie.spec
+larger-spec = tie.close (tie.spec
     (λ c. search needs)
     (λ c. search needs)
     (λ c. search needs)

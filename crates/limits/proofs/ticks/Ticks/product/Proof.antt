@@ -5,9 +5,7 @@ use Rattle.limits.proofs.ticks.Ticks.product.Statement.{statement}
 use Rattle.limits.proofs.ticks.Ticks.product.Tie as tie
 
 pub product-spec : {M : Type 1} → statement M
-product-spec =
-    tie.close
-    (tie.spec
+product-spec = tie.close (tie.spec
     (λ c. search needs)
     (λ c. search needs)
     (λ c. search needs)

@@ -5,9 +5,7 @@ use Rattle.limits.proofs.ticks.Ticks.smaller.Statement.{statement}
 use Rattle.limits.proofs.ticks.Ticks.smaller.Tie as tie
 
 pub smaller-spec : {M : Type 1} → statement M
-smaller-spec =
-    tie.close
-    (tie.spec
+smaller-spec = tie.close (tie.spec
     (λ c. search needs)
     (λ c. search needs)
     (λ c. search needs)

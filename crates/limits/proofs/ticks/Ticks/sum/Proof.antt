@@ -5,9 +5,7 @@ use Rattle.limits.proofs.ticks.Ticks.sum.Statement.{statement}
 use Rattle.limits.proofs.ticks.Ticks.sum.Tie as tie
 
 pub sum-spec : {M : Type 1} → statement M
-sum-spec =
-    tie.close
-    (tie.spec
+sum-spec = tie.close (tie.spec
     (λ c. search needs)
     (λ c. search needs)
     (λ c. search needs)

@@ -20,9 +20,7 @@ unfolding ofBits neg
 returns-5 c = whole-low binary64 _ (c .if1 .left)
 
 pub of-spec : {M : Type 1} → statement M
-of-spec =
-    tie.close
-    (tie.spec
+of-spec = tie.close (tie.spec
     truncating-f64-to-u64-requires
     (λ c. search whole-float)
     (λ c. search whole-no-nan)
