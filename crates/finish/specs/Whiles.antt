@@ -108,7 +108,8 @@ module _ (F : Format) (d : ℕ) where
 
     loop-next : (budget : ℕ) (y z r : Float) (c t' : Tree) (ts : Forest) (p : ℕ) (w : R .Worlds) → Shapeds F (shapes ts) → Valid F c → p < count ts → shapes (put p t' ts) ≡ shapes ts
         → (b : Bool) → ltb (suc p) (count ts) ≡ b
-        → ((i : ℕ) (us : Forest) → Shapeds F (shapes us) → ValidLoop F (c ∷ us) (inBody i) → Holds R (LoopC (Update y) (Update r) c us i) w (λ v. whileAll child budget (Update y) i (Update r) c us v))
+        → ((i : ℕ) (us : Forest) → Shapeds F (shapes us) → ValidLoop F (c ∷ us) (inBody i)
+        → Holds R (LoopC (Update y) (Update r) c us i) w (λ v. whileAll child budget (Update y) i (Update r) c us v))
         → Holds R (LoopC (Update y) (Update z) c ts (suc p)) w (λ v. whileAll child budget (Update y) (cond b (suc (suc p)) 0) (Update r) c (freshAt (cond b (suc p) 0) (freshAt p (put p t' ts))) v)
     loop-next budget y z r c t' ts p w ss v inside sh true e rec =
         let us : Forest = freshAt (suc p) (freshAt p (put p t' ts)) in

@@ -119,7 +119,12 @@ module _ {F : Format} (R : Pairing F) where
       | Running ↦ λ r c' q x. stay R (join (x .0) refl, from-both R (x .1) v (λ a b. (omega arith, (a .0, b .2 .1))), x .2)
       | Success ↦ λ r c' q x. up R (sizeOf (shape a)) (R .upto (sizeOf (shape a)) (sizesOf (shapes (a ∷ b ∷ ts))) (omega arith))
           (after R (visit-fresh R D child child' g a (rest r e) q (d .1 .0) (rest-time R r e (x .2)))
-          λ s' r' a' q' y. stay R (join (fresh-shape c' ∙ x .0) (join (y .0) refl), from-both R (fresh-lively R c') (R .terms .both (y .1) v) (λ a b. (omega arith, (a, (b .0 .0, b .1 .2 .1 .1)))), y .2))
+          λ s' r' a' q' y. stay R (
+            join (fresh-shape c' ∙ x .0) (join (y .0) refl),
+            from-both R (fresh-lively R c') (R .terms .both (y .1) v)
+                (λ a b. (omega arith, (a, (b .0 .0, b .1 .2 .1 .1)))),
+            y .2,
+          ))
       | Failure ↦ λ r c' q x. up R (sizeOf (shape b)) (R .upto (sizeOf (shape b)) (sizesOf (shapes (a ∷ b ∷ ts))) (omega arith))
           (after R (visit-fresh R D child child' g b (rest r e) q (d .1 .1 .0) (rest-time R r e (x .2))) λ s' r' b' q' y. stay R (
             join (fresh-shape c' ∙ x .0) (join refl (join (y .0) refl)),

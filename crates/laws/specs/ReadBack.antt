@@ -17,7 +17,8 @@ use Rattle.rules.specs.declared.behavior.Kind.the-variants.{MemorylessSequence,
 use Rattle.rules.specs.Kinds.{code, kindOf, children}
 use Rattle.rules.specs.Codes.{kind-code}
 use Rattle.rules.specs.Tree.{Cell, Tree, node, Forest, [], _∷_, fresh, freshAll, size, sizes, depth, depths, count}
-use Rattle.rules.specs.Table.{mostNodes, mostDeep, cleaned, Row, row, rows, countAllowed, limitAllowed, rowAllowed, Read, got, fault, _andThen_, readChildren, readTree, Table, good, bad, whole, table}
+use Rattle.rules.specs.Table.{mostNodes, mostDeep, cleaned, Row, row, rows, countAllowed, limitAllowed, rowAllowed}
+use Rattle.rules.specs.Table.{Read, got, fault, _andThen_, readChildren, readTree, Table, good, bad, whole, table}
 use Rattle.rules.specs.Exchange.{listed, listedAll, codeIn, numberIn, limitIn}
 use Rattle.laws.specs.Memory.{clear, clearAll}
 use Rattle.laws.specs.Tables.{renewed}

@@ -125,7 +125,8 @@ pub record Leaf
   fine : true ≡ cellAllowed ended mayEnd (kindOf (getD kinds i 0)) (getD ns i 0) (cellAt times places marks i)
   ends-here : getD ends i 0 ≡ i + 1
 
-module _ (kinds ns : List ℕ) (limits times : List Float) (places marks : List ℕ) (under may : List Bool) (ended mayEnd : Bool) (begins owed ends : List ℕ) (open' s : ℕ) (room : open' < mostDeep) where
+module _ (kinds ns : List ℕ) (limits times : List Float) (places marks : List ℕ) (under may : List Bool) (ended mayEnd : Bool)
+    (begins owed ends : List ℕ) (open' s : ℕ) (room : open' < mostDeep) where
   abbrev At : ℕ → ℕ → Type 0
   At left at = Reading kinds ns limits mostDeep (Known times places marks under may ended mayEnd s at) begins owed ends open' left at
 

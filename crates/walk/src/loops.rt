@@ -1,6 +1,6 @@
 // While and WhileAll: the body goes round while the condition is Running. Each turn visits a child, so
 // there are no more turns than fuel.
-use crate::node::visit;
+use crate::visit;
 use work::FUEL;
 use work::Result;
 use work::Seen;

@@ -1,6 +1,6 @@
 // Sequence and Select, and their memoryless forms. Select is Sequence with Success and Failure
 // exchanged.
-use crate::node::visit;
+use crate::visit;
 use work::Result;
 use work::Seen;
 use work::child;

@@ -1,6 +1,6 @@
 // WhenAll and WhenAny, Race and After, which visit several children in one tick. WhenAny is WhenAll
 // with Success and Failure exchanged.
-use crate::node::visit;
+use crate::visit;
 use work::LARGEST;
 use work::Result;
 use work::Seen;

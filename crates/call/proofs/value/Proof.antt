@@ -12,7 +12,8 @@ abbrev room : tie.After-checks → tie.After-entries-of
 room c = c .before .before .before .before .before .before .before .before .before .before .before
 
 abbrev start : tie.After-checks → tie.Start
-start c = room c .before .before .before .before .before .before .before .before .before .before .before .before .before .before .before .before .before .before .before .before .before .before .before
+start c =
+    room c .before .before .before .before .before .before .before .before .before .before .before .before .before .before .before .before .before .before .before .before .before .before .before
 
 abbrev call : tie.Start → Given
 call c =

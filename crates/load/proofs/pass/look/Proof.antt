@@ -6,7 +6,8 @@ use native.Mathlib.Omega.{arith}
 use borrow.Author.Needs.{needs}
 use lib.ListN.{length, getD}
 use Rattle.rules.specs.Table.{rows}
-use Rattle.load.proofs.Look.{In, all-in, Node, Nodes, Ended, first, since, at-end, too-long, tells, passed, row-refused, too-deep-at, opens, ends-leaf, stays-on, goes-on, begin-low, closes-one}
+use Rattle.load.proofs.Look.{In, all-in, Node, Nodes, Ended, first, since, at-end, too-long, tells, passed}
+use Rattle.load.proofs.Look.{row-refused, too-deep-at, opens, ends-leaf, stays-on, goes-on, begin-low, closes-one}
 use Rattle.load.proofs.pass.look.Statement.{statement}
 use Rattle.load.proofs.pass.look.Tie as tie
 

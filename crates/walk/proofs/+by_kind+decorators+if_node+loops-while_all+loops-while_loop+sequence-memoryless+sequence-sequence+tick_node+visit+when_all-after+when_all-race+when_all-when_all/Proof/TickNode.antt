@@ -4,21 +4,22 @@ use native.Mathlib.Omega.{arith}
 use borrow.Author.Needs.{needs}
 use Rattle.work.proofs.VisitLaws.{gave-told}
 use Rattle.work.proofs.VisitLaws as law
-use Rattle.walk.proofs.node.by_kind.Reads as by-kind
-use Rattle.walk.proofs.node.tick_node.Reads as own
+use Rattle.walk.proofs.by_kind.Reads as by-kind
+use Rattle.walk.proofs.tick_node.Reads as own
 use Rattle.work.proofs.put_seen.Reads as put-seen
 use Rattle.work.proofs.stopped.Reads as stopped
 use Rattle.work.proofs.kind_of.Reads as kind-of
-use Rattle.walk.proofs.+loops-while_all+loops-while_loop+node-by_kind+node-decorators+node-if_node+node-tick_node+node-visit+sequence-memoryless+sequence-sequence+when_all-after+when_all-race+when_all-when_all as cycle
-use cycle.Lts-node-tick_node as lts
+use Rattle.walk.proofs.+by_kind+decorators+if_node+loops-while_all+loops-while_loop+sequence-memoryless+sequence-sequence+tick_node+visit+when_all-after+when_all-race+when_all-when_all
+    as cycle
+use cycle.Lts-tick_node as lts
 use cycle.Proof.Measures.{at-level, below-choice}
 
 abbrev callees : ℕ → lts.Claims
 callees t =
     (stopped.Asked, stopped.Learnt, kind-of.Asked, kind-of.Learnt, below-choice t, by-kind.Post, put-seen.Asked, put-seen.Learnt)
 
-pub met-node·tick-node : {M : Type 1} (t : ℕ) → lts.Closed (callees t) (at-level 0 own.Pre t) own.Post M
-met-node·tick-node t = lts.spec (callees t) (at-level 0 own.Pre t) own.Post
+pub met-tick-node : {M : Type 1} (t : ℕ) → lts.Closed (callees t) (at-level 0 own.Pre t) own.Post M
+met-tick-node t = lts.spec (callees t) (at-level 0 own.Pre t) own.Post
     -- stopped-requires
     (λ c κs. search needs)
     -- returns

@@ -10,15 +10,16 @@ use Rattle.work.specs.Flat.{out, lent, decorator, visiting}
 use Rattle.work.proofs.VisitLaws.{Gave, gave-told}
 use Rattle.walk.proofs.NodeLaws.{up}
 use Rattle.walk.proofs.NodeLaws as node-law
-use Rattle.walk.proofs.node.decorators.Reads as own
-use Rattle.walk.proofs.node.visit.Reads as visit
+use Rattle.walk.proofs.decorators.Reads as own
+use Rattle.walk.proofs.visit.Reads as visit
 use Rattle.work.proofs.put_seen.Reads as put-seen
 use Rattle.leaves.proofs.decorated.Reads as decorated
 use Rattle.work.proofs.decorates.Reads as decorates
 use Rattle.work.proofs.stopped.Reads as stopped
 use Rattle.work.proofs.kind_of.Reads as kind-of
-use Rattle.walk.proofs.+loops-while_all+loops-while_loop+node-by_kind+node-decorators+node-if_node+node-tick_node+node-visit+sequence-memoryless+sequence-sequence+when_all-after+when_all-race+when_all-when_all as cycle
-use cycle.Lts-node-decorators as lts
+use Rattle.walk.proofs.+by_kind+decorators+if_node+loops-while_all+loops-while_loop+sequence-memoryless+sequence-sequence+tick_node+visit+when_all-after+when_all-race+when_all-when_all
+    as cycle
+use cycle.Lts-decorators as lts
 use cycle.Proof.Measures.{at-level, visit-below}
 
 abbrev Inv-loop : lts.InvT-loop
@@ -51,8 +52,8 @@ abbrev callees : ℕ → lts.Claims
 callees t =
     (stopped.Asked, stopped.Learnt, kind-of.Asked, kind-of.Learnt, decorates.Asked, decorates.Learnt, visit-below t, visit.Post, decorated.Asked, decorated.Learnt, put-seen.Asked, put-seen.Learnt)
 
-pub met-node·decorators : {M : Type 1} (t : ℕ) → lts.Closed (callees t) (at-level 2 own.Pre t) own.Post M
-met-node·decorators t = lts.spec (callees t) (at-level 2 own.Pre t) own.Post Inv-loop μ-loop Inv-loop2 μ-loop2
+pub met-decorators : {M : Type 1} (t : ℕ) → lts.Closed (callees t) (at-level 2 own.Pre t) own.Post M
+met-decorators t = lts.spec (callees t) (at-level 2 own.Pre t) own.Post Inv-loop μ-loop Inv-loop2 μ-loop2
     -- stopped-requires
     (λ c κs. search needs)
     -- returns

@@ -4,25 +4,26 @@ use Prim.Native.Nat.{ℕ, _-_}
 use native.Mathlib.Omega.{arith}
 use borrow.Author.Needs.{needs}
 use Rattle.walk.proofs.NodeLaws as node-law
-use Rattle.walk.proofs.node.if_node.Reads as own
+use Rattle.walk.proofs.if_node.Reads as own
 use Rattle.walk.proofs.TurnLaws.{bounds, due}
-use Rattle.walk.proofs.node.visit.Reads as visit
+use Rattle.walk.proofs.visit.Reads as visit
 use Rattle.work.proofs.child.Reads as child
 use Rattle.work.proofs.end_of.Reads as end
 use Rattle.work.proofs.choice.Reads as choice
 use Rattle.work.proofs.choose.Reads as choose
 use Rattle.work.proofs.stopped.Reads as stopped
 use Rattle.work.proofs.place_of.Reads as place
-use Rattle.walk.proofs.+loops-while_all+loops-while_loop+node-by_kind+node-decorators+node-if_node+node-tick_node+node-visit+sequence-memoryless+sequence-sequence+when_all-after+when_all-race+when_all-when_all as cycle
-use cycle.Lts-node-if_node as lts
+use Rattle.walk.proofs.+by_kind+decorators+if_node+loops-while_all+loops-while_loop+sequence-memoryless+sequence-sequence+tick_node+visit+when_all-after+when_all-race+when_all-when_all
+    as cycle
+use cycle.Lts-if_node as lts
 use cycle.Proof.Measures.{at-level, visit-below}
 
 abbrev callees : ℕ → lts.Claims
 callees t =
     (end.Asked, end.Learnt, place.Asked, place.Learnt, child.Asked, child.Learnt, stopped.Asked, stopped.Learnt, visit-below t, visit.Post, choice.Asked, choice.Learnt, choose.Asked, choose.Learnt)
 
-pub met-node·if-node : {M : Type 1} (t : ℕ) → lts.Closed (callees t) (at-level 2 own.Pre t) own.Post M
-met-node·if-node t = lts.spec (callees t) (at-level 2 own.Pre t) own.Post
+pub met-if-node : {M : Type 1} (t : ℕ) → lts.Closed (callees t) (at-level 2 own.Pre t) own.Post M
+met-if-node t = lts.spec (callees t) (at-level 2 own.Pre t) own.Post
     -- end-of-requires, mul-place-of, element-copy-out-place-of, place-of-requires, add-child
     (λ c κs. search needs) (λ c. omega arith) (λ c. omega arith) (λ c κs. search needs) (λ c. omega arith)
     -- child-requires
@@ -118,4 +119,5 @@ met-node·if-node t = lts.spec (callees t) (at-level 2 own.Pre t) own.Post
     let place-of = visit2 .before .before .before .before .before in
     node-law.if-chosen _ _ _ _ _ _ _ (place-of .before .before .end-of .ensures .0) (place-of .place-of .ensures .0)
     (visit2 .before .before .before .before .if1 .left) (visit2 .before .before .before .if3 .left) _ _ _ _ (visit2 .visit2 .ensures) _ (choice .choice .ensures)
-    (choose .before .before .before .if4 .left) _ _ (choose .choose .ensures .0) (choose .choose .ensures .1) _ (child2 .child2 .ensures .0) (visit3 .before .before .before .if5 .left) _ (visit3 .visit3 .ensures))
+    (choose .before .before .before .if4 .left) _ _ (choose .choose .ensures .0) (choose .choose .ensures .1) _ (child2 .child2 .ensures .0)
+    (visit3 .before .before .before .if5 .left) _ (visit3 .visit3 .ensures))

@@ -4,21 +4,22 @@ use Prim.Native.Nat.{ℕ, _-_}
 use native.Mathlib.Omega.{arith}
 use borrow.Author.Needs.{needs}
 use Rattle.work.proofs.VisitLaws as law
-use Rattle.walk.proofs.node.tick_node.Reads as tick-node
-use Rattle.walk.proofs.node.visit.Reads as own
+use Rattle.walk.proofs.tick_node.Reads as tick-node
+use Rattle.walk.proofs.visit.Reads as own
 use Rattle.leaves.proofs.visit_leaf.Reads as visit-leaf
 use Rattle.work.proofs.is_leaf.Reads as is-leaf
 use Rattle.work.proofs.kind_of.Reads as kind-of
-use Rattle.walk.proofs.+loops-while_all+loops-while_loop+node-by_kind+node-decorators+node-if_node+node-tick_node+node-visit+sequence-memoryless+sequence-sequence+when_all-after+when_all-race+when_all-when_all as cycle
-use cycle.Lts-node-visit as lts
+use Rattle.walk.proofs.+by_kind+decorators+if_node+loops-while_all+loops-while_loop+sequence-memoryless+sequence-sequence+tick_node+visit+when_all-after+when_all-race+when_all-when_all
+    as cycle
+use cycle.Lts-visit as lts
 use cycle.Proof.Measures.{at-level, below-level}
 
 abbrev callees : ℕ → lts.Claims
 callees t =
     (kind-of.Asked, kind-of.Learnt, is-leaf.Asked, is-leaf.Learnt, visit-leaf.Asked, visit-leaf.Learnt, below-level 0 tick-node.Pre t, tick-node.Post)
 
-pub met-node·visit : {M : Type 1} (t : ℕ) → lts.Closed (callees t) (at-level 1 own.Pre t) own.Post M
-met-node·visit t = lts.spec (callees t) (at-level 1 own.Pre t) own.Post
+pub met-visit : {M : Type 1} (t : ℕ) → lts.Closed (callees t) (at-level 1 own.Pre t) own.Post M
+met-visit t = lts.spec (callees t) (at-level 1 own.Pre t) own.Post
     -- mul-kind-of, element-copy-out-kind-of, kind-of-requires, is-leaf-requires
     (λ c. omega arith) (λ c. omega arith) (λ c κs. search needs) (λ c κs. search needs)
     -- visit-leaf-requires

@@ -4,10 +4,10 @@ use Prim.Native.Nat.{ℕ, _+_, _*_, _<_}
 use borrow.Fn.Kind.{PK}
 use borrow.Fn.Kinds.{In}
 use borrow.Fn.PlainCycle.{Measures, is, falls, and}
-use Rattle.walk.proofs.node.by_kind.Kinds as by-kind-kinds
-use Rattle.walk.proofs.node.by_kind.Reads as by-kind
-use Rattle.walk.proofs.node.visit.Kinds as visit-kinds
-use Rattle.walk.proofs.node.visit.Reads as visit
+use Rattle.walk.proofs.by_kind.Kinds as by-kind-kinds
+use Rattle.walk.proofs.by_kind.Reads as by-kind
+use Rattle.walk.proofs.visit.Kinds as visit-kinds
+use Rattle.walk.proofs.visit.Reads as visit
 use Rattle.walk.proofs.sequence.sequence.Kinds as sequence-kinds
 
 -- of a tick, a visit or a driver; of a driver that may exchange; of the choice

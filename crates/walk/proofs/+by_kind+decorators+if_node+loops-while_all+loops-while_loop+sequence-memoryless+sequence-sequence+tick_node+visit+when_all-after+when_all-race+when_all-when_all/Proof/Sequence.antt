@@ -18,9 +18,10 @@ use Rattle.work.proofs.updates.Reads as updates
 use Rattle.work.proofs.waiting.Reads as waiting
 use Rattle.walk.proofs.SequenceLaws as seq-law
 use Rattle.walk.proofs.TurnLaws.{visitor, Bounds, bounds, inside, within, due, small, closer, turns-left}
-use Rattle.walk.proofs.node.visit.Reads as visit
+use Rattle.walk.proofs.visit.Reads as visit
 use Rattle.walk.proofs.sequence.sequence.Reads as own
-use Rattle.walk.proofs.+loops-while_all+loops-while_loop+node-by_kind+node-decorators+node-if_node+node-tick_node+node-visit+sequence-memoryless+sequence-sequence+when_all-after+when_all-race+when_all-when_all as cycle
+use Rattle.walk.proofs.+by_kind+decorators+if_node+loops-while_all+loops-while_loop+sequence-memoryless+sequence-sequence+tick_node+visit+when_all-after+when_all-race+when_all-when_all
+    as cycle
 use cycle.Lts-sequence-sequence as lts
 use cycle.Proof.Measures.{at-exchange, visit-below}
 
@@ -139,7 +140,8 @@ met-sequence·sequence t = lts.spec (callees t) (at-exchange own.Pre t) own.Post
     -- enum-told-4
     (λ c. search needs)
     -- end-of-requires-2
-    (λ c κs. within (c .before .before .before .before .before .before .before .before .before .loop .inv .1) (c .before .before .before .before .before .before .before .before .before .loop .inv .4))
+    (λ c κs.
+    within (c .before .before .before .before .before .before .before .before .before .loop .inv .1) (c .before .before .before .before .before .before .before .before .before .loop .inv .4))
     -- updates-requires
     (λ c κs. search needs)
     -- up-on-requires

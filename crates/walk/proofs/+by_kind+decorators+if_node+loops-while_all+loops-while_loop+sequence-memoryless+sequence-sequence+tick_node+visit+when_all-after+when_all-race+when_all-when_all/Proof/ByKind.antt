@@ -5,9 +5,9 @@ use borrow.Author.Needs.{needs}
 use Rattle.work.proofs.KindLaws as kind-law
 use Rattle.walk.proofs.loops.while_all.Reads as while-all
 use Rattle.walk.proofs.loops.while_loop.Reads as while-loop
-use Rattle.walk.proofs.node.by_kind.Reads as own
-use Rattle.walk.proofs.node.decorators.Reads as decorators
-use Rattle.walk.proofs.node.if_node.Reads as if-node
+use Rattle.walk.proofs.by_kind.Reads as own
+use Rattle.walk.proofs.decorators.Reads as decorators
+use Rattle.walk.proofs.if_node.Reads as if-node
 use Rattle.walk.proofs.sequence.memoryless.Reads as memoryless
 use Rattle.walk.proofs.sequence.sequence.Reads as sequence
 use Rattle.walk.proofs.when_all.after.Reads as after
@@ -15,8 +15,9 @@ use Rattle.walk.proofs.when_all.race.Reads as race
 use Rattle.walk.proofs.when_all.when_all.Reads as when-all
 use Rattle.leaves.proofs.leaf.Reads as leaf
 use Rattle.work.proofs.exchanges.Reads as exchanges
-use Rattle.walk.proofs.+loops-while_all+loops-while_loop+node-by_kind+node-decorators+node-if_node+node-tick_node+node-visit+sequence-memoryless+sequence-sequence+when_all-after+when_all-race+when_all-when_all as cycle
-use cycle.Lts-node-by_kind as lts
+use Rattle.walk.proofs.+by_kind+decorators+if_node+loops-while_all+loops-while_loop+sequence-memoryless+sequence-sequence+tick_node+visit+when_all-after+when_all-race+when_all-when_all
+    as cycle
+use cycle.Lts-by_kind as lts
 use cycle.Proof.Measures.{at-choice, below-exchange, below-level}
 
 abbrev callees : ℕ → lts.Claims
@@ -49,8 +50,8 @@ callees t = (
 asks : {t : ℕ} (c : lts.Start (callees t) (at-choice t) own.Post) → (c .args .depth * 4 + 2 < t) × (c .args .p < 256)
 asks c = (omega arith, c .pre .1)
 
-pub met-node·by-kind : {M : Type 1} (t : ℕ) → lts.Closed (callees t) (at-choice t) own.Post M
-met-node·by-kind t = lts.spec (callees t) (at-choice t) own.Post
+pub met-by-kind : {M : Type 1} (t : ℕ) → lts.Closed (callees t) (at-choice t) own.Post M
+met-by-kind t = lts.spec (callees t) (at-choice t) own.Post
     -- leaf-requires
     (λ c κs. c .before .before .before .before .pre .1)
     -- decorators-requires
