@@ -1,18 +1,17 @@
 -- The invariant of the two loops of the pass, and what each way through a turn makes of it.
 use mathlib.Core.Path.{_≡_, refl, sym, ap, subst, _∙_}
-use mathlib.Core.Bool.{Bool, true, false, _||_, false≢true}
+use mathlib.Core.Bool.{Bool, true, false, _||_}
 use mathlib.Core.List.{List}
 use mathlib.Core.List
 use Prim.Native.Nat.{ℕ, zero, suc, _+_, _-_, _≤_, _<_, min}
 use native.Mathlib.Omega.{arith}
-use borrow.Author.Tests.{eqb-true, eqb-false, ltb-true, ltb-false, eq-eqb, ne-eqb}
+use borrow.Author.Tests.{eqb-true, eqb-false, ltb-true, ltb-false}
 use lib.Dec.{eqb, ltb}
 use lib.Ieee.{Float, nan}
 use lib.ListN.{length, getD, set, length-set, drop-of-length-le}
-use lib.Seq.{drop-cons, getD-set-same, getD-set-other, set-getD}
-use Rattle.rules.specs.declared.behavior.Kind.{Kind}
+use lib.Seq.{drop-cons, getD-set-other, set-getD}
 use Rattle.rules.specs.Kinds.{kindOf, children, marksChildren}
-use Rattle.rules.specs.Tree.{zeroTime, Tree, size}
+use Rattle.rules.specs.Tree.{zeroTime, size}
 use Rattle.rules.specs.Table as T
 use Rattle.rules.specs.Table.{mostDeep, cleaned, rows, rowAllowed, got, fault, readTree, table, good, bad}
 use Rattle.rules.specs.Cells.{cells, withCells, cellAllowed, endedIn, badCell}
@@ -21,12 +20,11 @@ use Rattle.tables.specs.declared.table.Row.the-variants as row
 use Rattle.tables.specs.Checks.{rowOf}
 use Rattle.tables.proofs.Rows.{length-rows, row-bad, row-allowed, row-children, any-default}
 use Rattle.tables.proofs.Depth.{read-depth}
-use Rattle.tables.proofs.Placed.{Alike}
-use Rattle.tables.proofs.Scan.{Frame, Reading, Closing, start, past, too-deep, refuses, ends-alike, descends, leaves, nexts, begins-before, closes, Whole, whole}
+use Rattle.tables.proofs.Scan.{Reading, Closing, start, past, too-deep, refuses, ends-alike, descends, leaves, nexts, begins-before, closes, Whole, whole}
 use Rattle.cells.proofs.Held.{cellAt, length-cells}
 use Rattle.work.specs.Word.{belowOf}
 use Rattle.refine.specs.Words.{pack}
-use Rattle.load.specs.declared.pass.Scanned.the-variants.{Bad, Faulty, Good}
+use Rattle.load.specs.declared.pass.Scanned.the-variants.{Faulty, Good}
 use Rattle.load.specs.Scans.{firstOf, scannedAs, withBelow, Passes, Lent, Scans}
 use Rattle.load.proofs.Faults.{Agrees, Known, Done, first-known, leaf-done, opened, next-known, close-done, root-passes, finds, found-none, found-at}
 use Rattle.load.proofs.Ends.{endsOf, ends-long, end-at, set-end, below-none, below-with, Packed, packed-new, packed-with, packed-other, packed-loads}

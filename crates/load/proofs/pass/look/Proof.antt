@@ -1,10 +1,9 @@
 -- A tree is next, or a tree has ended: each way through a turn keeps what is known of the open nodes, of their cells and of the words.
 use mathlib.Core.Path.{_≡_, sym, _∙_}
-use mathlib.Core.List.{List}
 use Prim.Native.Nat.{ℕ, _-_, _<_, min}
 use native.Mathlib.Omega.{arith}
 use borrow.Author.Needs.{needs}
-use lib.ListN.{length, getD}
+use lib.ListN.{length}
 use Rattle.rules.specs.Table.{rows}
 use Rattle.load.proofs.Look.{In, all-in, Node, Nodes, Ended, first, since, at-end, too-long, tells, passed}
 use Rattle.load.proofs.Look.{row-refused, too-deep-at, opens, ends-leaf, stays-on, goes-on, begin-low, closes-one}

@@ -1,6 +1,5 @@
 -- From `from` on plain Waits stand, and their words.
 use Prim.Native.Nat.{_-_}
-use native.Mathlib.Omega.{arith}
 use borrow.Author.Needs.{needs}
 use borrow.Author.Tests.{not-false}
 use Rattle.load.specs.Scans.{Passes}

@@ -1,7 +1,6 @@
 -- No further than the last child but one.
 use mathlib.Core.Path.{sym, _∙_}
 use mathlib.Core.Bool.{false≢true}
-use native.Mathlib.Omega.{arith}
 use borrow.Author.Needs.{needs}
 use Rattle.load.proofs.pass.run_end.Statement.{statement}
 use Rattle.load.proofs.pass.run_end.Tie as tie
