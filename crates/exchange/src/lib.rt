@@ -6,16 +6,10 @@ use gate::Plan;
 use gate::planned;
 use rules::Exchanged;
 use rules::Record;
+use tables::least;
 ghost use mathlib.Core.Path.{_≡_};
-ghost use Prim.Native.Nat.{min};
 ghost use Rattle.rules.specs.Call.{run};
 ghost use Rattle.rules.specs.Exchange.{room, givenExchange, leftExchange, exchangeCall};
-
-fn least(a: usize, b: usize) -> usize
-    ensures { λ r. ⌜ r ≡ min a b ⌝ }
-{
-    if a < b { a } else { b }
-}
 
 // The tree with the branch at a place replaced, written to the room; or why not, and nothing is.
 pub fn exchange(

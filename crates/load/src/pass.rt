@@ -4,11 +4,12 @@ use cells::cell_allowed;
 use rules::Kind;
 use tables::Row;
 use tables::elapsed;
+use tables::least;
 use tables::row_of;
 use tables::zero_bits;
 ghost use mathlib.Core.Path.{_≡_};
 ghost use mathlib.Core.Bool.{true, false, _||_};
-ghost use Prim.Native.Nat.{_+_, _≤_, _<_, min};
+ghost use Prim.Native.Nat.{_+_, _≤_, _<_};
 ghost use lib.Dec.{eqb};
 ghost use lib.ListN.{length};
 ghost use Rattle.rules.specs.Cells.{cellOf, inUse};
@@ -22,12 +23,6 @@ pub enum Scanned {
     Bad(usize),
     Faulty(usize),
     Good(usize),
-}
-
-fn least(a: usize, b: usize) -> usize
-    ensures { λ r. ⌜ r ≡ min a b ⌝ }
-{
-    if a < b { a } else { b }
 }
 
 fn wide(x: u16) -> usize
