@@ -52,19 +52,19 @@ FAULTS = [
     ),
     (
         "a restart goes on from the times as they stand",
-        "load/src/fresh.rt",
+        "cells/src/clear.rt",
         "        times[i] = 0.0;\n",
         "",
     ),
     (
         "the last bad cell is told, not the first",
-        "load/src/pass.rt",
+        "cells/src/check.rt",
         "if fault == 256 { at } else { fault }",
         "at",
     ),
     (
         "a cell below an ended child is looked at as any other",
-        "load/src/pass.rt",
+        "cells/src/check.rt",
         "    mark == 1\n",
         "    mark == 2\n",
     ),
@@ -106,14 +106,14 @@ FAULTS = [
     ),
     (
         "the last level is left as it is",
-        "engine/src/room.rt",
-        "while i < 16 {\n        opens[i] = 0;",
-        "while i < 15 {\n        opens[i] = 0;",
+        "cells/src/clear.rt",
+        "while i < n {\n        opens[i] = 0;",
+        "while i < n - 1 {\n        opens[i] = 0;",
     ),
     (
         "an entry behind the levels is made zero",
-        "engine/src/room.rt",
-        "while i < 16 {\n        counts[i] = 0;",
+        "cells/src/clear.rt",
+        "while i < n {\n        counts[i] = 0;",
         "while i < counts.len() {\n        counts[i] = 0;",
     ),
     (

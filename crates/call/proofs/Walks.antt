@@ -46,7 +46,7 @@ use Rattle.settle.specs.Shown.{shown-words, size-shown, fits-shown, places-show
 use Rattle.cells.specs.Onto.{onto, ontoCells}
 use Rattle.refusals.specs.Due.{callOf, startOf, begun, walkWith, Due}
 use Rattle.refusals.specs.Enter.{updates}
-use Rattle.settle.specs.Told.{statusIn, toldStopped, toldDone}
+use Rattle.told.specs.Told.{statusIn, toldStopped, toldDone}
 use Rattle.settle.specs.Settled.{Settled, hasStopped, settledAs}
 use Rattle.call.proofs.Columns.{read, with-column, cells-run, column-behind, time-column, place-column, mark-column}
 

@@ -2,17 +2,17 @@
 // Whoever keeps the record gets it back with the answer.
 mod enter;
 
+use cells::clear_times;
 use cells::copy_cells;
 use enter::enter;
-use load::clear_times;
 use refusals::Gate;
 use refusals::checks;
 use refusals::entries_of;
 use rules::Called;
 use rules::Event;
 use rules::Record;
-use settle::lent;
 use settle::settled;
+use told::lent;
 ghost use mathlib.Core.Path.{_≡_};
 ghost use mathlib.Core.Bool.{cond};
 ghost use Prim.Native.Nat.{_≤_};

@@ -1,9 +1,9 @@
 -- What the check of the cells asks and answers.
 use mathlib.Core.Path.{_≡_, refl}
 use mathlib.Core.List.{List}
-use mathlib.Core.Bool.{cond, false}
+use mathlib.Core.Bool.{Bool, cond, false}
 use Prim.Native.Nat.{ℕ, zero, suc, _≤_}
-use lib.Dec.{ltb}
+use lib.Dec.{eqb, ltb}
 use lib.Ieee.{Float}
 use lib.ListN.{length, getD}
 use Rattle.rules.specs.Tree.{Tree, size, depth}
@@ -46,3 +46,7 @@ unfoldable pub stillOpen : List ℕ → ℕ → ℕ → ℕ
 stillOpen stops at zero = zero
 stillOpen stops at (suc zero) = 1
 stillOpen stops at (suc (suc i)) = cond (ltb at (getD stops (suc i) 0)) (suc (suc i)) (stillOpen stops at (suc i))
+
+-- the first bad cell, where 256 is none so far
+abbrev pub firstOf : ℕ → Bool → ℕ → ℕ
+firstOf s fine q = cond fine s (cond (eqb s 256) q s)

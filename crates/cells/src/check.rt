@@ -2,10 +2,10 @@
 use crate::cell::cell_allowed;
 use rules::Kind;
 ghost use mathlib.Core.Path.{_≡_};
-ghost use mathlib.Core.Bool.{cond};
+ghost use mathlib.Core.Bool.{cond, _||_};
 ghost use Prim.Native.Nat.{_≤_};
 ghost use lib.Dec.{eqb};
-ghost use Rattle.cells.specs.Check.{Room, Checks, stillOpen};
+ghost use Rattle.cells.specs.Check.{Room, Checks, stillOpen, firstOf};
 
 pub enum Found {
     Faulty(usize),
@@ -108,4 +108,24 @@ pub fn check_cells(
             until = ended_until(mark, stop, until);
         }
     }
+}
+
+// The first bad cell, where 256 is none so far.
+pub fn first_of(fault: usize, fine: bool, at: usize) -> usize
+    ensures { λ r. ⌜ r ≡ firstOf fault fine at ⌝ }
+{
+    if fine {
+        return fault;
+    }
+    if fault == 256 { at } else { fault }
+}
+
+// Whether the cells below a node are below a child that has ended.
+pub fn ended_below(ended: bool, mark: u8) -> bool
+    ensures { λ r. ⌜ r ≡ ended || eqb mark 1 ⌝ }
+{
+    if ended {
+        return true;
+    }
+    mark == 1
 }

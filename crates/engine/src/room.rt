@@ -1,48 +1,15 @@
 // The lent room: an entry for each level, in four slices. The kind of an open node, its places and its index
 // stand in one number, the kind in the lowest eight bits.
+use cells::clear_counts;
+use cells::clear_opens;
+use cells::clear_times;
 use rules::Kind;
 use turns::Level;
 ghost use mathlib.Core.Path.{_≡_};
-ghost use mathlib.Core.List.{_++_};
 ghost use Prim.Native.Nat.{_≤_, _<_};
-ghost use lib.ListN.{length, drop, replicate};
-ghost use Rattle.rules.specs.Tree.{zeroTime};
 ghost use Rattle.rules.specs.Levels.{levels, entries, cleared};
 ghost use Rattle.turns.specs.Levels.{Fine};
 ghost use Rattle.engine.specs.Stands.{packedIn, kindAs, nodeAs, unpackedFrom, levelAt, putAt};
-
-fn clear_opens(opens: &mut [u64])
-    requires { ⌜ 16 ≤ length (now opens) ⌝ }
-    ensures { λ _. ⌜ now (opens .exit) ≡ replicate 16 0 ++ drop 16 (now (opens .entry)) ⌝ }
-{
-    let mut i = 0;
-    while i < 16 {
-        opens[i] = 0;
-        i += 1;
-    }
-}
-
-fn clear_counts(counts: &mut [u32])
-    requires { ⌜ 16 ≤ length (now counts) ⌝ }
-    ensures { λ _. ⌜ now (counts .exit) ≡ replicate 16 0 ++ drop 16 (now (counts .entry)) ⌝ }
-{
-    let mut i = 0;
-    while i < 16 {
-        counts[i] = 0;
-        i += 1;
-    }
-}
-
-fn clear_numbers(numbers: &mut [f64])
-    requires { ⌜ 16 ≤ length (now numbers) ⌝ }
-    ensures { λ _. ⌜ now (numbers .exit) ≡ replicate 16 zeroTime ++ drop 16 (now (numbers .entry)) ⌝ }
-{
-    let mut i = 0;
-    while i < 16 {
-        numbers[i] = 0.0;
-        i += 1;
-    }
-}
 
 // All sixteen entries are made zero.
 pub fn clear(opens: &mut [u64], counts: &mut [u32], wholes: &mut [f64], rests: &mut [f64])
@@ -52,10 +19,10 @@ pub fn clear(opens: &mut [u64], counts: &mut [u32], wholes: &mut [f64], rests: &
         ≡ cleared (levels (now (opens .entry)) (now (counts .entry)) (now (wholes .entry)) (now (rests .entry)))
         ⌝ }
 {
-    clear_opens(opens);
-    clear_counts(counts);
-    clear_numbers(wholes);
-    clear_numbers(rests);
+    clear_opens(opens, 16);
+    clear_counts(counts, 16);
+    clear_times(wholes, 16);
+    clear_times(rests, 16);
 }
 
 fn wide(x: usize) -> u64

@@ -17,7 +17,7 @@ use Rattle.rules.specs.Tree.{Cell, Tree, node, Forest, [], _∷_, size, sizes}
 use Rattle.rules.specs.Cells.{cells, withCells, withCellsAll, cellAllowed, endedIn, Found, faulty, none, badCell, badCells}
 use Rattle.tables.proofs.Scan.{Frame, frame, onto, made}
 use Rattle.cells.proofs.Held.{cellAt, drop-cells}
-use Rattle.load.specs.Scans.{firstOf}
+use Rattle.cells.specs.Check.{firstOf}
 use Rattle.load.specs.Trees.{drop-with}
 
 -- a bad cell stays the first

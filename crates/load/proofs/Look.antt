@@ -25,7 +25,8 @@ use Rattle.cells.proofs.Held.{cellAt, length-cells}
 use Rattle.work.specs.Word.{belowOf}
 use Rattle.refine.specs.Words.{pack}
 use Rattle.load.specs.declared.pass.Scanned.the-variants.{Faulty, Good}
-use Rattle.load.specs.Scans.{firstOf, scannedAs, withBelow, Passes, Lent, Scans}
+use Rattle.cells.specs.Check.{firstOf}
+use Rattle.load.specs.Scans.{scannedAs, withBelow, Passes, Lent, Scans}
 use Rattle.load.proofs.Faults.{Agrees, Known, Done, first-known, leaf-done, opened, next-known, close-done, root-passes, finds, found-none, found-at}
 use Rattle.load.proofs.Ends.{endsOf, ends-long, end-at, set-end, below-none, below-with, Packed, packed-new, packed-with, packed-other, packed-loads}
 

@@ -22,10 +22,6 @@ use Rattle.load.specs.Load.{loadWords}
 abbrev pub startFrom : Bool → ℕ → List ℕ → List ℕ
 startFrom fresh n xs = cond fresh (replicate n 0) xs
 
--- the first bad cell, where 256 is none so far
-abbrev pub firstOf : ℕ → Bool → ℕ → ℕ
-firstOf s fine q = cond fine s (cond (eqb s 256) q s)
-
 abbrev pub scannedAs : ℕ → ℕ → Scanned
 scannedAs s n = cond (eqb s 256) (Good n) (Faulty s)
 

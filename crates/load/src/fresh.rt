@@ -1,15 +1,14 @@
-// The words and times of a tree that starts fresh. Its cells are not looked at.
+// The words of a tree that starts fresh. Its cells are not looked at.
 use crate::pass::Scanned;
 use tables::Checked;
 use tables::MOST_DEEP;
 use tables::check_table;
 ghost use mathlib.Core.Path.{_≡_};
 ghost use mathlib.Core.Bool.{true};
-ghost use mathlib.Core.List.{List, _++_};
+ghost use mathlib.Core.List.{List};
 ghost use Prim.Native.Nat.{ℕ, _+_, _-_, _≤_};
 ghost use lib.Ieee.{Float};
-ghost use lib.ListN.{length, drop, replicate};
-ghost use Rattle.rules.specs.Tree.{zeroTime};
+ghost use lib.ListN.{length, replicate};
 ghost use Rattle.refine.specs.Words.{pack};
 ghost use Rattle.load.specs.Load.{loadWords};
 ghost use Rattle.load.specs.Scans.{Scans};
@@ -62,17 +61,5 @@ pub fn look_fresh(kinds: &[u8], ns: &[u16], limits: &[f64], work: &mut [u32; 260
             load_fresh(work, kinds, &ends, n);
             Scanned::Good(n)
         }
-    }
-}
-
-// The times that it starts from.
-pub fn clear_times(times: &mut [f64], n: usize)
-    requires { ⌜ n ≤ length (now times) ⌝ }
-    ensures { λ _. ⌜ now (times .exit) ≡ replicate n zeroTime ++ drop n (now (times .entry)) ⌝ }
-{
-    let mut i = 0;
-    while i < n {
-        times[i] = 0.0;
-        i += 1;
     }
 }

@@ -2,6 +2,5 @@
 mod fresh;
 mod pass;
 
-pub use fresh::clear_times;
 pub use pass::Scanned;
 pub use pass::scan;

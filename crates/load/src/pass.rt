@@ -1,6 +1,8 @@
 // One pass over table and cells, with the open nodes on a stack of fixed size. Of what it accepts it writes the words.
 use crate::fresh::look_fresh;
 use cells::cell_allowed;
+use cells::ended_below;
+use cells::first_of;
 use rules::Kind;
 use tables::Row;
 use tables::elapsed;
@@ -8,13 +10,12 @@ use tables::least;
 use tables::row_of;
 use tables::zero_bits;
 ghost use mathlib.Core.Path.{_≡_};
-ghost use mathlib.Core.Bool.{true, false, _||_};
+ghost use mathlib.Core.Bool.{true, false};
 ghost use Prim.Native.Nat.{_+_, _≤_, _<_};
-ghost use lib.Dec.{eqb};
 ghost use lib.ListN.{length};
 ghost use Rattle.rules.specs.Cells.{cellOf, inUse};
 ghost use Rattle.refine.specs.Words.{pack};
-ghost use Rattle.load.specs.Scans.{Lent, Scans, firstOf, withBelow, PlainWait, Passes, scannedAs};
+ghost use Rattle.load.specs.Scans.{Lent, Scans, withBelow, PlainWait, Passes, scannedAs};
 
 const INFINITY: u64 = 0x7ff0000000000000;
 
@@ -42,26 +43,6 @@ fn with_below(w: u32, below: usize) -> u32
     ensures { λ r. ⌜ r ≡ withBelow w below ⌝ }
 {
     w / 256 * 256 + (below % 256) as u32
-}
-
-// The first bad cell, where 256 is none so far.
-fn first_of(fault: usize, fine: bool, at: usize) -> usize
-    ensures { λ r. ⌜ r ≡ firstOf fault fine at ⌝ }
-{
-    if fine {
-        return fault;
-    }
-    if fault == 256 { at } else { fault }
-}
-
-// Whether the cells below a node are below a child that has ended.
-fn ended_below(ended: bool, mark: u8) -> bool
-    ensures { λ r. ⌜ r ≡ ended || eqb mark 1 ⌝ }
-{
-    if ended {
-        return true;
-    }
-    mark == 1
 }
 
 fn told(fault: usize, n: usize) -> Scanned

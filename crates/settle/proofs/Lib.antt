@@ -1,5 +1,3 @@
 pub mod ShowLaws
 pub mod BackLaws
-pub mod Arms
-pub mod Lengths
 pub mod SettledLaws

@@ -1,20 +1,30 @@
 -- What a walk leaves, from what each step behind it does.
-use mathlib.Core.Path.{_≡_}
+use mathlib.Core.Path.{_≡_, refl}
 use mathlib.Core.Bool.{false}
-use mathlib.Core.List.{List}
+use mathlib.Core.List.{List, [], _∷_}
 use Prim.Native.Nat.{ℕ}
 use lib.Ieee.{Float}
+use types.Run.{miss}
 use Rattle.rules.specs.declared.answer.Answer.{Answer}
 use Rattle.rules.specs.declared.answer.Record.{Record}
 use Rattle.rules.specs.Call.{Run, run, counted}
 use Rattle.cells.specs.Onto.{onto}
 use Rattle.work.specs.declared.result.Result.{Result}
-use Rattle.work.specs.declared.result.Seen.the-variants.{Stopped}
+use Rattle.work.specs.declared.result.Seen.{Seen}
+use Rattle.work.specs.declared.result.Seen.the-variants.{Stopped, Running, Success, Failure}
+use Rattle.work.proofs.Laws.{Among}
 use Rattle.work.specs.Word.{placeOf, markOf, seenOf}
 use Rattle.settle.specs.Show.{endedWords}
 use Rattle.settle.specs.Back.{over, stampedOver}
-use Rattle.settle.specs.Told.{statusIn, toldStopped, toldDone}
+use Rattle.told.specs.Told.{statusIn, toldStopped, toldDone}
 use Rattle.settle.specs.Settled.{settled, hasStopped, settledAs}
+
+-- what a `match` tells of the arm of all but Stopped
+pub goes-on : (s : Seen) → Among (1 ∷ 2 ∷ 3 ∷ []) s → hasStopped s ≡ false
+goes-on Stopped h = absurd (miss (1 ∷ 2 ∷ 3 ∷ []) 0 tt h)
+goes-on Running h = refl
+goes-on Success h = refl
+goes-on Failure h = refl
 
 module _ (r : Result) (ns : List ℕ) (n fuel lent : ℕ) (rec : Record) (c : Run) (spare : List Float) (b ws : List ℕ) where
   pub so-stopped : {a : Answer} {ts : List Float}

@@ -2,5 +2,4 @@ pub mod Show
 pub mod Shown
 pub mod Back
 pub mod Put
-pub mod Told
 pub mod Settled

@@ -13,7 +13,7 @@ use Rattle.work.specs.declared.result.Seen.the-variants.{Stopped, Running, Succ
 use Rattle.work.specs.Word.{placeOf, markOf, seenOf}
 use Rattle.settle.specs.Show.{endedWords}
 use Rattle.settle.specs.Back.{over, stampedOver}
-use Rattle.settle.specs.Told.{statusIn, toldStopped, toldDone}
+use Rattle.told.specs.Told.{statusIn, toldStopped, toldDone}
 
 pub record Settled : Type 0 where
   pub answer : Answer

@@ -1,7 +1,6 @@
 // What a walk leaves: children that have ended are shown, the words are put back, and the answer and the record are told.
 mod back;
 mod show;
-mod told;
 
 use back::put_back;
 use cells::copy_times;
@@ -19,7 +18,6 @@ ghost use lib.ListN.{length};
 ghost use Rattle.rules.specs.Call.{run};
 ghost use Rattle.cells.specs.Long.{Long};
 ghost use Rattle.settle.specs.Settled.{settled, settledAs};
-pub use told::lent;
 
 // A walk of n nodes that a question or too little fuel ends leaves cells and board as they were: only times were changed in
 // place, and come back from the spare.

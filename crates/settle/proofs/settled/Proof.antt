@@ -1,8 +1,7 @@
 -- A walk that has stopped, and one to its end.
 use borrow.Author.Needs.{needs}
 use Rattle.rules.specs.Call.{run}
-use Rattle.settle.proofs.Arms.{goes-on}
-use Rattle.settle.proofs.SettledLaws.{so-stopped, so-ended}
+use Rattle.settle.proofs.SettledLaws.{goes-on, so-stopped, so-ended}
 use Rattle.settle.proofs.settled.Statement.{statement}
 use Rattle.settle.proofs.settled.Tie as tie
 

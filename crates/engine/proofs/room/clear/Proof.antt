@@ -10,7 +10,7 @@ returns c =
     let wholes = rests .before .before .before .before in
     let counts = wholes .before .before .before .before in
     let opens = counts .before .before .before .before in
-    λ i. levels (opens .clear-opens .ensures i) (counts .clear-counts .ensures i) (wholes .clear-numbers .ensures i) (rests .clear-numbers2 .ensures i)
+    λ i. levels (opens .clear-opens .ensures i) (counts .clear-counts .ensures i) (wholes .clear-times .ensures i) (rests .clear-times2 .ensures i)
 
 pub clear-spec : {M : Type 1} → statement M
 clear-spec =
