@@ -1,5 +1,5 @@
 // How deep a tree is, from the leaves upward.
-use crate::way::wide;
+use tables::wide;
 ghost use mathlib.Core.Path.{_≡_};
 ghost use Prim.Native.Nat.{_+_, _≤_, min, max};
 ghost use Rattle.branch.specs.Depth.{Deepest, Depth};

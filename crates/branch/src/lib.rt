@@ -6,4 +6,3 @@ pub mod write;
 pub use depth::depth_of;
 pub use way::Way;
 pub use way::way_to;
-pub use way::wide;

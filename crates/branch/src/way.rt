@@ -1,5 +1,6 @@
 // The way from the root down to a node, and whether it passes a spot where no state is held.
 use rules::Kind;
+use tables::wide;
 ghost use mathlib.Core.Path.{_≡_};
 ghost use mathlib.Core.Bool.{not, _&&_, _||_};
 ghost use Prim.Native.Nat.{_-_, min, max};
@@ -11,12 +12,6 @@ ghost use Rattle.branch.specs.Way.{Lies, Leads, wayAt};
 pub enum Way {
     Free(usize),
     Held,
-}
-
-pub fn wide(x: u16) -> usize
-    ensures { λ r. ⌜ r ≡ x ⌝ }
-{
-    x as usize
 }
 
 // The child at which a Sequence or a Select stands: at place n the last one.

@@ -41,8 +41,8 @@ use Rattle.settle.specs.Back.{over, stampedOver}
 use Rattle.load.specs.Scans.{startFrom}
 use Rattle.load.specs.Trees.{Loads, lent-loads, fresh-loads, loaded, holds, fits}
 use Rattle.settle.specs.Put.{put-places, put-marks, put-sinces, put-board}
-use Rattle.settle.specs.Show.{endedWords}
-use Rattle.settle.specs.Shown.{shown-words, size-shown, fits-shown, places-shown, marks-shown, sinces-shown}
+use Rattle.shown.specs.Show.{endedWords}
+use Rattle.shown.specs.Shown.{shown-words, size-shown, fits-shown, places-shown, marks-shown, sinces-shown}
 use Rattle.cells.specs.Onto.{onto, ontoCells}
 use Rattle.refusals.specs.Due.{callOf, startOf, begun, walkWith, Due}
 use Rattle.refusals.specs.Enter.{updates}

@@ -1,6 +1,7 @@
 // One pass over the cells, with the open nodes on a stack of fixed size.
 use crate::cell::cell_allowed;
 use rules::Kind;
+use tables::wide;
 ghost use mathlib.Core.Path.{_≡_};
 ghost use mathlib.Core.Bool.{cond, _||_};
 ghost use Prim.Native.Nat.{_≤_};
@@ -10,12 +11,6 @@ ghost use Rattle.cells.specs.Check.{Room, Checks, stillOpen, firstOf};
 pub enum Found {
     Faulty(usize),
     Fine,
-}
-
-fn wide(x: u16) -> usize
-    ensures { λ r. ⌜ r ≡ x ⌝ }
-{
-    x as usize
 }
 
 // How many nodes are open at a place, of those that were: the others end there.

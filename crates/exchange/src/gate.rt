@@ -2,7 +2,6 @@
 use branch::Way;
 use branch::depth_of;
 use branch::way_to;
-use branch::wide;
 use branch::write::Cut;
 use cells::Found;
 use cells::check_cells;
@@ -12,6 +11,7 @@ use rules::Record;
 use tables::Checked;
 use tables::MOST_DEEP;
 use tables::check_table;
+use tables::wide;
 ghost use mathlib.Core.Path.{_≡_};
 ghost use lib.ListN.{length};
 ghost use Rattle.rules.specs.Call.{run};

@@ -3,6 +3,7 @@ use crate::pass::Scanned;
 use tables::Checked;
 use tables::MOST_DEEP;
 use tables::check_table;
+use tables::wide;
 ghost use mathlib.Core.Path.{_≡_};
 ghost use mathlib.Core.Bool.{true};
 ghost use mathlib.Core.List.{List};
@@ -12,12 +13,6 @@ ghost use lib.ListN.{length, replicate};
 ghost use Rattle.refine.specs.Words.{pack};
 ghost use Rattle.load.specs.Load.{loadWords};
 ghost use Rattle.load.specs.Scans.{Scans};
-
-fn wide(x: u16) -> usize
-    ensures { λ r. ⌜ r ≡ x ⌝ }
-{
-    x as usize
-}
 
 // How many nodes stand below the node at p, whose subtree ends at end.
 fn below(p: usize, end: usize) -> usize

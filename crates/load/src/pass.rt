@@ -8,6 +8,7 @@ use tables::Row;
 use tables::elapsed;
 use tables::least;
 use tables::row_of;
+use tables::wide;
 use tables::zero_bits;
 ghost use mathlib.Core.Path.{_≡_};
 ghost use mathlib.Core.Bool.{true, false};
@@ -24,12 +25,6 @@ pub enum Scanned {
     Bad(usize),
     Faulty(usize),
     Good(usize),
-}
-
-fn wide(x: u16) -> usize
-    ensures { λ r. ⌜ r ≡ x ⌝ }
-{
-    x as usize
 }
 
 // The word of a node that no visit has seen, before it is known how many nodes stand below it.

@@ -1,3 +1,2 @@
-pub mod ShowLaws
 pub mod BackLaws
 pub mod SettledLaws

@@ -1,5 +1,3 @@
-pub mod Show
-pub mod Shown
 pub mod Back
 pub mod Put
 pub mod Settled

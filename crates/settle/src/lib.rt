@@ -1,12 +1,11 @@
 // What a walk leaves: children that have ended are shown, the words are put back, and the answer and the record are told.
 mod back;
-mod show;
 
 use back::put_back;
 use cells::copy_times;
 use rules::Called;
 use rules::Record;
-use show::show_ended;
+use shown::show_ended;
 use told::counted;
 use told::told_done;
 use told::told_stopped;

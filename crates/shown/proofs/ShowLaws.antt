@@ -18,7 +18,7 @@ use Rattle.rules.proofs.behavior.Kind.{the-type}
 use Rattle.rules.proofs.Arms.{Each, gives}
 use Rattle.work.specs.Word.{belowOf, kindIn, placeOf, markOf}
 use Rattle.work.specs.Array.{wordAt, endOf}
-use Rattle.settle.specs.Show.{endedAt, markedAt, behindOf, eachFrom, endedUnder, endedBelow, endedWords, Bare}
+use Rattle.shown.specs.Show.{endedAt, markedAt, behindOf, eachFrom, endedUnder, endedBelow, endedWords, Bare}
 
 module _ (b w q : ℕ) (ws : List ℕ) (e : b ≡ belowOf w) where
   pub behind-some : 0 < b → endOf ws q ≡ behindOf w q ws

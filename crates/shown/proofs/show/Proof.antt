@@ -1,8 +1,8 @@
 -- Each side of the test.
 use borrow.Author.Tests.{eq-eqb, ne-eqb}
 use borrow.Author.Needs.{needs}
-use Rattle.settle.proofs.show.show.Statement.{statement}
-use Rattle.settle.proofs.show.show.Tie as tie
+use Rattle.shown.proofs.show.Statement.{statement}
+use Rattle.shown.proofs.show.Tie as tie
 
 returns : tie.Need-returns
 returns c = let seen = c .before .before in rw (← seen .seen-of .ensures .0, eq-eqb _ 0 (c .before .if1 .taken), c .with-seen .ensures)

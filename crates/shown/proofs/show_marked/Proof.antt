@@ -5,11 +5,11 @@ use mathlib.Core.Logic.{⊎-elim}
 use Prim.Native.Nat.{ℕ, _-_, _≤_}
 use native.Mathlib.Omega.{arith}
 use borrow.Author.Tests.{eq-eqb, ne-eqb}
-use Rattle.settle.specs.Show.{markedAt, eachFrom}
-use Rattle.settle.proofs.ShowLaws.{each-over, each-next}
+use Rattle.shown.specs.Show.{markedAt, eachFrom}
+use Rattle.shown.proofs.ShowLaws.{each-over, each-next}
 use borrow.Author.Needs.{needs}
-use Rattle.settle.proofs.show.show_marked.Statement.{statement}
-use Rattle.settle.proofs.show.show_marked.Tie as tie
+use Rattle.shown.proofs.show_marked.Statement.{statement}
+use Rattle.shown.proofs.show_marked.Tie as tie
 
 abbrev Inv-loop : tie.InvT-loop
 Inv-loop work₀ p status stop q₀ work q =

@@ -5,11 +5,11 @@ use native.Mathlib.Omega.{arith}
 use borrow.Author.Count.{below-more}
 use lib.ListN.{length}
 use Rattle.work.specs.Array.{wordAt}
-use Rattle.settle.specs.Show.{Bare}
-use Rattle.settle.proofs.ShowLaws.{none-shown}
+use Rattle.shown.specs.Show.{Bare}
+use Rattle.shown.proofs.ShowLaws.{none-shown}
 use borrow.Author.Needs.{needs}
-use Rattle.settle.proofs.show.any_state.Statement.{statement}
-use Rattle.settle.proofs.show.any_state.Tie as tie
+use Rattle.shown.proofs.any_state.Statement.{statement}
+use Rattle.shown.proofs.any_state.Tie as tie
 
 abbrev Inv-loop : tie.InvT-loop
 Inv-loop work n words sum₀ ahead₀ p₀ sum ahead p =

@@ -11,7 +11,7 @@ use work::with_seen;
 ghost use mathlib.Core.Path.{_≡_};
 ghost use Prim.Native.Nat.{_+_, _≤_, _<_};
 ghost use Rattle.work.specs.Array.{endOf};
-ghost use Rattle.settle.specs.Show.{endedAt, markedAt, behindOf, eachFrom, endedBelow, endedWords, Bare};
+ghost use Rattle.shown.specs.Show.{endedAt, markedAt, behindOf, eachFrom, endedBelow, endedWords, Bare};
 
 const SUCCESS: u32 = 2;
 

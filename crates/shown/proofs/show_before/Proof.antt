@@ -3,11 +3,11 @@ use mathlib.Core.Path.{_≡_, sym, _∙_}
 use Prim.Native.Nat.{_+_, _≤_}
 use native.Mathlib.Omega.{arith}
 use Rattle.work.specs.Array.{endOf}
-use Rattle.settle.specs.Show.{endedAt, eachFrom}
-use Rattle.settle.proofs.ShowLaws.{each-over, each-none, each-less}
+use Rattle.shown.specs.Show.{endedAt, eachFrom}
+use Rattle.shown.proofs.ShowLaws.{each-over, each-none, each-less}
 use borrow.Author.Needs.{needs}
-use Rattle.settle.proofs.show.show_before.Statement.{statement}
-use Rattle.settle.proofs.show.show_before.Tie as tie
+use Rattle.shown.proofs.show_before.Statement.{statement}
+use Rattle.shown.proofs.show_before.Tie as tie
 
 abbrev Inv-loop : tie.InvT-loop
 Inv-loop work₀ p place status stop q₀ left₀ work q left =

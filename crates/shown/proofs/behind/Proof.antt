@@ -1,10 +1,10 @@
 -- Each side of the test.
 use mathlib.Core.Path.{_∙_}
 use native.Mathlib.Omega.{arith}
-use Rattle.settle.proofs.ShowLaws.{behind-some, behind-none}
+use Rattle.shown.proofs.ShowLaws.{behind-some, behind-none}
 use borrow.Author.Needs.{needs}
-use Rattle.settle.proofs.show.behind.Statement.{statement}
-use Rattle.settle.proofs.show.behind.Tie as tie
+use Rattle.shown.proofs.behind.Statement.{statement}
+use Rattle.shown.proofs.behind.Tie as tie
 
 returns : tie.Need-returns
 returns c =

@@ -3,11 +3,11 @@ use mathlib.Core.Path.{_≡_, sym, _∙_}
 use Prim.Native.Nat.{_-_, _≤_}
 use native.Mathlib.Omega.{arith}
 use native.Mathlib.Nat.{sub-zero}
-use Rattle.settle.specs.Show.{endedWords}
-use Rattle.settle.proofs.ShowLaws.{words-one, words-none}
+use Rattle.shown.specs.Show.{endedWords}
+use Rattle.shown.proofs.ShowLaws.{words-one, words-none}
 use borrow.Author.Needs.{needs}
-use Rattle.settle.proofs.show.show_ended.Statement.{statement}
-use Rattle.settle.proofs.show.show_ended.Tie as tie
+use Rattle.shown.proofs.show_ended.Statement.{statement}
+use Rattle.shown.proofs.show_ended.Tie as tie
 
 abbrev Inv-loop : tie.InvT-loop
 Inv-loop work₀ n p₀ work p = (p ≤ n) × (endedWords p (n - p) work ≡ endedWords 0 n work₀)

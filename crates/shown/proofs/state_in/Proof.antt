@@ -2,8 +2,8 @@
 use native.Mathlib.Omega.{arith}
 use Rattle.work.specs.Word.{belowOf, placeOf, markOf}
 use borrow.Author.Needs.{needs}
-use Rattle.settle.proofs.show.state_in.Statement.{statement}
-use Rattle.settle.proofs.show.state_in.Tie as tie
+use Rattle.shown.proofs.state_in.Statement.{statement}
+use Rattle.shown.proofs.state_in.Tie as tie
 
 returns : tie.Need-returns
 unfolding belowOf placeOf markOf

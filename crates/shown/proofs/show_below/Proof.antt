@@ -3,11 +3,11 @@ use mathlib.Core.Path.{refl}
 use mathlib.Core.List.{[], _∷_}
 use borrow.Author.Tests.{eq-eqb, ne-eqb}
 use Rattle.rules.specs.Kinds.{kindOf}
-use Rattle.settle.specs.Show.{endedUnder}
-use Rattle.settle.proofs.ShowLaws.{under-arm}
+use Rattle.shown.specs.Show.{endedUnder}
+use Rattle.shown.proofs.ShowLaws.{under-arm}
 use borrow.Author.Needs.{needs}
-use Rattle.settle.proofs.show.show_below.Statement.{statement}
-use Rattle.settle.proofs.show.show_below.Tie as tie
+use Rattle.shown.proofs.show_below.Statement.{statement}
+use Rattle.shown.proofs.show_below.Tie as tie
 
 returns : tie.Need-returns
 returns c = rw (← c .before .below-of .ensures .0, eq-eqb _ 0 (c .if1 .taken))

@@ -26,7 +26,7 @@ use Rattle.refine.specs.Packed.{below-pack, kind-pack, place-pack, mark-pack, s
 use Rattle.refine.specs.Runs.{run, runs, push, length-push, push-run, get-here, set-here, wordOf, end-in}
 use Rattle.refine.specs.Stand.{count-sizes}
 use Rattle.refine.specs.Start.{words-run}
-use Rattle.settle.specs.Show.{endedAt, markedAt, behindOf, eachFrom, endedUnder, endedBelow, endedWords}
+use Rattle.shown.specs.Show.{endedAt, markedAt, behindOf, eachFrom, endedUnder, endedBelow, endedWords}
 
 -- ---- size, number and cells stay
 mutual
