@@ -154,7 +154,7 @@ fn options(args: &[&str]) -> Option<(bool, u64)> {
 
 fn compare(full: bool, seed: u64) -> bool {
     println!("seed {seed}, {}", if full { "full" } else { "short" });
-    let (nodes, batches) = if full { (4, 16_000) } else { (3, 100) };
+    let (nodes, batches) = if full { (4, 16_000) } else { (3, 400) };
     let mut total = Count::default();
     let start = Instant::now();
     let trees: Vec<_> = (1..=nodes).flat_map(small::trees).collect();

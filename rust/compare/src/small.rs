@@ -13,11 +13,8 @@ const EVENTS: [Ev; 4] = [Ev::Other, Ev::Update(-0.0), Ev::Update(1.0), Ev::Updat
 const ANSWERS: [Answer; 4] =
     [(Status::Running, 7.0), (Status::Success, -0.0), (Status::Success, 1.0), (Status::Failure, 1.0)];
 const TICKS: usize = 3;
-
-/// Enough for a tree without loops, and for some rounds of a loop; one that never ends stops here.
-fn most_visits(tree: &Tree) -> u32 {
-    3 * tree.len() as u32
-}
+/// Enough for four nodes without loops, and for some rounds of a loop; one that never ends stops here.
+const FUEL: u32 = 12;
 
 /// Every tree of exactly `size` nodes.
 pub fn trees(size: usize) -> Vec<Vec<Node>> {
@@ -148,12 +145,11 @@ pub fn explore(nodes: &[Node], count: &mut Count) -> Result<(), String> {
 }
 
 fn follow(tree: &Tree, point: &mut Point, ev: Ev, next: &mut Vec<Point>, count: &mut Count) -> Result<(), String> {
-    let most = most_visits(tree);
     // The answers as indices, counted up like the digits of a number.
     let mut digits: Vec<usize> = vec![];
     let mut known = 0;
     loop {
-        let watched = point.theirs.watch(tree, ev, most, &mut |k| {
+        let watched = point.theirs.watch(tree, ev, FUEL, &mut |k| {
             if k == digits.len() {
                 digits.push(0);
             }
@@ -161,10 +157,10 @@ fn follow(tree: &Tree, point: &mut Point, ev: Ev, next: &mut Vec<Point>, count: 
         });
         let trace = &watched.trace;
         for given in known..trace.asks.len() {
-            call(tree, &mut point.ours, false, ev, trace, most, given, None, count)?;
+            call(tree, &mut point.ours, false, ev, trace, FUEL, given, None, count)?;
         }
         let all = trace.asks.len();
-        if let Some((_, visits)) = trace.end.filter(|end| end.1 <= u64::from(most)) {
+        if let Some((_, visits)) = trace.end.filter(|end| end.1 <= u64::from(FUEL)) {
             let visits = visits as u32;
             call(tree, &mut point.ours, false, ev, trace, visits - 1, all, None, count)?;
             let mut after = point.clone();
@@ -179,7 +175,7 @@ fn follow(tree: &Tree, point: &mut Point, ev: Ev, next: &mut Vec<Point>, count: 
                 next.push(after);
             }
         } else {
-            call(tree, &mut point.ours, false, ev, trace, most, all, None, count)?;
+            call(tree, &mut point.ours, false, ev, trace, FUEL, all, None, count)?;
         }
         while digits.last() == Some(&(ANSWERS.len() - 1)) {
             digits.pop();
@@ -199,7 +195,7 @@ fn finished(tree: &Tree, point: &mut Point, ev: Ev, trace: &Trace, count: &mut C
         restart: false,
         table: tree.table(),
         ev,
-        fuel: most_visits(tree),
+        fuel: FUEL,
         statuses: &statuses,
         leftovers: &leftovers,
         lent: ALL,
@@ -221,22 +217,21 @@ fn again(tree: &Tree, point: Point, ev: Ev, count: &mut Count) -> Result<(), Str
 /// A tick, or a restart of what was reset: with each answer missing, with too little fuel, and carried out. The answers are
 /// those from `first` on.
 fn walk(tree: &Tree, point: &mut Point, restart: bool, ev: Ev, first: usize, count: &mut Count) -> Result<(), String> {
-    let most = most_visits(tree);
     let Point { theirs, ours } = point;
-    let watched = theirs.watch(tree, ev, most, &mut |k| ANSWERS[(first + k) % ANSWERS.len()]);
+    let watched = theirs.watch(tree, ev, FUEL, &mut |k| ANSWERS[(first + k) % ANSWERS.len()]);
     let trace = &watched.trace;
     let all = trace.asks.len();
     for given in 0..all {
-        call(tree, ours, restart, ev, trace, most, given, None, count)?;
+        call(tree, ours, restart, ev, trace, FUEL, given, None, count)?;
     }
-    match trace.end.filter(|end| end.1 <= u64::from(most)) {
+    match trace.end.filter(|end| end.1 <= u64::from(FUEL)) {
         Some((_, visits)) => {
             call(tree, ours, restart, ev, trace, visits as u32 - 1, all, None, count)?;
             theirs.tick(tree, ev, &watched)?;
             let left = theirs.left(tree);
             call(tree, ours, restart, ev, trace, visits as u32, all, Some((theirs, &left)), count)
         }
-        None => call(tree, ours, restart, ev, trace, most, all, None, count),
+        None => call(tree, ours, restart, ev, trace, FUEL, all, None, count),
     }
 }
 
