@@ -14,6 +14,7 @@ mod levels;
 mod ours;
 mod random;
 mod sample;
+mod share;
 mod sides;
 mod since;
 mod small;
@@ -34,14 +35,14 @@ pub use status::Status;
 
 pub type Float = f64;
 
+use share::{share, Job};
 use std::process::ExitCode;
-use std::sync::atomic::{AtomicU64, Ordering};
-use std::sync::Mutex;
 use std::time::Instant;
 
-/// How many calls were compared, by what they said.
+/// How many jobs were done, and how many calls compared in them, by what they said.
 #[derive(Clone, Copy, Default)]
 pub struct Count {
+    jobs: u64,
     done: u64,
     asked: u64,
     fuel: u64,
@@ -76,18 +77,28 @@ impl Count {
         }
     }
 
-    fn add(&mut self, other: Count) {
-        self.done += other.done;
-        self.asked += other.asked;
-        self.fuel += other.fuel;
-        self.refused += other.refused;
-        self.restarts += other.restarts;
-        self.flat += other.flat;
-        self.few_levels += other.few_levels;
-        self.bounds += other.bounds;
-        self.exchanged += other.exchanged;
-        self.held += other.held;
-        self.not_exchanged += other.not_exchanged;
+    fn add(&mut self, mut other: Count) {
+        for (field, more) in self.fields().into_iter().zip(other.fields()) {
+            *field += *more;
+        }
+    }
+
+    fn fields(&mut self) -> [&mut u64; 12] {
+        let Count {
+            jobs,
+            done,
+            asked,
+            fuel,
+            refused,
+            restarts,
+            flat,
+            few_levels,
+            bounds,
+            exchanged,
+            held,
+            not_exchanged,
+        } = self;
+        [jobs, done, asked, fuel, refused, restarts, flat, few_levels, bounds, exchanged, held, not_exchanged]
     }
 }
 
@@ -197,34 +208,4 @@ fn compare(full: bool, seed: u64) -> bool {
         total.not_exchanged
     );
     true
-}
-
-type Job<'a> = &'a (dyn Fn(u64, &mut Count) -> Result<(), String> + Sync);
-
-/// Does the jobs 0 to n on every core, until one finds a difference.
-fn share(jobs: u64, job: Job) -> Result<Count, String> {
-    let next = AtomicU64::new(0);
-    let result = Mutex::new(Ok(Count::default()));
-    std::thread::scope(|scope| {
-        for _ in 0..std::thread::available_parallelism().map_or(1, |n| n.get()) {
-            scope.spawn(|| {
-                let mut count = Count::default();
-                loop {
-                    let i = next.fetch_add(1, Ordering::Relaxed);
-                    let found = if i < jobs { job(i, &mut count) } else { break };
-                    if let Err(wrong) = found {
-                        next.store(jobs, Ordering::Relaxed);
-                        if let Ok(mut result) = result.lock() {
-                            *result = Err(wrong);
-                        }
-                        return;
-                    }
-                }
-                if let Ok(Ok(total)) = result.lock().as_deref_mut() {
-                    total.add(count);
-                }
-            });
-        }
-    });
-    result.into_inner().unwrap_or_else(|_| Err("a worker failed".to_string()))
 }
