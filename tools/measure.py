@@ -1,10 +1,11 @@
 #!/usr/bin/env python3
 """Measures what a tick costs and writes the figures (performance.py) to standard output.
 
-  measure.py [--times] [--emulator COMMAND] [--counter COMMAND] [--tracer COMMAND] PROGRAM
+  measure.py [--times | --times-of FIGURES] [--emulator COMMAND] [--counter COMMAND] [--tracer COMMAND] PROGRAM
 
 COUNTER runs a program and says how many instructions it took (callgrind, or count-instructions.c in the emulator); TRACER
-writes its memory accesses (lackey). What is not given is not measured.
+writes its memory accesses (lackey, or trace-memory.c in the emulator). What is not given is not measured; times can be taken over
+from figures that were stored.
 """
 import argparse
 import re
@@ -69,13 +70,15 @@ def traced(tracer, tree):
 def main():
     options = argparse.ArgumentParser()
     options.add_argument("--times", action="store_true")
+    options.add_argument("--times-of")
     for name in ("--emulator", "--counter", "--tracer"):
         options.add_argument(name, type=str.split, default=[])
     options.add_argument("program")
     given = options.parse_args()
     program = given.emulator + [given.program]
     measured, figures = keys(program), {}
-    clock = times(program) if given.times else {}
+    stored = performance.read(given.times_of) if given.times_of else {}
+    clock = times(program) if given.times else {key: figure.times for key, figure in stored.items()}
     for key in measured:
         count = instructions(given.counter + [given.program], *key) if given.counter else None
         figures[key] = performance.Figure(clock.get(key), count)

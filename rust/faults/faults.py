@@ -41,8 +41,14 @@ FAULTS = [
     (
         "an ended child of WhenAll keeps its cells",
         "walk/src/when_all.rt",
-        "fresh(work, times, q, next);\n                    put_mark",
+        "fresh(work, times, q, next);\n                        put_mark",
         "put_mark",
+    ),
+    (
+        "a Wait under WhenAll costs no fuel",
+        "leaves/src/waits.rt",
+        "work[FUEL] = fuel - 1;",
+        "work[FUEL] = fuel;",
     ),
     (
         "limits keep the sign of zero",

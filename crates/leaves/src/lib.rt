@@ -1,9 +1,11 @@
 // The rules of the nodes that visit no other: leaves, and decorators once their child has given a result.
 mod decorator;
+mod waits;
 
 pub use decorator::decorated;
 use rules::Kind;
 use rules::cleaned;
+pub use waits::keeps_waiting;
 use work::ASKED;
 use work::FUEL;
 use work::Result;

@@ -6,7 +6,7 @@ use native.Mathlib.Nat.{lt-of-lt-of-le}
 use native.Mathlib.Omega.{arith}
 use denote.Ref.{RefT, now}
 use lib.Ieee.{Float, binary64}
-use Rattle.work.specs.Flat.{Visitor, lent, visiting}
+use Rattle.work.specs.Flat.{Out, Visitor, lent, visiting}
 
 abbrev pub visitor : RefT (List Float) → RefT (List ℕ) → RefT (List Float) → ℕ → Visitor
 visitor limits statuses leftovers = visiting binary64 (lent (now limits) (now statuses) (now leftovers))
@@ -45,3 +45,7 @@ turns-left h g = omega arith
 
 pub first-inside : {p : ℕ} → p < 255 → p + 1 < 256
 first-inside h = omega arith
+
+-- a visit to what was left as it was
+pub as-it-was : (v : Visitor) (q : ℕ) (dt : Float) {ws ws₁ : List ℕ} {ts ts₁ : List Float} {o : Out} → (ws₁ ≡ ws) × (ts₁ ≡ ts) → v q dt ws₁ ts₁ ≡ o → v q dt ws ts ≡ o
+as-it-was v q dt e g = rw (← e .0, ← e .1) g

@@ -71,12 +71,14 @@ pub fn tick_node(
         depth - 1,
         dt,
     );
+    // Handed on field by field: as a whole, a result is copied with its padding.
     let seen = result.seen;
+    let left = result.left;
     if let Seen::Stopped = seen {
-        return result;
+        return Result { seen, left };
     }
     put_seen(work, p, seen);
-    result
+    Result { seen, left }
 }
 
 // A child: a leaf gives its result at once.

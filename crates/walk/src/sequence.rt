@@ -112,12 +112,13 @@ pub fn memoryless(
         let next = end_of(work, q);
         let result = visit(work, limits, statuses, leftovers, times, q, depth, rest);
         let seen = result.seen;
+        let left = result.left;
         match seen.turned(exchange) {
-            Seen::Stopped => return result,
+            Seen::Stopped => return Result { seen, left },
             Seen::Running => return waiting(),
-            Seen::Failure => return result,
+            Seen::Failure => return Result { seen, left },
             Seen::Success => {
-                rest = result.left;
+                rest = left;
                 if stop <= next {
                     return Result {
                         seen,

@@ -1,6 +1,7 @@
 // WhenAll and WhenAny, Race and After, which visit several children in one tick. WhenAny is WhenAll
 // with Success and Failure exchanged.
 use crate::visit;
+use leaves::keeps_waiting;
 use work::LARGEST;
 use work::Result;
 use work::Seen;
@@ -55,18 +56,22 @@ pub fn when_all(
         // Read before the visit, which writes the word: the next turn need not wait for this one.
         let next = end_of(work, q);
         if mark_of(work[q]) == 0 {
-            let result = visit(work, limits, statuses, leftovers, times, q, depth, dt);
-            let seen = result.seen;
-            match seen.turned(any) {
-                Seen::Stopped => return result,
-                Seen::Failure => return result,
-                Seen::Running => {
-                    all_marked = false;
-                }
-                Seen::Success => {
-                    fresh(work, times, q, next);
-                    put_mark(work, q);
-                    least = smaller(least, result.left);
+            if keeps_waiting(work, limits, times, q, dt) {
+                all_marked = false;
+            } else {
+                let result = visit(work, limits, statuses, leftovers, times, q, depth, dt);
+                let seen = result.seen;
+                match seen.turned(any) {
+                    Seen::Stopped => return result,
+                    Seen::Failure => return result,
+                    Seen::Running => {
+                        all_marked = false;
+                    }
+                    Seen::Success => {
+                        fresh(work, times, q, next);
+                        put_mark(work, q);
+                        least = smaller(least, result.left);
+                    }
                 }
             }
         }

@@ -1,11 +1,14 @@
--- Each slice by itself.
+-- Few cells one by one, and else each slice by itself.
 use Rattle.rules.specs.Call.{run}
 use borrow.Author.Needs.{needs}
 use Rattle.cells.proofs.copy.copy_cells.Statement.{statement}
 use Rattle.cells.proofs.copy.copy_cells.Tie as tie
 
 returns : tie.Need-returns
-returns c =
+returns c = c .before .before .before .before .before .before .before .before .copy-few .ensures
+
+returns-2 : tie.Need-returns-2
+returns-2 c =
     let marks = c .before .before .before .before in
     let places = marks .before .before .before .before in
     let times = places .before .before .before .before in
@@ -20,11 +23,17 @@ copy-cells-spec =
     tie.close
     (tie.spec
     (λ c κs. search needs)
+    (λ c. search needs)
+    (λ c. search needs)
+    (λ c. search needs)
+    (λ c. search needs)
+    returns
     (λ c κs. search needs)
     (λ c κs. search needs)
     (λ c κs. search needs)
+    (λ c κs. search needs)
     (λ c. search needs)
     (λ c. search needs)
     (λ c. search needs)
     (λ c. search needs)
-    returns)
+    returns-2)

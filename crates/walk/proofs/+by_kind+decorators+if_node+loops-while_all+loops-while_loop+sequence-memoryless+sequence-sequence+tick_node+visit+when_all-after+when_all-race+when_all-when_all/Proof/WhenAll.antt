@@ -3,9 +3,9 @@ use mathlib.Core.Path.{_≡_, refl, sym, _∙_}
 use Prim.Native.Nat.{ℕ, _-_, _≤_}
 use native.Mathlib.Omega.{arith}
 use borrow.Author.Needs.{needs}
-use lib.Ieee.{ofBits}
+use lib.Ieee.{binary64, ofBits}
 use lib.ListN.{length}
-use Rattle.work.specs.Flat.{Out, turning, whenAll, whenAllGo}
+use Rattle.work.specs.Flat.{Out, turning, visiting, whenAll, whenAllGo}
 use Rattle.work.proofs.VisitLaws.{turn-out, turn-visit, turned-back}
 use Rattle.work.proofs.end_of.Reads as end-of
 use Rattle.work.proofs.fresh.Reads as fresh
@@ -15,8 +15,9 @@ use Rattle.work.proofs.put_mark.Reads as put-mark
 use Rattle.work.proofs.result.Seen.turned.Reads as turned
 use Rattle.work.proofs.smaller.Reads as smaller
 use Rattle.work.proofs.waiting.Reads as waiting
+use Rattle.leaves.proofs.keeps_waiting.Reads as keeps-waiting
 use Rattle.walk.proofs.WhenAllLaws as when-law
-use Rattle.walk.proofs.TurnLaws.{visitor, Bounds, bounds, inside, within, due, closer}
+use Rattle.walk.proofs.TurnLaws.{visitor, Bounds, bounds, inside, within, due, closer, as-it-was}
 use Rattle.walk.proofs.visit.Reads as visit
 use Rattle.walk.proofs.when_all.when_all.Reads as own
 use Rattle.walk.proofs.+by_kind+decorators+if_node+loops-while_all+loops-while_loop+sequence-memoryless+sequence-sequence+tick_node+visit+when_all-after+when_all-race+when_all-when_all
@@ -45,6 +46,8 @@ callees t = (
   passed.Learnt,
   mark-of.Asked,
   mark-of.Learnt,
+  keeps-waiting.Asked,
+  keeps-waiting.Learnt,
   visit-below t,
   visit.Post,
   fresh.Asked,
@@ -83,102 +86,148 @@ met-when-all·when-all t = lts.spec (callees t) (at-exchange own.Pre t) own.Post
     (λ c. omega (arith, inside (c .before .before .before .loop .inv .1) (c .before .before .loop-test .taken)))
     -- mark-of-requires
     (λ c κs. search needs)
-    -- visit-requires
+    -- keeps-waiting-requires
     (λ c κs.
     let loop-test = c .before .before .before .before .before .before .before in
+    inside (loop-test .before .loop .inv .1) (loop-test .loop-test .taken))
+    -- visit-requires
+    (λ c κs.
+    let keeps = c .before .before .before .before .before in
+    let loop-test = keeps .before .before .before .before .before .before .before .before in
     due (loop-test .before .loop .inv .1) (loop-test .loop-test .taken))
     -- turned-requires-2, enum-told
     (λ c κs. search needs) (λ c. search needs)
     -- same-length
     (λ c.
     let visit = c .before .before .before .before .before in
-    visit .visit .kept .1 .1 .1 .1 .0 ∙ visit .before .before .before .before .before .before .before .before .before .loop .inv .2)
+    let keeps = visit .before .before .before .before .before .before in
+    visit .visit .kept .1 .1 .1 .1 .0 ∙ keeps .keeps-waiting .kept .1 .1 .0 ∙ keeps .before .before .before .before .before .before .before .before .before .loop .inv .2)
     -- returns-2
     (λ c.
     let turned2 = c .before .before in
     let visit = turned2 .before .before .before in
-    let if2 = visit .before .before .before in
+    let else3 = visit .before .before .before in
+    let keeps = else3 .before .before .before in
+    let if2 = keeps .before .before .before in
     let mark-of = if2 .before in
     let loop-test = mark-of .before .before .before .before in
     let told = sym (turned2 .turned2 .ensures) ∙ c .enum-told .given .1 in
     turn-out _ _ _ _ _ _ _ (loop-test .before .loop .inv .0 _ (λ k h. when-law.when-stopped _ _ _ _ _ _ _ _ (loop-test .loop-test .taken) _
-    (mark-of .mark-of .ensures .0) (if2 .if2 .taken) _ _ _ k h (turn-visit _ _ _ _ _ _ _ (visit .visit .ensures) told))) told)
+    (mark-of .mark-of .ensures .0) (if2 .if2 .taken) _ _ _ k h (as-it-was (turning _ (visiting binary64 _ _)) _ _ (keeps .keeps-waiting .ensures .1 (else3 .if3 .left))
+    (turn-visit _ _ _ _ _ _ _ (visit .visit .ensures) told)))) told)
     -- enum-told-2
     (λ c. search needs)
     -- same-length-2
     (λ c.
     let visit = c .before .before .before .before .before in
-    visit .visit .kept .1 .1 .1 .1 .0 ∙ visit .before .before .before .before .before .before .before .before .before .loop .inv .2)
+    let keeps = visit .before .before .before .before .before .before in
+    visit .visit .kept .1 .1 .1 .1 .0 ∙ keeps .keeps-waiting .kept .1 .1 .0 ∙ keeps .before .before .before .before .before .before .before .before .before .loop .inv .2)
     -- returns-3
     (λ c.
     let turned2 = c .before .before in
     let visit = turned2 .before .before .before in
-    let if2 = visit .before .before .before in
+    let else3 = visit .before .before .before in
+    let keeps = else3 .before .before .before in
+    let if2 = keeps .before .before .before in
     let mark-of = if2 .before in
     let loop-test = mark-of .before .before .before .before in
     let told = sym (turned2 .turned2 .ensures) ∙ c .enum-told2 .given .1 in
     turn-out _ _ _ _ _ _ _ (loop-test .before .loop .inv .0 _ (λ k h. when-law.when-failed _ _ _ _ _ _ _ _ (loop-test .loop-test .taken) _
-    (mark-of .mark-of .ensures .0) (if2 .if2 .taken) _ _ _ k h (turn-visit _ _ _ _ _ _ _ (visit .visit .ensures) told))) told)
+    (mark-of .mark-of .ensures .0) (if2 .if2 .taken) _ _ _ k h (as-it-was (turning _ (visiting binary64 _ _)) _ _ (keeps .keeps-waiting .ensures .1 (else3 .if3 .left))
+    (turn-visit _ _ _ _ _ _ _ (visit .visit .ensures) told)))) told)
     -- enum-told-3, enum-told-4
     (λ c. search needs) (λ c. search needs)
     -- fresh-requires
-    (λ c κs. c .before .before .before .before .before .before .before .before .before .before .before .before .before .end-of2 .ensures .1)
+    (λ c κs.
+    let visit = c .before .before .before .before .before .before .before in
+    let keeps = visit .before .before .before .before .before .before in
+    keeps .before .before .before .before .before .before .end-of2 .ensures .1)
     -- put-mark-requires
     (λ c κs.
-    let loop-test = c .before .before .before .before .before .before .before .before .before .before .before .before .before .before .before .before .before .before .before in
+    let visit = c .before .before .before .before .before .before .before .before .before .before .before in
+    let keeps = visit .before .before .before .before .before .before in
+    let loop-test = keeps .before .before .before .before .before .before .before .before in
     inside (loop-test .before .loop .inv .1) (loop-test .loop-test .taken))
     -- smaller-requires
     (λ c κs. search needs)
     -- loop-less
     (λ c.
-    let end-of2 = c .before .before .before .before .before .before .before .before .before .before .before in
+    let end-of2 = c .before .before .before .before .before .before .before .before .before in
     let d = end-of2 .before .before .loop-test .taken in
     closer d (end-of2 .end-of2 .ensures .2 (inside (end-of2 .before .before .before .loop .inv .1) d)))
     -- loop-again
     (λ c.
-    let turned2 = c .before .before in
-    let visit = turned2 .before .before .before in
-    let if2 = visit .before .before .before in
+    let keeps = c .before .before .before in
+    let if2 = keeps .before .before .before in
     let mark-of = if2 .before in
     let end-of2 = mark-of .before .before in
     let d = end-of2 .before .before .loop-test .taken in
     let inv = end-of2 .before .before .before .loop .inv in (
       (λ r e. inv .0 r (λ k h. when-law.when-running _ _ _ _ _ _ _ _ d _ (mark-of .mark-of .ensures .0) (if2 .if2 .taken) _ _ _ k h
-          (turn-visit _ _ _ _ _ _ _ (visit .visit .ensures) (sym (turned2 .turned2 .ensures) ∙ c .enum-told3 .given .1)) _ (end-of2 .end-of2 .ensures .0)
+          (turn-visit _ _ _ _ _ _ _ (keeps .keeps-waiting .ensures .0 (c .if3 .taken) _ _ _) refl) _ (end-of2 .end-of2 .ensures .0)
           (end-of2 .end-of2 .ensures .2 (inside (inv .1) d)) r e)),
       inv .1,
-      visit .visit .kept .1 .1 .1 .1 .0 ∙ inv .2,
+      keeps .keeps-waiting .kept .1 .1 .0 ∙ inv .2,
     ))
     -- loop-less-2
     (λ c.
-    let end-of2 = c .before .before .before .before .before .before .before .before .before .before .before .before .before .before .before .before .before .before .before in
+    let visit = c .before .before .before .before .before in
+    let end-of2 = visit .before .before .before .before .before .before .before .before .before .before .before .before in
     let d = end-of2 .before .before .loop-test .taken in
     closer d (end-of2 .end-of2 .ensures .2 (inside (end-of2 .before .before .before .loop .inv .1) d)))
     -- loop-again-2
+    (λ c.
+    let turned2 = c .before .before in
+    let visit = turned2 .before .before .before in
+    let else3 = visit .before .before .before in
+    let keeps = else3 .before .before .before in
+    let if2 = keeps .before .before .before in
+    let mark-of = if2 .before in
+    let end-of2 = mark-of .before .before in
+    let d = end-of2 .before .before .loop-test .taken in
+    let inv = end-of2 .before .before .before .loop .inv in (
+      (λ r e. inv .0 r (λ k h. when-law.when-running _ _ _ _ _ _ _ _ d _ (mark-of .mark-of .ensures .0) (if2 .if2 .taken) _ _ _ k h
+          (as-it-was (turning _ (visiting binary64 _ _)) _ _ (keeps .keeps-waiting .ensures .1 (else3 .if3 .left))
+          (turn-visit _ _ _ _ _ _ _ (visit .visit .ensures) (sym (turned2 .turned2 .ensures) ∙ c .enum-told3 .given .1))) _ (end-of2 .end-of2 .ensures .0)
+          (end-of2 .end-of2 .ensures .2 (inside (inv .1) d)) r e)),
+      inv .1,
+      visit .visit .kept .1 .1 .1 .1 .0 ∙ keeps .keeps-waiting .kept .1 .1 .0 ∙ inv .2,
+    ))
+    -- loop-less-3
+    (λ c.
+    let fresh = c .before .before .before .before .before in
+    let visit = fresh .before .before .before .before .before .before .before .before in
+    let end-of2 = visit .before .before .before .before .before .before .before .before .before .before .before .before in
+    let d = end-of2 .before .before .loop-test .taken in
+    closer d (end-of2 .end-of2 .ensures .2 (inside (end-of2 .before .before .before .loop .inv .1) d)))
+    -- loop-again-3
     (λ c.
     let put-mark = c .before in
     let fresh = put-mark .before .before .before .before in
     let enum-told4 = fresh .before .before .before in
     let turned2 = enum-told4 .before .before in
     let visit = turned2 .before .before .before in
-    let if2 = visit .before .before .before in
+    let else3 = visit .before .before .before in
+    let keeps = else3 .before .before .before in
+    let if2 = keeps .before .before .before in
     let mark-of = if2 .before in
     let end-of2 = mark-of .before .before in
     let d = end-of2 .before .before .loop-test .taken in
     let inv = end-of2 .before .before .before .loop .inv in (
       (λ r e. inv .0 r (λ k h. when-law.when-success _ _ _ _ _ _ _ _ d _ (mark-of .mark-of .ensures .0) (if2 .if2 .taken) _ _ _ k h
-          (turn-visit _ _ _ _ _ _ _ (visit .visit .ensures) (sym (turned2 .turned2 .ensures) ∙ enum-told4 .enum-told4 .given .1)) _ (end-of2 .end-of2 .ensures .0)
+          (as-it-was (turning _ (visiting binary64 _ _)) _ _ (keeps .keeps-waiting .ensures .1 (else3 .if3 .left))
+          (turn-visit _ _ _ _ _ _ _ (visit .visit .ensures) (sym (turned2 .turned2 .ensures) ∙ enum-told4 .enum-told4 .given .1))) _ (end-of2 .end-of2 .ensures .0)
           (end-of2 .end-of2 .ensures .2 (inside (inv .1) d)) _ _ (fresh .fresh .ensures .0) (fresh .fresh .ensures .1) _ (put-mark .put-mark .ensures) _
           (c .smaller .ensures) r e)),
       inv .1,
-      fresh .fresh .kept .1 .0 ∙ visit .visit .kept .1 .1 .1 .1 .0 ∙ inv .2,
+      fresh .fresh .kept .1 .0 ∙ visit .visit .kept .1 .1 .1 .1 .0 ∙ keeps .keeps-waiting .kept .1 .1 .0 ∙ inv .2,
     ))
-    -- loop-less-3
+    -- loop-less-4
     (λ c.
     let end-of2 = c .before .before .before in
     let d = end-of2 .before .before .loop-test .taken in
     closer d (end-of2 .end-of2 .ensures .2 (inside (end-of2 .before .before .before .loop .inv .1) d)))
-    -- loop-again-3
+    -- loop-again-4
     (λ c.
     let mark-of = c .before in
     let end-of2 = mark-of .before .before in
@@ -196,7 +245,7 @@ met-when-all·when-all t = lts.spec (callees t) (at-exchange own.Pre t) own.Post
     -- returns-4
     (λ c.
     let loop-test = c .before .before in
-    turn-out _ _ _ _ _ _ _ (loop-test .before .loop .inv .0 _ (λ k h. when-law.when-all-over _ _ _ _ _ _ _ _ k (loop-test .loop-test .left) (c .before .if3 .taken)))
+    turn-out _ _ _ _ _ _ _ (loop-test .before .loop .inv .0 _ (λ k h. when-law.when-all-over _ _ _ _ _ _ _ _ k (loop-test .loop-test .left) (c .before .if4 .taken)))
     (turned-back _ _ _ (sym (c .turned3 .ensures))))
     -- waiting-requires
     (λ c κs. search needs)
@@ -206,4 +255,4 @@ met-when-all·when-all t = lts.spec (callees t) (at-exchange own.Pre t) own.Post
     (λ c.
     let loop-test = c .before .before in
     rw (c .waiting .ensures) (turn-out _ _ _ _ _ _ _
-    (loop-test .before .loop .inv .0 _ (λ k h. when-law.when-some-over _ _ _ _ _ _ _ _ k (loop-test .loop-test .left) (c .before .if3 .left))) refl))
+    (loop-test .before .loop .inv .0 _ (λ k h. when-law.when-some-over _ _ _ _ _ _ _ _ k (loop-test .loop-test .left) (c .before .if4 .left))) refl))
