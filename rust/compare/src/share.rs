@@ -1,6 +1,6 @@
 //! Shares jobs between processes, one for each core.
 //!
-//! Not between threads: for those an emulator keeps x86's order of memory accesses, and takes more than twice as long.
+//! Not between threads: in an emulator, one process with two took 2.6 times the processor time of one without.
 
 use crate::Count;
 use std::env::current_exe;
