@@ -36,12 +36,12 @@ impl Levels {
     }
 
     fn rubbish([opens, counts, wholes, rests]: [usize; 4], random: &mut Random) -> Self {
-        let mut any = |len: usize| (0..len).map(|_| random.next()).collect::<Vec<_>>();
+        let mut any = || random.next();
         Levels {
-            opens: any(opens),
-            counts: any(counts).into_iter().map(|bits| bits as u32).collect(),
-            wholes: any(wholes).into_iter().map(f64::from_bits).collect(),
-            rests: any(rests).into_iter().map(f64::from_bits).collect(),
+            opens: (0..opens).map(|_| any()).collect(),
+            counts: (0..counts).map(|_| any() as u32).collect(),
+            wholes: (0..wholes).map(|_| f64::from_bits(any())).collect(),
+            rests: (0..rests).map(|_| f64::from_bits(any())).collect(),
         }
     }
 

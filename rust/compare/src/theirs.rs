@@ -6,7 +6,7 @@ use crate::since::Since;
 use crate::state::State;
 use crate::tracer::{NodeMeta, Tracer};
 use crate::tree::{Act, Tree, MEMORYLESS_SELECTOR, MEMORYLESS_SEQUENCE};
-use crate::{ActionArgs, Status, UpdateArgs, UpdateEvent, BT};
+use crate::{ActionArgs, Status, UpdateArgs, UpdateEvent, BT, RUNNING};
 use lemboraw::raw::Said;
 use std::cell::Cell;
 use std::panic::{catch_unwind, resume_unwind, AssertUnwindSafe};
@@ -143,6 +143,10 @@ pub struct Watched {
     seen: Seen,
 }
 
+/// Past the visits that are watched an action says Running, which ends most loops. After so many more bonsai is unwound,
+/// which takes as long as hundreds of visits.
+const MORE: u64 = 16;
+
 /// Counts visits as they end and keeps their statuses.
 struct Watch<'a> {
     tree: &'a Tree,
@@ -156,7 +160,7 @@ impl Tracer for Watch<'_> {
 
     fn record(&mut self, id: usize, status: Status) {
         self.ended.set(self.ended.get() + 1);
-        if self.ended.get() > self.most {
+        if self.ended.get() > self.most + MORE {
             resume_unwind(Box::new(())); // no message: this is how a walk is stopped
         }
         self.seen.board[id] = number(status);
@@ -204,10 +208,14 @@ impl Theirs {
         let mut state = self.bt.state.clone();
         let mut seen = Seen { board: vec![0; tree.len()], cursors: self.seen.cursors.clone() };
         let ended = Cell::new(0);
+        let most = u64::from(most);
         let mut asks = vec![];
         let mut answers = vec![];
-        let mut watch = Watch { tree, ended: &ended, most: u64::from(most), seen: &mut seen };
+        let mut watch = Watch { tree, ended: &ended, most, seen: &mut seen };
         let mut act = |args: ActionArgs<Ev, Act>, _: &mut ()| {
+            if ended.get() > most {
+                return RUNNING;
+            }
             // The visits under way are this action and every node above it.
             let entered = ended.get() + u64::from(args.action.depth);
             let given = answer(asks.len());
@@ -217,7 +225,7 @@ impl Theirs {
         };
         let ev = ev.cleaned();
         let ticked = || state.tick(0, &self.metas, &ev, &mut (), &mut act, &mut watch);
-        let result = catch_unwind(AssertUnwindSafe(ticked)).ok();
+        let result = catch_unwind(AssertUnwindSafe(ticked)).ok().filter(|_| ended.get() <= most);
         let trace = Trace { asks, answers, end: result.map(|result| (result, ended.get())) };
         Watched { trace, state, seen }
     }
