@@ -144,7 +144,7 @@ pub struct Watched {
 }
 
 /// Past the visits that are watched an action says Running, which ends most loops. After so many more bonsai is unwound,
-/// which takes as long as hundreds of visits.
+/// which took half of the instructions where every such loop was left by it.
 const MORE: u64 = 16;
 
 /// Counts visits as they end and keeps their statuses.
