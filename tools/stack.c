@@ -121,6 +121,19 @@ static bool many_children(void) { return children(tick); }
 static bool many_children_flat(void) { return children(tick_flat); }
 static bool many_children_again(void) { return children(restart_flat); }
 
+/* 15 WhenAlls, one below the other, the last above 200 Waits that stay Running. */
+static bool waits(carry_out *call) {
+    size_t len = chain(0, LEMBORAW_WHEN_ALL, LEMBORAW_MOST_DEPTH - 1), last = len - 2;
+    ns[last] = 200;
+    for (; len < last + 201; len++) kinds[len] = LEMBORAW_WAIT, ns[len] = 0, limits[len] = 1e6;
+    struct lemboraw_tree tree = tree_of(len);
+    struct lemboraw_said said = call(&tree, 1.0, LEMBORAW_MOST_NODES);
+    return said.no == LEMBORAW_DONE && said.status == LEMBORAW_RUNNING && said.visits == len;
+}
+
+static bool many_waits(void) { return waits(tick); }
+static bool many_waits_flat(void) { return waits(tick_flat); }
+
 /* The deepest node of a tree of 16 levels, in a branch that has not been started. */
 static bool deep_exchange(void) {
     static struct lemboraw_room other_room;
@@ -183,6 +196,7 @@ int main(void) {
     measured("an exchange, 16 levels of each kind", deep_exchange);
     measured("a tick of a While with fifty million turns", many_turns);
     measured("a tick of a Sequence of 255 children", many_children);
+    measured("a tick of 15 WhenAlls, the last above 200 Waits", many_waits);
     if (fifteen != two) printf("more levels to make fresh take more stack\n");
 
     printf("without recursion, less than %d\n", LEMBORAW_STACK_FLAT);
@@ -193,6 +207,7 @@ int main(void) {
     measured_flat("a tick of a While with fifty million turns", many_turns_flat);
     measured_flat("a tick of a Sequence of 255 children", many_children_flat);
     measured_flat("a restart of a Sequence of 255 children", many_children_again);
+    measured_flat("a tick of 15 WhenAlls, the last above 200 Waits", many_waits_flat);
     bool flat = low == deep && low_again == deep_again;
     if (!flat) printf("more levels take more stack\n");
     return !(right && fifteen == two && flat);

@@ -51,6 +51,24 @@ FAULTS = [
         "work[FUEL] = fuel;",
     ),
     (
+        "sixteen Waits under WhenAll cost one of the fuel",
+        "leaves/src/waits.rt",
+        "fuel - 1 - k as u32",
+        "fuel - 1",
+    ),
+    (
+        "a mark among sixteen Waits is passed over",
+        "load/src/sixteens.rt",
+        "all = all | kinds[at + i] | marks[at + i];",
+        "all = all | kinds[at + i];",
+    ),
+    (
+        "sixteen children of a WhenAll are shown as ended, marked or not",
+        "shown/src/lib.rt",
+        "work[q + i] = shown_marked(work[q + i], status);",
+        "work[q + i] = shown(work[q + i], status);",
+    ),
+    (
         "limits keep the sign of zero",
         "work/src/array.rt",
         "cleaned(numbers[p])",

@@ -3,7 +3,7 @@ use crate::cell::cell_allowed;
 use rules::Kind;
 use tables::wide;
 ghost use mathlib.Core.Path.{_≡_};
-ghost use mathlib.Core.Bool.{cond, _||_};
+ghost use mathlib.Core.Bool.{cond, false, _||_};
 ghost use Prim.Native.Nat.{_≤_};
 ghost use lib.Dec.{eqb};
 ghost use Rattle.cells.specs.Check.{Room, Checks, stillOpen, firstOf};
@@ -106,12 +106,9 @@ pub fn check_cells(
 }
 
 // The first bad cell, where 256 is none so far.
-pub fn first_of(fault: usize, fine: bool, at: usize) -> usize
-    ensures { λ r. ⌜ r ≡ firstOf fault fine at ⌝ }
+pub fn first_of(fault: usize, at: usize) -> usize
+    ensures { λ r. ⌜ r ≡ firstOf fault false at ⌝ }
 {
-    if fine {
-        return fault;
-    }
     if fault == 256 { at } else { fault }
 }
 

@@ -1,98 +1,28 @@
 -- One law for each step down and up.
 use mathlib.Core.Path.{_≡_, refl, sym, ap, _∙_}
-use mathlib.Core.Bool.{Bool, true, false, cond, _&&_}
+use mathlib.Core.Bool.{Bool, true, false}
 use mathlib.Core.List.{List}
-use Prim.Native.Nat.{ℕ, suc, _+_, _-_, _≤_, _<_}
-use native.Mathlib.Decide.{decLt}
+use Prim.Native.Nat.{ℕ, suc, _-_, _≤_, _<_}
 use native.Mathlib.Omega.{arith}
-use lib.Dec.{ltb}
-use lib.Ieee.{Float, Format, add, le}
-use lib.ListN.{length, set, List·getD-eq-default}
-use lib.Seq.{getD-set-same, getD-set-other}
-use borrow.Author.Tests.{eq-eqb, ne-eqb}
+use lib.Ieee.{Float, Format}
+use lib.ListN.{set}
 use Rattle.rules.specs.declared.behavior.Kind.{Kind}
 use Rattle.rules.specs.declared.behavior.Kind.the-variants.{Wait, WaitForever, Action, Invert, AlwaysSucceed, Timeout, Select, If, Sequence}
 use Rattle.rules.specs.declared.behavior.Kind.the-variants.{MemorylessSequence, MemorylessSelector, While, WhileAll, WhenAll, WhenAny, After, Race}
-use Rattle.rules.specs.Kinds.{is}
 use Rattle.rules.specs.Tree.{zeroTime}
 use Rattle.rules.specs.Levels.{Levels}
-use Rattle.work.specs.declared.result.Seen.{Seen}
-use Rattle.work.specs.declared.result.Seen.the-variants.{Stopped, Running, Success, Failure}
+use Rattle.work.specs.declared.result.Seen.the-variants.{Stopped}
 use Rattle.work.specs.Word.{kindIn}
-use Rattle.work.specs.Array.{wordAt, timeAt, numberAt, fuelOf, usedOf, updates}
-use Rattle.work.specs.Flat.{Out, out, Lent, Visitor, seen, isLeaf, wait, action, leaf, visitLeaf, visit, byKind, tick, visiting}
+use Rattle.work.specs.Array.{wordAt, fuelOf}
+use Rattle.work.specs.Flat.{Out, out, Lent, Visitor, seen, isLeaf, leaf, visitLeaf, visit, byKind, tick, visiting}
 use Rattle.work.proofs.VisitLaws.{visit-leaf, visit-node, tick-zero, tick-spent, tick-on}
 use Rattle.turns.specs.declared.level.Level.{Level}
 use Rattle.turns.specs.declared.level.Turn.{Turn}
 use Rattle.turns.specs.Levels.{goes, resumedBy}
 use Rattle.engine.specs.Stands.{above, through, around}
 
-stopped-as : {s : Seen} {l l' : Float} {ws ws' : List ℕ} {ts ts' : List Float} → out s l ws ts ≡ out Stopped l' ws' ts' → s ≡ Stopped
-stopped-as e = cc
-
 not-so : _≡_ {A = Bool} false true → ⊥
 not-so e = let z : _≡_ {A = ℕ} 0 1 = cc in omega arith
-
--- ---- the fuel
-long-fuel : (ws : List ℕ) → (fuelOf ws ≡ 0 → ⊥) → 256 < length ws
-long-fuel ws h = elim (decLt 256 (length ws)) [
-  | yes l ↦ l
-  | no l ↦ absurd (h (List·getD-eq-default ws 0 (omega arith)))
-]
-
--- one is used
-pub fuel-used : (ws : List ℕ) → (fuelOf ws ≡ 0 → ⊥) → fuelOf (set ws 256 (fuelOf ws - 1)) < fuelOf ws
-fuel-used ws h = omega (arith, h, getD-set-same ws 256 (fuelOf ws - 1) 0 (long-fuel ws h))
-
--- what a walk that has not stopped has left
-abbrev Leaves : ℕ → Out → Type 0
-Leaves n (out s l ws ts) = (s ≡ Stopped → ⊥) → fuelOf ws ≡ n
-
-leaves-if : (n : ℕ) (b : Bool) (x y : Out) → Leaves n x → Leaves n y → Leaves n (cond b x y)
-leaves-if n true x y f g = f
-leaves-if n false x y f g = g
-
-module _ (F : Format) (T : Lent) (k : Kind) (p : ℕ) (dt : Float) (ts : List Float) where
-  leaf-leaves : (ws : List ℕ) → Leaves (fuelOf ws) (leaf F T k p dt ws ts)
-  unfolding leaf wait action
-  leaf-leaves ws =
-      leaves-if (fuelOf ws) (is k Wait) _ _
-      (leaves-if (fuelOf ws) (updates ws) _ _
-      (leaves-if (fuelOf ws) (le (numberAt (T .limits) p) (add F (timeAt ts p) dt)) _ _ (λ z. refl) (λ z. refl))
-      (λ z. refl))
-      (leaves-if (fuelOf ws) (is k Action) _ _
-      (leaves-if (fuelOf ws) (ltb (usedOf ws) (length (T .statuses)) && (ltb (usedOf ws) (length (T .leftovers)) && ltb (usedOf ws) 4294967295)) _ _
-      (λ z. getD-set-other ws 257 256 (usedOf ws + 1) 0 (λ e. omega arith))
-      (λ z. absurd (z refl)))
-      (λ z. refl))
-
-seen-leaves : (n p : ℕ) (o : Out) → p < 256 → Leaves n o → Leaves n (seen p o)
-seen-leaves n p (out Stopped l ws ts) h f = λ z. absurd (z refl)
-seen-leaves n p (out Running l ws ts) h f = λ z. getD-set-other ws p 256 _ 0 (λ e. omega arith) ∙ f z
-seen-leaves n p (out Success l ws ts) h f = λ z. getD-set-other ws p 256 _ 0 (λ e. omega arith) ∙ f z
-seen-leaves n p (out Failure l ws ts) h f = λ z. getD-set-other ws p 256 _ 0 (λ e. omega arith) ∙ f z
-
-module _ (F : Format) (T : Lent) (k : Kind) (p : ℕ) (dt : Float) (ws : List ℕ) (ts : List Float) (h : p < 256) where
-  spent-leaf : fuelOf ws ≡ 0 → visitLeaf F T k p dt ws ts ≡ out Stopped zeroTime ws ts
-  unfolding visitLeaf
-  spent-leaf z = rw (eq-eqb (fuelOf ws) 0 z)
-
-  fuelled-leaf : (fuelOf ws ≡ 0 → ⊥) → visitLeaf F T k p dt ws ts ≡ seen p (leaf F T k p dt (set ws 256 (fuelOf ws - 1)) ts)
-  unfolding visitLeaf
-  fuelled-leaf z = rw (ne-eqb (fuelOf ws) 0 z)
-
-  -- a leaf that was visited has used one
-  pub leaf-less : (s : Seen) (l : Float) (ws' : List ℕ) (ts' : List Float) → visitLeaf F T k p dt ws ts ≡ out s l ws' ts' → (s ≡ Stopped → ⊥) → fuelOf ws' < fuelOf ws
-  leaf-less s l ws' ts' e g = elim (decLt 0 (fuelOf ws)) [
-    | yes d ↦
-        let n : fuelOf ws ≡ 0 → ⊥ = (λ z. omega arith) in
-        let w : List ℕ = set ws 256 (fuelOf ws - 1) in
-        let o : Leaves (fuelOf w) (out s l ws' ts') = rw (sym (fuelled-leaf n) ∙ e) at (seen-leaves (fuelOf w) p (leaf F T k p dt w ts) h (leaf-leaves F T k p dt ts w)) in
-        omega (arith, o g, fuel-used ws n)
-    | no d ↦
-        let z : s ≡ Stopped = stopped-as (sym e ∙ spent-leaf (omega arith)) in
-        absurd (g z)
-  ]
 
 -- a visit to the root is its tick, of a leaf too
 leaf-kind : (F : Format) (T : Lent) (v : Visitor) (k : Kind) → isLeaf k ≡ true → (p : ℕ) (dt : Float) (ws : List ℕ) (ts : List Float) → byKind F T v k p dt ws ts ≡ leaf F T k p dt ws ts

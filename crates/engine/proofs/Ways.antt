@@ -15,16 +15,17 @@ use Rattle.work.specs.declared.result.Seen.{Seen}
 use Rattle.work.specs.declared.result.Seen.the-variants.{Stopped}
 use Rattle.work.specs.Word.{kindIn}
 use Rattle.work.specs.Array.{wordAt, fuelOf}
-use Rattle.work.specs.Flat.{Out, out, Lent, lent, Visitor, seen, isLeaf, visitLeaf, byKind, tick, visiting}
+use Rattle.work.specs.Flat.{Out, out, Lent, lent, Visitor, seen, isLeaf, visitLeaf, byKind, visit, tick, visiting}
 use Rattle.work.proofs.Laws.{Among}
 use Rattle.work.proofs.VisitLaws.{Gave, gave-told, no-gave}
 use Rattle.turns.specs.declared.level.Level.{Level}
 use Rattle.turns.specs.declared.level.Turn.{Turn}
 use Rattle.turns.specs.Levels.{Sound, KeepsSound, goes, resumedBy, enteredLevel}
+use Rattle.turns.proofs.FuelLaws.{fuel-used, leaf-less}
 use Rattle.engine.specs.Stands.{nodeAs, levelAt, putAt, through, around, Held}
 use Rattle.engine.specs.Climbs.{dueAt, Downs, Closes, Ups}
 use Rattle.engine.proofs.StandLaws.{put-long, put-same, put-other, put-cleared, around-stopped, around-deeper, around-kept, around-put}
-use Rattle.engine.proofs.ClimbLaws.{visit-root, fuel-used, leaf-less, down-leaf, down-spent, down-deep, down-done, down-due, up-due, up-done}
+use Rattle.engine.proofs.ClimbLaws.{visit-root, down-leaf, down-spent, down-deep, down-done, down-due, up-due, up-done}
 
 pub record WayDown
     (F : Format) (T : Lent)
@@ -44,7 +45,7 @@ pub record WayUp
     (n₀ : ℕ) (e₀ : Level) (s₀ : Seen) (l₀ : Float) (r : Levels) (ws₀ : List ℕ) (ts₀ : List Float) (n : ℕ) (e : Level) (s : Seen) (l : Float) (ws : List ℕ) (ts : List Float) : Type 0 where
   pub same : around F T n₀ e₀ r (out s₀ l₀ ws₀ ts₀) ≡ around F T n e r (out s l ws ts)
   pub held : Held n e r
-  pub fuel : fuelOf ws ≡ fuelOf ws₀
+  pub fuel : fuelOf ws ≤ fuelOf ws₀
   pub going : s₀ ≡ Stopped → s ≡ Stopped
   pub times-long : length ts ≡ length ts₀
 
@@ -260,8 +261,9 @@ module _ {F : Format} {T : Lent}
   }
 
   module _ (some : 0 < n) (going : s ≡ Stopped → ⊥) (t : Turn) (ws₁ : List ℕ) (ts₁ : List Float)
-      (o : (a : List ℕ) (b : List Float) (v : Visitor) → resumedBy F (lent (T .limits) a b) v e (out s l ws ts) ≡ goes (resumedBy F (lent (T .limits) a b)) v t ws₁ ts₁)
-      (keeps : KeepsSound e t) (g : fuelOf ws₁ ≡ fuelOf ws) where
+      (o : (a : List ℕ) (b : List Float) (tk : Visitor) → let U = lent (T .limits) a b in let v = visit F U tk in
+      resumedBy F U v e (out s l ws ts) ≡ goes (resumedBy F U) v t ws₁ ts₁)
+      (keeps : KeepsSound e t) (g : fuelOf ws₁ ≤ fuelOf ws) where
     abbrev m : ℕ
     m = n - 1
 
@@ -269,7 +271,7 @@ module _ {F : Format} {T : Lent}
     suc-m = omega arith
 
     abbrev goes-so : resumedBy F T (visiting F T (15 - m)) e (out s l ws ts) ≡ goes (resumedBy F T) (visiting F T (15 - m)) t ws₁ ts₁
-    goes-so = o (T .statuses) (T .leftovers) (visiting F T (15 - m))
+    goes-so = o (T .statuses) (T .leftovers) (tick F T (15 - m))
 
     pub way-due : t .due ≡ true → Ups F T r n₀ e₀ s₀ l₀ ws₀ ts₀ true n (t .level) s (t .left) ws₁ ts₁
     way-due z = record {
@@ -283,7 +285,7 @@ module _ {F : Format} {T : Lent}
         room = w .held .room;
       };
       going = λ _ d. going (w .going d);
-      fuel = g ∙ w .fuel;
+      fuel = omega (arith, g, w .fuel);
     }
       where
         turned-up : around F T n e r (out s l ws ts) ≡ around F T n (t .level) r (visiting F T (16 - n) (t .level .child) (t .left) ws₁ ts₁)
@@ -296,7 +298,7 @@ module _ {F : Format} {T : Lent}
     way-up z ws₂ shown same {n'} {s'} {l'} {ws₃} {ts₃} closed long {e'} p q = record {
       same = w .same ∙ turned-up ∙ closed .same (T .statuses) (r .counts) (T .leftovers) (r .rests) ∙ around-kept F T n' e' r (out s' l' ws₃ ts₃) inside;
       held = held-out n n' e e' r (w .held) (omega (arith, closed .few)) p q;
-      fuel = closed .fuel ∙ same ∙ g ∙ w .fuel;
+      fuel = omega (arith, closed .fuel, same, g, w .fuel);
       going = λ d. absurd (going (w .going d));
       times-long = long ∙ w .times-long;
     }

@@ -72,4 +72,4 @@ pub record Ups
   pub over : due ≡ false → givenAt F T n e s l r ws ts ≡ out s' l' ws' ts'
   pub held : due ≡ true → Held n' e' r
   pub going : due ≡ true → s ≡ Stopped → ⊥
-  pub fuel : fuelOf ws' ≡ fuelOf ws
+  pub fuel : fuelOf ws' ≤ fuelOf ws

@@ -6,6 +6,7 @@ pub use decorator::decorated;
 use rules::Kind;
 use rules::cleaned;
 pub use waits::keeps_waiting;
+pub use waits::past_waits;
 use work::ASKED;
 use work::FUEL;
 use work::Result;

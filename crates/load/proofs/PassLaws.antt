@@ -1,12 +1,12 @@
 -- A Wait that is plainly good, and a run of such Waits.
-use mathlib.Core.Path.{_≡_, refl, sym, ap, _∙_}
-use mathlib.Core.Bool.{Bool, true, false, _&&_, _||_, and-true, false≢true}
+use mathlib.Core.Path.{_≡_, refl, sym, _∙_}
+use mathlib.Core.Bool.{Bool, true, false, _&&_, and-true, false≢true}
 use mathlib.Core.List.{List}
 use Prim.Native.Nat.{ℕ, zero, suc, _+_, _*_, _≤_, _<_}
 use native.Mathlib.Nat.{zero-mul, mul-pos, zero-lt-suc}
 use native.Mathlib.Omega.{arith}
-use borrow.Author.Tests.{ne-eqb, eqb-true, eqb-false}
-use lib.Dec.{eqb}
+use borrow.Author.Tests.{ne-eqb, eqb-true, eqb-false, ltb-true, ltb-false}
+use lib.Dec.{eqb, ltb}
 use lib.Ieee.{Float, nan, inf, fin, binary64, ofBits, ofFields, odd, lt, eq, le, up, down}
 use lib.Ieee.Fits.{up-pos}
 use lib.ListN.{length, getD, set, length-set}
@@ -63,7 +63,7 @@ plain m k n p l x mark z a b =
     let p-zero : p ≡ 0 = omega arith in
     record { code = k-zero; at-start = p-zero; row = rw (k-zero, n-zero, a); cell = rw (k-zero, p-zero) b }
 
--- ---- one Wait more
+-- ---- no Wait yet
 pub passes-none : {kinds ns : List ℕ} {limits times : List Float} {places marks : List ℕ} {m : Bool} {ws : List ℕ} {from to : ℕ}
     → from ≤ to
     → length ws ≡ 260
@@ -78,6 +78,29 @@ passes-none h l = record {
   behind = λ i a. refl;
 }
 
+-- ---- a run behind a run
+pub passes-then : {kinds ns : List ℕ} {limits times : List Float} {places marks : List ℕ} {m : Bool} {ws₀ ws ws' : List ℕ} {from to mid r : ℕ}
+    → Passes kinds ns limits times places marks m ws₀ ws from to mid
+    → Passes kinds ns limits times places marks m ws ws' mid to r
+    → Passes kinds ns limits times places marks m ws₀ ws' from to r
+passes-then {mid = mid} h g = record {
+  lower = omega (arith, h .lower, g .lower);
+  upper = g .upper;
+  long = g .long;
+  plain = λ i a b. in-either i (λ z. h .plain i a z) (λ z. g .plain i z b);
+  word = λ i a b. in-either i (λ z. g .before i z ∙ h .word i a z) (λ z. g .word i z b);
+  before = λ i a. g .before i (omega (arith, a, h .lower)) ∙ h .before i a;
+  behind = λ i a. g .behind i a ∙ h .behind i (omega (arith, a, g .lower));
+}
+  where
+    in-either : (i : ℕ) {P : Type 0} → (i < mid → P) → (mid ≤ i → P) → P
+    in-either i {P} f s = go (ltb i mid) refl
+      where
+        go : (b : Bool) → ltb i mid ≡ b → P
+        go true e = f (ltb-true i mid e)
+        go false e = s (ltb-false i mid e)
+
+-- ---- one Wait more
 module _ {kinds ns : List ℕ} {limits times : List Float} {places marks : List ℕ} {m : Bool} {ws₀ ws : List ℕ} {from to at : ℕ} where
   module _ (h : Passes kinds ns limits times places marks m ws₀ ws from to at) (inside : at < to) (low : to ≤ 256)
       (here : PlainWait m (getD kinds at 0) (getD ns at 0) (getD limits at nan) (getD times at nan) (getD places at 0) (getD marks at 0))

@@ -1,3 +1,4 @@
 pub mod Load
 pub mod Trees
 pub mod Scans
+pub mod Sixteens

@@ -1,5 +1,6 @@
 // One pass over table and cells, with the open nodes on a stack of fixed size. Of what it accepts it writes the words.
 use crate::fresh::look_fresh;
+use crate::sixteens::find_plain;
 use cells::cell_allowed;
 use cells::ended_below;
 use cells::first_of;
@@ -17,6 +18,7 @@ ghost use lib.ListN.{length};
 ghost use Rattle.rules.specs.Cells.{cellOf, inUse};
 ghost use Rattle.refine.specs.Words.{pack};
 ghost use Rattle.load.specs.Scans.{Lent, Scans, withBelow, PlainWait, Passes, scannedAs};
+ghost use Rattle.load.specs.Sixteens.{Groups, Cleared};
 
 const INFINITY: u64 = 0x7ff0000000000000;
 
@@ -82,6 +84,19 @@ fn plain_wait(may_end: bool, kind: u8, n: u16, limit: f64, time: f64, place: u16
     limit < f64::from_bits(INFINITY)
 }
 
+// The words of sixteen plain Waits without a mark.
+fn clear_sixteen(work: &mut [u32; 260], at: usize)
+    requires { ⌜ at + 16 ≤ 260 ⌝ }
+    requires { ⌜ length (now work) ≡ 260 ⌝ }
+    ensures { λ _. ⌜ Cleared (now (work .entry)) (now (work .exit)) at 16 ⌝ }
+{
+    let mut i = 0;
+    while i < 16 {
+        work[at + i] = 0;
+        i += 1;
+    }
+}
+
 // The first place from `from` on, at most `to`, where no plain Wait stands; of those before it the words are written.
 fn past_waits(
     kinds: &[u8],
@@ -94,17 +109,23 @@ fn past_waits(
     from: usize,
     to: usize,
     may_end: bool,
+    plain: &[bool; 16],
 ) -> usize
     requires { ⌜ (from ≤ to) × (to ≤ 256) ⌝ }
     requires { ⌜ (to ≤ length (now kinds)) × (to ≤ length (now ns)) × (to ≤ length (now limits)) ⌝ }
     requires { ⌜ (to ≤ length (now times)) × (to ≤ length (now places)) × (to ≤ length (now marks)) ⌝ }
     requires { ⌜ length (now work) ≡ 260 ⌝ }
+    requires { ⌜ Groups (now kinds) (now ns) (now limits) (now times) (now places) (now marks) (now plain) ⌝ }
     ensures { λ r. ⌜
         Passes (now (kinds .entry)) (now (ns .entry)) (now (limits .entry)) (now (times .entry)) (now (places .entry)) (now (marks .entry)) «may_end»
         (now (work .entry)) (now (work .exit)) from to r
         ⌝ }
 {
     let mut at = from;
+    while at + 16 <= to && at % 16 == 1 && plain[at / 16] {
+        clear_sixteen(work, at);
+        at += 16;
+    }
     while at < to {
         let mark = marks[at];
         if !plain_wait(
@@ -134,7 +155,8 @@ fn no_run(ended: bool, kind: u8) -> bool
     kind != 0
 }
 
-// How far plain Waits are looked for: all but the last of the children that are left.
+// How far plain Waits are looked for: all but the last of the children that are left. A long run that begins within a group of sixteen is looked at
+// up to the node before the next group, so that the run behind it begins with the group.
 fn run_end(none: bool, last: usize, at: usize, left: u16) -> usize
     requires { ⌜ (at < last) × (last ≤ 256) × (0 < left) ⌝ }
     ensures { λ r. ⌜ (at ≤ r) × (r < last) × (r < at + left) × (none ≡ true → r ≡ at) ⌝ }
@@ -142,7 +164,14 @@ fn run_end(none: bool, last: usize, at: usize, left: u16) -> usize
     if none {
         return at;
     }
-    least(last, at + wide(left)) - 1
+    let end = least(last, at + wide(left)) - 1;
+    if end < at + 32 {
+        return end;
+    }
+    if at % 16 == 1 {
+        return end;
+    }
+    (at + 15) / 16 * 16
 }
 
 // Whether the slices hold exactly one tree of at most 256 nodes, at most 16 deep, whose cells are ones that their nodes allow.
@@ -164,6 +193,10 @@ fn look(
         ⌝ }
 {
     let last = least(rows, 256);
+    let mut plain = [false; 16];
+    if 17 < last {
+        find_plain(kinds, ns, limits, times, places, marks, last, &mut plain);
+    }
     // The open nodes: where each begins, how many of its parent's children are still to be read, whether
     // those are below a child that has ended, and whether they may be marked. `left`, `ended` and
     // `may_end` are those of the innermost; at first one tree is owed, the root.
@@ -190,6 +223,7 @@ fn look(
             at,
             to,
             may_end,
+            &plain,
         );
         left -= (next - at) as u16;
         at = next;
@@ -202,8 +236,9 @@ fn look(
         let kind = Kind::of(number);
         let place = places[begin];
         let mark = marks[begin];
-        let fine = cell_allowed(ended, may_end, kind, ns[begin], times[begin], place, mark);
-        fault = first_of(fault, fine, begin);
+        if !cell_allowed(ended, may_end, kind, ns[begin], times[begin], place, mark) {
+            fault = first_of(fault, begin);
+        }
         work[begin] = word(number, place, mark);
         at += 1;
         left -= 1;

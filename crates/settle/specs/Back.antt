@@ -1,7 +1,9 @@
 -- Putting the working array back into the runs that a host lends.
+use mathlib.Core.Path.{_≡_}
+use mathlib.Core.Bool.{false}
 use mathlib.Core.List.{List, map, _++_}
-use Prim.Native.Nat.{ℕ}
-use lib.ListN.{take, drop}
+use Prim.Native.Nat.{ℕ, _<_}
+use lib.ListN.{take, drop, getD}
 use Rattle.rules.specs.Call.{stamped}
 use Rattle.work.specs.Word.{anewOf}
 
@@ -12,3 +14,7 @@ over field n ws l = map field (take n ws) ++ drop n l
 -- a tick's number put over a run, for each of the first n words that say that it made their node fresh
 abbrev pub stampedOver : ℕ → ℕ → List ℕ → List ℕ → List ℕ
 stampedOver this n ws l = stamped this (map anewOf (take n ws)) l ++ drop n l
+
+-- none of the first n words says that its node was made fresh
+abbrev pub NoneAnew : ℕ → List ℕ → Type 0
+NoneAnew n ws = (j : ℕ) → j < n → anewOf (getD ws j 0) ≡ false

@@ -1,13 +1,16 @@
--- The child behind one; one child more, or none; the children of a kind; one node more, or none; nodes that show nothing.
-use mathlib.Core.Path.{_≡_, refl, ap, _∙_}
+-- The child behind one; one child more, or none; leaves at once; the children of a kind; one node more, or none; nodes that show nothing.
+use mathlib.Core.Path.{_≡_, refl, sym, ap, _∙_}
 use mathlib.Core.Bool.{Bool, true, false, cond}
 use mathlib.Core.List.{List}
 use Prim.Native.Nat.{ℕ, zero, suc, _+_, _-_, _≤_, _<_}
 use native.Mathlib.Decide.{decLt}
 use native.Mathlib.Omega.{arith}
-use native.Mathlib.Numerals.{sub-one}
+use native.Mathlib.Nat.{add-zero, sub-zero}
+use native.Mathlib.Numerals.{add-one, sub-one}
 use borrow.Author.Tests.{le-leb, lt-leb, lt-ltb, le-ltb, eq-eqb, ne-eqb}
 use lib.Dec.{eqb}
+use lib.ListN.{set}
+use lib.Seq.{getD-set-other, set-getD}
 use types.Run.{OneOf}
 use denote.Enum.Declared.{tagOf}
 use Rattle.rules.specs.declared.behavior.Kind.{Kind}
@@ -16,9 +19,9 @@ use Rattle.rules.specs.declared.behavior.Kind.the-variants.{Select, If, Sequenc
 use Rattle.rules.specs.declared.behavior.Kind.the-variants.{While, WhileAll, WhenAll, WhenAny, After, Race}
 use Rattle.rules.proofs.behavior.Kind.{the-type}
 use Rattle.rules.proofs.Arms.{Each, gives}
-use Rattle.work.specs.Word.{belowOf, kindIn, placeOf, markOf}
+use Rattle.work.specs.Word.{belowOf, kindIn, placeOf, markOf, seenOf, withSeen}
 use Rattle.work.specs.Array.{wordAt, endOf}
-use Rattle.shown.specs.Show.{endedAt, markedAt, behindOf, eachFrom, endedUnder, endedBelow, endedWords, Bare}
+use Rattle.shown.specs.Show.{endedAt, markedAt, behindOf, eachFrom, endedWord, markedWord, overWords, Leaves, endedUnder, endedBelow, endedWords, Bare}
 
 module _ (b w q : ℕ) (ws : List ℕ) (e : b ≡ belowOf w) where
   pub behind-some : 0 < b → endOf ws q ≡ behindOf w q ws
@@ -48,6 +51,55 @@ module _ (at : ℕ → ℕ → List ℕ → List ℕ) (stop : ℕ) where
     unfolding eachFrom
     each-next zero l g r e = absurd (omega arith)
     each-next (suc k) l g r e = rw (lt-leb stop q h, ← put, ← goes) (e k (omega arith))
+
+-- ---- leaves at once: the word of each is put through f, and it ends where the next begins
+
+-- a word that stays the same leaves the words as they are
+kept : (b : Bool) (q v : ℕ) (ws : List ℕ) → set ws q (cond b v (wordAt ws q)) ≡ cond b (set ws q v) ws
+kept true q v ws = refl
+kept false q v ws = set-getD ws q 0
+
+-- what is done at a child is to put its word through f
+abbrev Sets : (ℕ → ℕ) → (ℕ → ℕ → List ℕ → List ℕ) → Type 0
+Sets f at = (q : ℕ) (ws : List ℕ) → set ws q (f (wordAt ws q)) ≡ at q (wordAt ws q) ws
+
+pub ended-sets : (s : ℕ) → Sets (endedWord s) (endedAt s)
+ended-sets s q ws = let w = wordAt ws q in kept (eqb (seenOf w) 0) q (withSeen w s) ws
+
+pub marked-sets : (s : ℕ) → Sets (markedWord s) (markedAt s)
+marked-sets s q ws =
+    let w = wordAt ws q in
+    let marked = eqb (markOf w) 1 in
+    kept marked q (endedWord s w) ws ∙ ap (λ (l : List ℕ). cond marked l ws) (ended-sets s q ws)
+
+module _ (f : ℕ → ℕ) (q : ℕ) (ws : List ℕ) where
+  pub over-more : (k v : ℕ) (ws' : List ℕ) → ws' ≡ overWords f q k ws → v ≡ f (wordAt ws' (q + k)) → set ws' (q + k) v ≡ overWords f q (k + 1) ws
+  unfolding overWords
+  over-more k v ws' e g = rw (add-one k, g, e)
+
+  -- words ahead are as they were
+  later : (k i : ℕ) → k ≤ i → wordAt (overWords f q k ws) (q + i) ≡ wordAt ws (q + i)
+  unfolding overWords
+  later zero i h = refl
+  later (suc k) i h =
+      let ws' = overWords f q k ws in
+      getD-set-other ws' (q + k) (q + i) (f (wordAt ws' (q + k))) 0 (λ e. omega arith) ∙ later k i (omega arith)
+
+  pub each-leaves : (at : ℕ → ℕ → List ℕ → List ℕ) → Sets f at → (stop k n : ℕ) (ws' : List ℕ)
+      → ws' ≡ overWords f q k ws
+      → k ≤ n
+      → q + k ≤ stop
+      → Leaves q k ws
+      → eachFrom at stop (n - k) (q + k) ws' ≡ eachFrom at stop n q ws
+  unfolding overWords
+  each-leaves at sets stop zero n ws' put h l e = rw (sub-zero n, add-zero q, put)
+  each-leaves at sets stop (suc k) n ws' put h l e =
+      let ahead = overWords f q k ws in
+      let one : n - suc k ≡ n - k - 1 = omega arith in
+      let next : q + suc k ≡ q + k + 1 = omega arith in
+      let leaf = ap belowOf (later k k (omega arith)) ∙ e k (omega arith) in
+      rw (put, one, next) (each-less at stop (q + k) ahead _ _ (omega arith) (sets (q + k) ahead) (behind-none _ _ _ _ (sym leaf) (omega arith)) (n - k) (omega arith)
+      ∙ each-leaves at sets stop k n ahead refl (omega arith) (omega arith) (λ i g. e i (omega arith)))
 
 -- an arm of a `match` on the kind
 pub under-arm : (ns : List ℕ) {k k' : Kind} (i p : ℕ) (ws : List ℕ) {v : List ℕ} → OneOf ns (tagOf the-type k) → k ≡ k' → Each (λ k. v ≡ endedUnder k i p ws) ns → v ≡ endedUnder k' i p ws

@@ -32,6 +32,22 @@ eachFrom at stop (suc k) q ws = cond (leb stop q)
     let ws' = at q w ws in
     eachFrom at stop k (behindOf w q ws') ws')
 
+-- the word of a child that shows s if no visit has seen it; and only if it has a mark
+abbrev pub endedWord : ℕ → ℕ → ℕ
+endedWord s w = cond (eqb (seenOf w) 0) (withSeen w s) w
+
+abbrev pub markedWord : ℕ → ℕ → ℕ
+markedWord s w = cond (eqb (markOf w) 1) (endedWord s w) w
+
+-- k words from q on, each put through f
+unfoldable pub overWords : (ℕ → ℕ) → ℕ → ℕ → List ℕ → List ℕ
+overWords f q zero ws = ws
+overWords f q (suc k) ws = let ws' = overWords f q k ws in set ws' (q + k) (f (wordAt ws' (q + k)))
+
+-- k nodes from q on that have none below them
+abbrev pub Leaves : ℕ → ℕ → List ℕ → Type 0
+Leaves q k ws = (i : ℕ) → i < k → belowOf (wordAt ws (q + i)) ≡ 0
+
 -- the children of the node at p, of that kind and at that place
 unfoldable pub endedUnder : Kind → ℕ → ℕ → List ℕ → List ℕ
 unfolding eachFrom

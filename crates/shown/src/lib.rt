@@ -8,14 +8,64 @@ use work::mark_of;
 use work::place_of;
 use work::seen_of;
 use work::with_seen;
+use work::words_of;
 ghost use mathlib.Core.Path.{_≡_};
+ghost use mathlib.Core.Bool.{true};
 ghost use Prim.Native.Nat.{_+_, _≤_, _<_};
 ghost use Rattle.work.specs.Array.{endOf};
-ghost use Rattle.shown.specs.Show.{endedAt, markedAt, behindOf, eachFrom, endedBelow, endedWords, Bare};
+ghost use Rattle.shown.specs.Show.{endedWord, markedWord, overWords, Leaves, endedAt, markedAt, behindOf, eachFrom, endedBelow, endedWords, Bare};
 
 const SUCCESS: u32 = 2;
 
 const FAILURE: u32 = 3;
+
+// Whether sixteen children from q on have none below them: each then ends where the next begins.
+fn sixteen_leaves(work: &[u32; 260], q: usize) -> bool
+    requires { ⌜ q + 16 ≤ 256 ⌝ }
+    ensures { λ r. ⌜ (r ≡ true → Leaves q 16 (now (work .entry))) ⌝ }
+{
+    below_of(words_of(work, q)) == 0
+}
+
+// The word of a child that shows a status if no visit has seen it; and only if it has a mark.
+fn shown(w: u32, status: u32) -> u32
+    ensures { λ r. ⌜ r ≡ endedWord status w ⌝ }
+{
+    if seen_of(w) == 0 {
+        with_seen(w, status)
+    } else {
+        w
+    }
+}
+
+fn shown_marked(w: u32, status: u32) -> u32
+    ensures { λ r. ⌜ r ≡ markedWord status w ⌝ }
+{
+    if mark_of(w) == 1 { shown(w, status) } else { w }
+}
+
+// Sixteen leaves from q on, without a branch for each.
+fn show_sixteen(work: &mut [u32; 260], q: usize, status: u32)
+    requires { ⌜ q + 16 ≤ 256 ⌝ }
+    ensures { λ _. ⌜ now (work .exit) ≡ overWords (endedWord status) q 16 (now (work .entry)) ⌝ }
+{
+    let mut i = 0;
+    while i < 16 {
+        work[q + i] = shown(work[q + i], status);
+        i += 1;
+    }
+}
+
+fn show_sixteen_marked(work: &mut [u32; 260], q: usize, status: u32)
+    requires { ⌜ q + 16 ≤ 256 ⌝ }
+    ensures { λ _. ⌜ now (work .exit) ≡ overWords (markedWord status) q 16 (now (work .entry)) ⌝ }
+{
+    let mut i = 0;
+    while i < 16 {
+        work[q + i] = shown_marked(work[q + i], status);
+        i += 1;
+    }
+}
 
 // The child at q, whose word is w, shows a status if no visit has seen it.
 fn show(work: &mut [u32; 260], q: usize, w: u32, status: u32)
@@ -47,6 +97,10 @@ fn show_marked(work: &mut [u32; 260], p: usize, status: u32)
 {
     let stop = end_of(work, p);
     let mut q = p + 1;
+    while q + 16 <= stop && sixteen_leaves(work, q) {
+        show_sixteen_marked(work, q, status);
+        q += 16;
+    }
     while q < stop {
         let w = work[q];
         if mark_of(w) == 1 {
@@ -64,6 +118,11 @@ fn show_before(work: &mut [u32; 260], p: usize, place: u32, status: u32)
     let stop = end_of(work, p);
     let mut q = p + 1;
     let mut left = place;
+    while 16 <= left && q + 16 <= stop && sixteen_leaves(work, q) {
+        show_sixteen(work, q, status);
+        q += 16;
+        left -= 16;
+    }
     while 0 < left {
         if stop <= q {
             return;

@@ -1,5 +1,5 @@
 mod Answered
-mod Bits
+pub mod Bits
 pub mod Depth
 pub mod Placed
 pub mod Rows

@@ -1,4 +1,4 @@
-mod FuelLaws
+pub mod FuelLaws
 mod TurnLaws
 mod BranchLaws
 mod SequenceLaws

@@ -4,7 +4,7 @@ use mathlib.Core.Bool.{Bool, true, false, cond}
 use mathlib.Core.List.{List, [], _∷_}
 use types.Run.{OneOf}
 use denote.Enum.Declared.{tagOf}
-use Prim.Native.Nat.{ℕ, _<_}
+use Prim.Native.Nat.{ℕ, _≤_, _<_}
 use native.Mathlib.Omega.{arith}
 use lib.Ieee.{Float, Format, binary64}
 use Rattle.rules.specs.declared.behavior.Kind.{Kind}
@@ -15,7 +15,7 @@ use Rattle.rules.proofs.behavior.Kind.{the-type}
 use Rattle.work.specs.declared.result.Seen.{Seen}
 use Rattle.work.specs.Array.{fuelOf}
 use Rattle.work.specs.Flat.{Out, out, Lent, lent, Visitor, turnOut, turning, isLeaf, isDecorator, exchangesOf}
-use Rattle.work.specs.Flat.{decorator, ifNode, sequence, memoryless, whenAll, race, after, whileLoop, whileAll, byKind}
+use Rattle.work.specs.Flat.{decorator, ifNode, sequence, memoryless, whenAll, race, after, whileLoop, whileAll, byKind, visit}
 use Rattle.turns.specs.declared.level.Level.{Level}
 use Rattle.turns.specs.declared.level.Turn.{Turn}
 use Rattle.turns.specs.Levels.{Fine, Keeps, Ready, Sound, KeepsSound, Resumed, goes, enteredLevel, resumedAs, resumedBy}
@@ -121,14 +121,20 @@ module _ {g : Format → Lent → Visitor → Visitor} {f : Format → Lent → 
     sound = λ i. record { fine = k .fine i; ready = subst (λ (x : Kind). Ready x (t .level)) (sym (k .kind)) (d .made-ready (t .level) (h i)) };
   }
 
-  -- the child has given a result
-  pub resumed-by : {limits : List Float} {s : Seen} {l : Float} {ws : List ℕ} {ts : List Float} (ws₁ : List ℕ) (ts₁ : List Float)
-      → ((a : List ℕ) (b : List Float) (v : Visitor) → f binary64 (lent limits a b) v e (out s l ws ts) ≡ goes (f binary64 (lent limits a b)) v t ws₁ ts₁)
-      → (t .due ≡ true → N (t .level)) → fuelOf ws₁ ≡ fuelOf ws
-      → ((a : List ℕ) (b : List Float) (v : Visitor) → let T = lent limits a b in resumedBy binary64 T v e (out s l ws ts) ≡ goes (resumedBy binary64 T) v t ws₁ ts₁)
-      × (KeepsSound e t × (fuelOf ws₁ ≡ fuelOf ws))
-  resumed-by {limits} {s} {l} {ws} {ts} ws₁ ts₁ h n w =
-      (λ a b v. let T = lent limits a b in d .resumes binary64 T v e (out s l ws ts) ∙ h a b v ∙ goes-on binary64 T v ws₁ ts₁, (keeps-sound n, w))
+  -- the child has given a result; a driver that visits children itself does so as `visit` does
+  abbrev Resumes : List Float → Seen → Float → List ℕ → List Float → List ℕ → List Float → (Format → Lent → Resumed) → Type 0
+  Resumes limits s l ws ts ws₁ ts₁ g = (a : List ℕ) (b : List Float) (tk : Visitor)
+      → let T = lent limits a b in let v = visit binary64 T tk in g binary64 T v e (out s l ws ts) ≡ goes (g binary64 T) v t ws₁ ts₁
+
+  module _ {limits : List Float} {s : Seen} {l : Float} {ws : List ℕ} {ts : List Float} (ws₁ : List ℕ) (ts₁ : List Float) where
+    pub visited-by : Resumes limits s l ws ts ws₁ ts₁ f → (t .due ≡ true → N (t .level)) → fuelOf ws₁ ≤ fuelOf ws
+        → Resumes limits s l ws ts ws₁ ts₁ resumedBy × (KeepsSound e t × (fuelOf ws₁ ≤ fuelOf ws))
+    visited-by h n w =
+        (λ a b tk. let T = lent limits a b in let v = visit binary64 T tk in d .resumes binary64 T v e (out s l ws ts) ∙ h a b tk ∙ goes-on binary64 T v ws₁ ts₁, (keeps-sound n, w))
+
+    pub resumed-by : ((a : List ℕ) (b : List Float) (v : Visitor) → f binary64 (lent limits a b) v e (out s l ws ts) ≡ goes (f binary64 (lent limits a b)) v t ws₁ ts₁)
+        → (t .due ≡ true → N (t .level)) → fuelOf ws₁ ≡ fuelOf ws → Resumes limits s l ws ts ws₁ ts₁ resumedBy × (KeepsSound e t × (fuelOf ws₁ ≤ fuelOf ws))
+    resumed-by h n w = visited-by (λ a b tk. h a b (visit binary64 (lent limits a b) tk)) n (omega arith)
 
 -- the node is entered
 module _ {g : Format → Lent → Visitor → Visitor} {f : Format → Lent → Resumed} {N : Level → Type 0} {k : Kind} {p : ℕ} {dt : Float} {e : Level} {t : Turn}

@@ -8,7 +8,8 @@ use native.Mathlib.Decide.{decLt}
 use native.Mathlib.Omega.{arith}
 use borrow.Author.Tests.{lt-ltb, le-ltb, le-leb, lt-leb, eq-eqb, ne-eqb}
 use lib.Dec.{eqb}
-use lib.Ieee.{Float, lt}
+use lib.Ieee.{Float, binary64, lt}
+use lib.ListN.{length}
 use Rattle.rules.specs.declared.status.Status.{Status}
 use Rattle.rules.specs.declared.status.Status.the-variants as status
 use Rattle.rules.specs.Tree.{zeroTime}
@@ -17,13 +18,17 @@ use Rattle.work.specs.declared.result.Seen.{Seen}
 use Rattle.work.specs.declared.result.Seen.the-variants.{Stopped, Running, Success, Failure}
 use Rattle.work.specs.Word.{markOf, placeOf, withMark}
 use Rattle.work.specs.Array.{wordAt, fuelOf, endOf, passed, setPlace, setMark, freshWords, freshTimes, childFrom}
-use Rattle.work.specs.Flat.{Out, out, Step, Visitor, andThen, waiting, turned, turnOut, turning, whenAllOn, raceOn, afterOn}
+use Rattle.work.specs.Flat.{Out, out, Step, Visitor, lent, visit, andThen, waiting, turned, turnOut, turning, whenAllOn, raceOn, afterOn}
 use Rattle.work.specs.Flat.{whenAllGo, whenAll, raceGo, race, afterOver, afterGo, after}
 use Rattle.work.specs.declared.result.Result.{Result}
 use Rattle.work.proofs.Laws.{Among}
+use Rattle.work.proofs.VisitLaws.{turn-visit}
+use Rattle.leaves.specs.Waiting.{Waiting}
+use Rattle.leaves.specs.Waiting as w
+use Rattle.leaves.proofs.WaitLaws.{passed-on}
 use Rattle.turns.specs.declared.level.Level.{Level}
-use Rattle.turns.specs.Levels.{Fine, whenAllResumed, afterResumed}
-use Rattle.turns.proofs.FuelLaws.{fuel-set, then-alike}
+use Rattle.turns.specs.Levels.{Fine, whenAllResumed, raceResumed, afterResumed}
+use Rattle.turns.proofs.FuelLaws.{fuel-set, fuel-waiting, then-alike}
 use Rattle.turns.proofs.TurnLaws.{turned-as, end-past, fuel-freshed}
 
 -- ---- Race
@@ -130,6 +135,70 @@ module _ (v : Visitor) (stop : ℕ) (dt : Float) where
   when-due s q next all least ws ts h m e =
       rw e (when-steady s 256 257 q all least ws ts (omega arith) (omega arith) ∙ when-one 256 q all least ws ts h m)
 
+-- ---- Waits that are visited at once: what follows the last follows the first
+module _ (limits : List Float) (a : List ℕ) (b : List Float) (tk : Visitor) (stop : ℕ) (dt : Float) (s : stop ≤ 256) where
+  abbrev visitor : Visitor
+  visitor = visit binary64 (lent limits a b) tk
+
+  when-waiting : (x : Bool) (least : Float) {q r : ℕ} {ws ws₁ : List ℕ} {ts ts₁ : List Float} → Waiting limits dt q r ws ts ws₁ ts₁ → (q < r → r ≤ stop)
+      → whenAllGo (turning x visitor) stop dt 256 q false least ws ts ≡ whenAllGo (turning x visitor) stop dt 256 r false least ws₁ ts₁
+  when-waiting x least w.none h = refl
+  when-waiting x least (w.more {q = q} {ws = ws} {ts = ts} end mark v w) h =
+      let l = passed-on w in
+      let d = h (omega arith) in
+      when-due (turning x visitor) stop dt s q (q + 1) false least ws ts (omega arith) mark (sym end)
+      ∙ ap (λ (o : Out). andThen o (whenAllOn (whenAllGo (turning x visitor) stop dt 256) q (q + 1) false least)) (turn-visit x _ _ Running _ _ _ (v a b tk) refl)
+      ∙ when-waiting x least w (λ y. d)
+
+  race-waiting : {q r : ℕ} {ws ws₁ : List ℕ} {ts ts₁ : List Float} → Waiting limits dt q r ws ts ws₁ ts₁ → (q < r → r ≤ stop)
+      → raceGo visitor stop dt 256 q ws ts ≡ raceGo visitor stop dt 256 r ws₁ ts₁
+  race-waiting w.none h = refl
+  race-waiting (w.more {q = q} {ws = ws} {ts = ts} end mark v w) h =
+      let l = passed-on w in
+      let d = h (omega arith) in
+      race-due visitor stop dt s q (q + 1) ws ts (omega arith) (sym end)
+      ∙ ap (λ (o : Out). andThen o (raceOn (raceGo visitor stop dt 256) (q + 1))) (v a b tk)
+      ∙ race-waiting w (λ y. d)
+
+-- from the child that runs to where the next is looked for
+pub record Past (limits : List Float) (e : Level) (ws : List ℕ) (ts : List Float) (next : ℕ) (ws₁ : List ℕ) (ts₁ : List Float) : Type 0 where
+  pub visits : Waiting limits (e .whole) (e .next) next ws ts ws₁ ts₁
+  pub before-stop : e .next < next → next ≤ e .stop
+  pub long : length ts₁ ≡ length ts
+
+module _ {limits : List Float} {e : Level} {ws : List ℕ} {ts : List Float} {next : ℕ} {ws₁ : List ℕ} {ts₁ : List Float} where
+  pub past-none : ws₁ ≡ ws → ts₁ ≡ ts → next ≡ e .next → Past limits e ws ts next ws₁ ts₁
+  past-none a b c = rw (a, b, c) (record { visits = w.none; before-stop = λ h. absurd (omega arith); long = refl })
+
+  pub past-some : {n : ℕ} {ws₂ : List ℕ} {ts₂ : List Float} → ws₁ ≡ ws₂ → ts₁ ≡ ts₂ → next ≡ n
+      → Waiting limits (e .whole) (e .next) n ws ts ws₂ ts₂ → (e .next < n → n ≤ e .stop) → length ts₂ ≡ length ts → Past limits e ws ts next ws₁ ts₁
+  past-some a b c v h l = rw (a, b, c) (record { visits = v; before-stop = h; long = l })
+
+  module _ (f : Fine e) (p : Past limits e ws ts next ws₁ ts₁) where
+    in-places : next ≤ 256
+    in-places = elim (decLt (e .next) next) [
+      | yes l ↦ omega (arith, p .before-stop l, f .stop-in)
+      | no l ↦ omega (arith, f .next-in)
+    ]
+
+    pub past-asks : e .child < e .next → (e .node < next) × ((next ≤ 256) × ((e .stop ≤ 256) × (e .index ≤ 255 + next)))
+    past-asks h =
+        let l = passed-on (p .visits) in
+        (omega (arith, f .node-in), (in-places, (f .stop-in, omega (arith, f .index-in))))
+
+    pub past-fuel : fuelOf ws₁ ≤ fuelOf ws
+    past-fuel = fuel-waiting (p .visits) in-places
+
+    module _ (a : List ℕ) (b : List Float) (tk : Visitor) (r : Result) (o : Out) where
+      pub when-runs : (x : Bool) → turned x (r .seen) ≡ Running
+          → turnOut x (whenAllGo (turning x (visit binary64 (lent limits a b) tk)) (e .stop) (e .whole) 256 next false (e .rest) ws₁ ts₁) ≡ o
+          → whenAllResumed x (visit binary64 (lent limits a b) tk) e (out (r .seen) (r .left) ws ts) ≡ o
+      when-runs x h g = rw h (ap (turnOut x) (when-waiting limits a b tk (e .stop) (e .whole) (f .stop-in) x (e .rest) (p .visits) (p .before-stop)) ∙ g)
+
+      pub race-runs : r .seen ≡ Running → raceGo (visit binary64 (lent limits a b) tk) (e .stop) (e .whole) 256 next ws₁ ts₁ ≡ o
+          → raceResumed (visit binary64 (lent limits a b) tk) e (out (r .seen) (r .left) ws ts) ≡ o
+      race-runs h g = rw h (race-waiting limits a b tk (e .stop) (e .whole) (f .stop-in) (p .visits) (p .before-stop) ∙ g)
+
 -- what is made of the children, exchanged or not
 module _ (x : Bool) (v : Visitor) (stop : ℕ) (dt : Float) (q all : ℕ) (least : Float) (ws : List ℕ) (ts : List Float) where
   module _ (o : Out) (g : o ≡ whenAllGo (turning x v) stop dt 256 q (not (eqb all 0)) least ws ts) where
@@ -159,10 +228,6 @@ module _ (x : Bool) (v : Visitor) (e : Level) (r : Result) (ws : List ℕ) (ts :
   when-ended Running h n = absurd (miss (0 ∷ 3 ∷ []) 1 tt n)
   when-ended Success h n = absurd (miss (0 ∷ 3 ∷ []) 2 tt n)
   when-ended Failure h n = rw h (turned-as x (r .seen) Failure (r .left) ws ts h)
-
-  pub when-runs : turned x (r .seen) ≡ Running → (o : Out) → turnOut x (whenAllGo (turning x v) (e .stop) (e .whole) 256 (e .next) false (e .rest) ws ts) ≡ o
-      → whenAllResumed x v e (out (r .seen) (r .left) ws ts) ≡ o
-  when-runs h o g = rw h g
 
   pub when-succeeds : turned x (r .seen) ≡ Success → (ws₁ ws₂ : List ℕ) (ts₁ : List Float) (l : Float) (o : Out) → ws₁ ≡ freshWords (e .child) (e .next - e .child) ws
       → ws₂ ≡ setMark ws₁ (e .child) → ts₁ ≡ freshTimes (e .child) (e .next - e .child) ts → l ≡ smaller (e .rest) (r .left)

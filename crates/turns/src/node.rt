@@ -27,10 +27,10 @@ use work::stopped;
 ghost use mathlib.Core.Path.{_≡_};
 ghost use mathlib.Core.Bool.{false};
 ghost use mathlib.Core.List.{List};
-ghost use Prim.Native.Nat.{ℕ, _<_};
+ghost use Prim.Native.Nat.{ℕ, _<_, _≤_};
 ghost use lib.Ieee.{Float, binary64};
 ghost use Rattle.work.specs.Array.{fuelOf};
-ghost use Rattle.work.specs.Flat.{out, Lent, lent, Visitor, isLeaf, isDecorator, byKind};
+ghost use Rattle.work.specs.Flat.{out, Lent, lent, Visitor, isLeaf, isDecorator, byKind, visit};
 ghost use Rattle.turns.specs.Levels.{Sound, KeepsSound, goes, enteredLevel, resumedBy};
 
 // A node with children that is no decorator is entered.
@@ -74,12 +74,12 @@ pub fn resumed(
 ) -> Turn
     requires { ⌜ Sound level ⌝ }
     ensures { λ r. ⌜
-        ((a : List ℕ) (b : List Float) (v : Visitor)
-        → resumedBy binary64 (lent (now (now (limits .entry))) a b) v level (out (result .seen) (result .left) (now (work .entry)) (now (times .entry)))
-        ≡ goes (resumedBy binary64 (lent (now (now (limits .entry))) a b)) v r (now (work .exit)) (now (times .exit)))
+        ((a : List ℕ) (b : List Float) (tk : Visitor) → let T = lent (now (now (limits .entry))) a b in let v = visit binary64 T tk in
+        resumedBy binary64 T v level (out (result .seen) (result .left) (now (work .entry)) (now (times .entry)))
+        ≡ goes (resumedBy binary64 T) v r (now (work .exit)) (now (times .exit)))
         ⌝ }
     ensures { λ r. ⌜ KeepsSound level r ⌝ }
-    ensures { λ r. ⌜ fuelOf (now (work .exit)) ≡ fuelOf (now (work .entry)) ⌝ }
+    ensures { λ r. ⌜ fuelOf (now (work .exit)) ≤ fuelOf (now (work .entry)) ⌝ }
 {
     let kind = level.kind;
     match kind {
@@ -98,9 +98,9 @@ pub fn resumed(
         Kind::While => while_resumed(work, times, level, result),
         Kind::WhileAll => while_all_resumed(work, times, level, result),
         Kind::WhenAll | Kind::WhenAny => {
-            when_all_resumed(work, times, exchanges(kind), level, result)
+            when_all_resumed(work, limits, times, exchanges(kind), level, result)
         }
         Kind::After => after_resumed(work, level, result),
-        Kind::Race => race_resumed(work, level, result),
+        Kind::Race => race_resumed(work, limits, times, level, result),
     }
 }

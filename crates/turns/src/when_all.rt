@@ -4,6 +4,7 @@ use crate::level::Turn;
 use crate::level::done;
 use crate::level::done_in_place;
 use crate::level::due;
+use leaves::past_waits;
 use work::LARGEST;
 use work::Result;
 use work::Seen;
@@ -21,13 +22,13 @@ use work::waiting;
 ghost use mathlib.Core.Path.{_≡_};
 ghost use mathlib.Core.Bool.{Bool, not};
 ghost use mathlib.Core.List.{List};
-ghost use Prim.Native.Nat.{_+_, _<_, _≤_};
+ghost use Prim.Native.Nat.{ℕ, _+_, _<_, _≤_};
 ghost use lib.Dec.{eqb};
 ghost use lib.Ieee.{Float, binary64};
 ghost use Rattle.rules.specs.Outcome.{largest};
 ghost use Rattle.work.specs.Word.{markOf};
 ghost use Rattle.work.specs.Array.{wordAt, fuelOf};
-ghost use Rattle.work.specs.Flat.{out, Visitor, turnOut, turning, whenAllGo, whenAll, raceGo, race, afterGo, after};
+ghost use Rattle.work.specs.Flat.{out, lent, Visitor, visit, turnOut, turning, whenAllGo, whenAll, raceGo, race, afterGo, after};
 ghost use Rattle.turns.specs.Levels.{Fine, Keeps, Behind, goes, whenAllResumed, raceResumed, afterResumed};
 
 // The first child without mark from q on.
@@ -115,6 +116,7 @@ pub fn when_all_opened(work: &[u32; 260], any: bool, level: Level) -> Turn
 // A child that ends is made fresh and marked.
 pub fn when_all_resumed(
     work: &mut [u32; 260],
+    limits: &&[f64],
     times: &mut [f64],
     any: bool,
     level: Level,
@@ -123,19 +125,26 @@ pub fn when_all_resumed(
     requires { ⌜ Fine level ⌝ }
     requires { ⌜ level .child < level .next ⌝ }
     ensures { λ r. ⌜
-        ((v : Visitor) → whenAllResumed any v level (out (result .seen) (result .left) (now (work .entry)) (now (times .entry)))
+        ((a : List ℕ) (b : List Float) (tk : Visitor) → let v = visit binary64 (lent (now (now (limits .entry))) a b) tk in
+        whenAllResumed any v level (out (result .seen) (result .left) (now (work .entry)) (now (times .entry)))
         ≡ goes (whenAllResumed any) v r (now (work .exit)) (now (times .exit)))
         ⌝ }
     ensures { λ r. ⌜ Keeps level r ⌝ }
     ensures { λ r. ⌜ Behind r ⌝ }
-    ensures { λ r. ⌜ fuelOf (now (work .exit)) ≡ fuelOf (now (work .entry)) ⌝ }
+    ensures { λ r. ⌜ fuelOf (now (work .exit)) ≤ fuelOf (now (work .entry)) ⌝ }
 {
-    let next = level.next;
+    let mut next = level.next;
     let least = level.rest;
     let seen = result.seen;
     match seen.turned(any) {
         Seen::Stopped | Seen::Failure => done(level, result),
-        Seen::Running => when_all_next(work, any, level, next, 0, least),
+        Seen::Running => {
+            // Where one child runs, many Waits often do. One try for sixteen places, so that those that fail cost little.
+            if next % 16 == 2 {
+                next = past_waits(work, limits, times, next, level.stop, level.whole);
+            }
+            when_all_next(work, any, level, next, 0, least)
+        }
         Seen::Success => {
             let q = level.child;
             fresh(work, times, q, next);
@@ -185,18 +194,33 @@ pub fn race_opened(work: &[u32; 260], level: Level) -> Turn
 }
 
 // The first child that ends gives the result.
-pub fn race_resumed(work: &[u32; 260], level: Level, result: Result) -> Turn
+pub fn race_resumed(
+    work: &mut [u32; 260],
+    limits: &&[f64],
+    times: &mut [f64],
+    level: Level,
+    result: Result,
+) -> Turn
     requires { ⌜ Fine level ⌝ }
     requires { ⌜ level .child < level .next ⌝ }
-    ensures { λ r. ⌜ ((v : Visitor) (ts : List Float) → raceResumed v level (out (result .seen) (result .left) (now (work .entry)) ts) ≡ goes raceResumed v r (now (work .entry)) ts) ⌝ }
+    ensures { λ r. ⌜
+        ((a : List ℕ) (b : List Float) (tk : Visitor) → let v = visit binary64 (lent (now (now (limits .entry))) a b) tk in
+        raceResumed v level (out (result .seen) (result .left) (now (work .entry)) (now (times .entry))) ≡ goes raceResumed v r (now (work .exit)) (now (times .exit)))
+        ⌝ }
     ensures { λ r. ⌜ Keeps level r ⌝ }
     ensures { λ r. ⌜ Behind r ⌝ }
+    ensures { λ r. ⌜ fuelOf (now (work .exit)) ≤ fuelOf (now (work .entry)) ⌝ }
 {
     let seen = result.seen;
     let Seen::Running = seen else {
         return done(level, result);
     };
-    race_next(work, level, level.next)
+    let mut next = level.next;
+    // One try for sixteen places, as in when_all_resumed.
+    if next % 16 == 2 {
+        next = past_waits(work, limits, times, next, level.stop, level.whole);
+    }
+    race_next(work, level, next)
 }
 
 // The child at q, which is child i, or the end; none says whether no child so far is Running.

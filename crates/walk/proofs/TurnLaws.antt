@@ -37,6 +37,10 @@ module _ {t p depth stop q : ℕ} (b : Bounds t p depth stop) (h : q < stop) whe
 pub closer : {stop q next : ℕ} → q < stop → q < next → stop - next < stop - q
 closer h n = omega arith
 
+-- where more than the child was passed
+pub farther : {stop q next r : ℕ} → q < stop → q < next → next ≤ r → stop - r < stop - q
+farther h n l = omega arith
+
 pub fewer : {turns : ℕ} → 0 < turns → turns - 1 < turns
 fewer h = omega arith
 

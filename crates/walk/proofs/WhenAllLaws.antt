@@ -1,10 +1,10 @@
 -- One law for each path of the when-all drivers.
-use mathlib.Core.Path.{_≡_, refl}
+use mathlib.Core.Path.{_≡_, refl, sym}
 use mathlib.Core.Bool.{Bool, true, false, _&&_}
 use mathlib.Core.List.{List}
 use Prim.Native.Nat.{ℕ, zero, suc, _+_, _-_, _≤_, _<_}
 use native.Mathlib.Omega.{arith}
-use lib.Ieee.{Float, lt}
+use lib.Ieee.{Float, binary64, lt}
 use borrow.Author.Tests.{lt-ltb, le-ltb, le-leb, lt-leb, eq-eqb, ne-eqb}
 use Rattle.rules.specs.declared.status.Status.the-variants as status
 use Rattle.rules.specs.Tree.{zeroTime}
@@ -13,8 +13,10 @@ use Rattle.work.specs.declared.result.Seen.{Seen}
 use Rattle.work.specs.declared.result.Seen.the-variants.{Stopped, Running, Success, Failure}
 use Rattle.work.specs.Word.{placeOf, markOf}
 use Rattle.work.specs.Array.{wordAt, passed, endOf, setPlace, setMark, freshWords, freshTimes, childFrom}
-use Rattle.work.specs.Flat.{Out, out, Visitor}
-use Rattle.work.proofs.VisitLaws.{NotRunning}
+use Rattle.work.specs.Flat.{Out, out, Visitor, lent, turning, tick, visiting}
+use Rattle.work.proofs.VisitLaws.{NotRunning, turn-visit}
+use Rattle.leaves.specs.Waiting.{Waiting, none, more}
+use Rattle.leaves.proofs.WaitLaws.{passed-on}
 use Rattle.work.specs.Flat.{whenAllGo, whenAll, raceGo, race, afterOver, afterGo, after}
 
 in-turn : (a b : Bool) → a && b ≡ true → a ≡ true
@@ -102,6 +104,30 @@ module _ (v : Visitor) (stop : ℕ) (dt : Float) (q : ℕ) (ws : List ℕ) (ts :
     race-ended (suc k) h Running n e = absurd n
     race-ended (suc k) h Success n e = rw (lt-ltb q stop d, e)
     race-ended (suc k) h Failure n e = rw (lt-ltb q stop d, e)
+
+-- many visits at once: what follows the last follows the first
+module _ (limits : List Float) (statuses : List ℕ) (leftovers : List Float) (depth stop : ℕ) (dt : Float) where
+  pub when-waiting : (any : Bool) (least : Float) {q r : ℕ} {ws ws₁ : List ℕ} {ts ts₁ : List Float} → Waiting limits dt q r ws ts ws₁ ts₁ → (q < r → r ≤ stop)
+      → (o : Out)
+      → ((j : ℕ) → stop - r ≤ j → whenAllGo (turning any (visiting binary64 (lent limits statuses leftovers) depth)) stop dt j r false least ws₁ ts₁ ≡ o)
+      → (k : ℕ) → stop - q ≤ k → whenAllGo (turning any (visiting binary64 (lent limits statuses leftovers) depth)) stop dt k q false least ws ts ≡ o
+  when-waiting any least none h o e k g = e k g
+  when-waiting any least (more {q = q} end mark v w) h o e k g =
+      let l = passed-on w in
+      let b = h (omega arith) in
+      when-running _ stop dt q false least _ _ (omega arith) 0 (sym mark) refl zeroTime _ _ k g
+      (turn-visit any _ _ _ _ _ _ (v statuses leftovers (tick binary64 (lent limits statuses leftovers) depth)) refl) (q + 1) (sym end) (omega arith) o
+      (when-waiting any least w (λ x. b) o e)
+
+  pub race-waiting : {q r : ℕ} {ws ws₁ : List ℕ} {ts ts₁ : List Float} → Waiting limits dt q r ws ts ws₁ ts₁ → (q < r → r ≤ stop)
+      → (o : Out) → ((j : ℕ) → stop - r ≤ j → raceGo (visiting binary64 (lent limits statuses leftovers) depth) stop dt j r ws₁ ts₁ ≡ o)
+      → (k : ℕ) → stop - q ≤ k → raceGo (visiting binary64 (lent limits statuses leftovers) depth) stop dt k q ws ts ≡ o
+  race-waiting none h o e k g = e k g
+  race-waiting (more {q = q} end mark v w) h o e k g =
+      let l = passed-on w in
+      let b = h (omega arith) in
+      race-running _ stop dt q _ _ (omega arith) zeroTime _ _ k g (v statuses leftovers (tick binary64 (lent limits statuses leftovers) depth)) (q + 1) (sym end) (omega arith) o
+      (race-waiting w (λ x. b) o e)
 
 module _ (v : Visitor) (p stop : ℕ) (dt : Float) (q i : ℕ) (none : Bool) (least : Float) (ws : List ℕ) (ts : List Float) where
   pub after-all-over : (k : ℕ) → stop ≤ q → none ≡ true → (ws₁ : List ℕ) → ws₁ ≡ setPlace ws p i → afterGo v p stop dt k q i none least ws ts ≡ out Success least ws₁ ts

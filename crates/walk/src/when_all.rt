@@ -2,6 +2,7 @@
 // with Success and Failure exchanged.
 use crate::visit;
 use leaves::keeps_waiting;
+use leaves::past_waits;
 use work::LARGEST;
 use work::Result;
 use work::Seen;
@@ -54,10 +55,14 @@ pub fn when_all(
     let mut all_marked = true;
     while q < stop {
         // Read before the visit, which writes the word: the next turn need not wait for this one.
-        let next = end_of(work, q);
+        let mut next = end_of(work, q);
         if mark_of(work[q]) == 0 {
             if keeps_waiting(work, limits, times, q, dt) {
                 all_marked = false;
+                // Where one Wait waits, many often do. One try for sixteen places, so that those that fail cost little.
+                if next % 16 == 2 {
+                    next = past_waits(work, limits, times, next, stop, dt);
+                }
             } else {
                 let result = visit(work, limits, statuses, leftovers, times, q, depth, dt);
                 let seen = result.seen;
@@ -106,12 +111,15 @@ pub fn race(
     let stop = end_of(work, p);
     let mut q = p + 1;
     while q < stop {
-        let next = end_of(work, q);
+        let mut next = end_of(work, q);
         let result = visit(work, limits, statuses, leftovers, times, q, depth, dt);
         let seen = result.seen;
         let Seen::Running = seen else {
             return result;
         };
+        if next % 16 == 2 {
+            next = past_waits(work, limits, times, next, stop, dt);
+        }
         q = next;
     }
     waiting()

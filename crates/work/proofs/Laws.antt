@@ -2,26 +2,45 @@
 use mathlib.Core.Path.{_≡_, refl, sym, ap, _∙_}
 use mathlib.Core.Bool.{false}
 use mathlib.Core.List.{List, [], _∷_}
-use Prim.Native.Nat.{ℕ, zero, suc, _+_, _-_, _≤_, _<_}
+use Prim.Native.Nat.{ℕ, zero, suc, _+_, _-_, _%_, _≤_, _<_}
 use types.Run.{OneOf, miss}
 use denote.Enum.Declared.{tagOf}
 use native.Mathlib.Omega.{arith}
 use native.Mathlib.Numerals.{sub-one}
 use borrow.Author.Tests.{le-leb, lt-leb}
+use lib.Bits.{bitOr, or-add-and, and-le-l, and-le-r, or-mod}
 use lib.Ieee.{Float}
 use lib.ListN.{length, getD, set}
 use lib.Seq.{set-getD, getD-set-same}
 use Rattle.rules.specs.Tree.{zeroTime}
 use Rattle.work.specs.declared.result.Seen.{Seen}
 use Rattle.work.specs.declared.result.Seen.the-variants.{Stopped, Running, Success, Failure}
-use Rattle.work.specs.Word.{freshWord}
-use Rattle.work.specs.Array.{wordAt, setSeen, endOf, freshWords, freshTimes, childFrom}
+use Rattle.work.specs.Word.{belowOf, freshWord}
+use Rattle.work.specs.Array.{wordAt, Covered, setSeen, endOf, freshWords, freshTimes, childFrom}
 use Rattle.work.specs.Flat.{out, seen, seenNo, turned}
 use Rattle.work.proofs.result.Seen.{the-type}
 
 -- what stands past the end does not matter within the list
 pub any-default : {A : Type 0} (l : List A) (i : ℕ) (d e : A) → i < length l → getD l i d ≡ getD l i e
 any-default l i d e h = sym (getD-set-same l i (getD l i d) e h) ∙ ap (λ l. getD l i e) (set-getD l i d)
+
+-- all bits of two numbers are no less than either
+pub or-first : (a b : ℕ) → a ≤ bitOr a b
+or-first a b = omega (arith, or-add-and a b, and-le-r a b)
+
+pub or-second : (a b : ℕ) → b ≤ bitOr a b
+or-second a b = omega (arith, or-add-and a b, and-le-l a b)
+
+pub covered-first : {w : ℕ} (a b : ℕ) → Covered w a → Covered w (bitOr a b)
+unfolding belowOf
+covered-first a b c = record {
+  whole = omega (arith, c .whole, or-first a b);
+  below = rw (or-mod a b 8) (omega (arith, c .below, or-first (a % 256) (b % 256)));
+}
+
+pub covered-second : (a b : ℕ) → Covered b (bitOr a b)
+unfolding belowOf
+covered-second a b = record { whole = or-second a b; below = rw (or-mod a b 8) (or-second (a % 256) (b % 256)) }
 
 -- nothing is exchanged
 pub turned-not : (s : Seen) → s ≡ turned false s

@@ -2,7 +2,7 @@
 -- action that asks and 1, and 1 for an update. Beside it stand the times.
 use mathlib.Core.Bool.{Bool, true, cond, not}
 use mathlib.Core.List.{List}
-use Prim.Native.Nat.{ℕ, zero, suc, _+_, _-_}
+use Prim.Native.Nat.{ℕ, zero, suc, _+_, _-_, _≤_}
 use lib.Dec.{leb, ltb, eqb}
 use lib.Ieee.{Float}
 use lib.ListN.{getD, set}
@@ -31,6 +31,11 @@ askedOf ws = wordAt ws 258
 
 abbrev pub updates : List ℕ → Bool
 updates ws = not (eqb (wordAt ws 259) 0)
+
+-- what is told of a word by a number that has all its bits
+pub record Covered (w all : ℕ) : Type 0 where
+  pub whole : w ≤ all
+  pub below : belowOf w ≤ belowOf all
 
 -- the dt that is seen: 0 for an other event
 unfoldable pub passed : List ℕ → Float → Float

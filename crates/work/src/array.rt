@@ -8,9 +8,9 @@ use crate::word::with_place;
 use crate::word::with_seen;
 use rules::cleaned;
 ghost use mathlib.Core.Path.{_≡_};
-ghost use Prim.Native.Nat.{_+_, _-_, _<_, _≤_};
+ghost use Prim.Native.Nat.{ℕ, _+_, _-_, _<_, _≤_};
 ghost use lib.ListN.{set};
-ghost use Rattle.work.specs.Array.{timeAt, numberAt, updates, passed, endOf, setPlace, setMark, setSeen, freshWords, freshTimes, childFrom};
+ghost use Rattle.work.specs.Array.{wordAt, Covered, timeAt, numberAt, updates, passed, endOf, setPlace, setMark, setSeen, freshWords, freshTimes, childFrom};
 ghost use Rattle.work.specs.Flat.{seenNo};
 
 // The fuel that is left, the answers that are used, the place of the action that asks and 1, and 1 for
@@ -43,6 +43,20 @@ pub fn end_of(work: &[u32; 260], p: usize) -> usize
 {
     let end = p + 1 + below_of(work[p]);
     if end < 256 { end } else { 256 }
+}
+
+// All bits that one of the sixteen words from `at` on has.
+pub fn words_of(work: &[u32; 260], at: usize) -> u32
+    requires { ⌜ at + 16 ≤ 256 ⌝ }
+    ensures { λ r. ⌜ ((i : ℕ) → i < 16 → Covered (wordAt (now (work .entry)) (at + i)) r) ⌝ }
+{
+    let mut all: u32 = 0;
+    let mut i = 0;
+    while i < 16 {
+        all = all | work[at + i];
+        i += 1;
+    }
+    all
 }
 
 // Child i of those that begin at q, or the first place from `stop` on.

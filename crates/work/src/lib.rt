@@ -19,6 +19,7 @@ pub use array::put_seen;
 pub use array::put_time;
 pub use array::time_at;
 pub use array::updates;
+pub use array::words_of;
 pub use moves::choice;
 pub use moves::choose;
 pub use moves::decorates;

@@ -140,23 +140,37 @@ impl Tree {
     /// A tree of up to `most` nodes and 16 levels, with limits from `limit`.
     pub fn random(random: &mut Random, most: usize, limit: &mut dyn FnMut(&mut Random) -> f64) -> Tree {
         let size = 1 + random.below(most);
-        let few = random.one_in(2);
+        let shape = random.pick(&[Shape::Deep, Shape::Deep, Shape::Wide, Shape::Runs]);
         let mut nodes = vec![];
-        grow(&mut nodes, random, 1, size, few, limit);
+        grow(&mut nodes, random, 1, size, shape, limit);
         Tree::new(&nodes)
     }
 }
 
-/// Adds a random subtree of at most `size` nodes; `few` children a node make deep trees.
+/// How a random tree grows: with few children a node, with any number, or with long runs of Waits, most of which last.
+#[derive(Clone, Copy, PartialEq)]
+enum Shape {
+    Deep,
+    Wide,
+    Runs,
+}
+
+/// Adds a random subtree of at most `size` nodes.
 fn grow(
     nodes: &mut Vec<Node>,
     random: &mut Random,
     depth: usize,
     size: usize,
-    few: bool,
+    shape: Shape,
     limit: &mut dyn FnMut(&mut Random) -> f64,
 ) {
     let below = if depth == 16 { 0 } else { size - 1 };
+    let runs = shape == Shape::Runs;
+    if runs && below == 0 && !random.one_in(100) {
+        let time = if random.one_in(50) { limit(random) } else { random.pick(&[12.0, 1e300, f64::MAX]) };
+        nodes.push((WAIT, 0, time));
+        return;
+    }
     // Leaves are mostly waits and actions, and now and then a node without children.
     let kind = match below {
         0 if random.one_in(4) => random.pick(&[1, 9, 10, 13, 14, 15, 16]),
@@ -168,7 +182,8 @@ fn grow(
     let time = if kind == WAIT || kind == TIMEOUT { limit(random) } else { random.pick(&[0.0, -0.0]) };
     let (fewest, most) = children_of(kind).unwrap_or((0, 0));
     let most = usize::from(most).min(below);
-    let wish = 1 + random.below(if few { 3 } else { most });
+    let wish =
+        if runs && random.one_in(2) { most } else { 1 + random.below(if shape == Shape::Deep { 3 } else { most }) };
     let n = wish.max(usize::from(fewest)).min(most);
     let number = if kind == ACTION { random.pick(&[0, 1, 2, 255, 256, 65535]) } else { n as u16 };
     nodes.push((kind, number, time));
@@ -177,7 +192,7 @@ fn grow(
         // Every later child keeps one node at least.
         let spare = left - (n - i);
         let take = if i + 1 == n { spare } else { random.below(spare + 1) };
-        grow(nodes, random, depth + 1, 1 + take, few, limit);
+        grow(nodes, random, depth + 1, 1 + take, shape, limit);
         left -= 1 + take;
     }
 }

@@ -22,7 +22,7 @@ abbrev μ-loop : tie.MeasureT-loop
     deep
 
 loop-holds : tie.Need-loop-holds Inv-loop μ-loop
-loop-holds c = record { same = refl; held = c .before .before .before .before .before .before .pre; fuel = refl; going = λ z. z; times-long = refl }
+loop-holds c = record { same = refl; held = c .before .before .before .before .before .before .pre; fuel = omega arith; going = λ z. z; times-long = refl }
 
 -- ---- the way
 abbrev Stands : (tie.InvT-loop → tie.MeasureT-loop → Type 0) → Type 0

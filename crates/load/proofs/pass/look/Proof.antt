@@ -1,37 +1,43 @@
 -- A tree is next, or a tree has ended: each way through a turn keeps what is known of the open nodes, of their cells and of the words.
-use mathlib.Core.Path.{_≡_, sym, _∙_}
+use mathlib.Core.Path.{_≡_, refl, sym, _∙_}
+use mathlib.Core.Bool.{false}
+use mathlib.Core.Logic.{⊎-elim}
 use Prim.Native.Nat.{ℕ, _-_, _<_, min}
 use native.Mathlib.Omega.{arith}
 use borrow.Author.Needs.{needs}
-use lib.ListN.{length}
+use borrow.Author.Tests.{not-true, not-false}
+use lib.ListN.{length, getD-replicate}
 use Rattle.rules.specs.Table.{rows}
+use Rattle.cells.specs.Check.{firstOf}
+use Rattle.load.specs.Sixteens.{Groups}
+use Rattle.load.proofs.SixteenLaws.{groups-none}
 use Rattle.load.proofs.Look.{In, all-in, Node, Nodes, Ended, first, since, at-end, too-long, tells, passed}
 use Rattle.load.proofs.Look.{row-refused, too-deep-at, opens, ends-leaf, stays-on, goes-on, begin-low, closes-one}
 use Rattle.load.proofs.pass.look.Statement.{statement}
 use Rattle.load.proofs.pass.look.Tie as tie
 
 abbrev Inv-loop2 : tie.InvT-loop2
-Inv-loop2 kinds ns limits times places marks work₀ rows last begins owed under may open₀ left₀ ended₀ may-end₀ fault at to next begin number children place mark fine work «open» left ended may-end =
+Inv-loop2 kinds ns limits times places marks work₀ rows last plain begins owed under may open₀ left₀ ended₀ may-end₀ fault at to next begin number kids place mark work «open» left ended may-end =
     Ended kinds ns limits times places marks work₀ begins owed under may work «open» left ended may-end fault at
 
 abbrev μ-loop2 : tie.MeasureT-loop2
-μ-loop2 kinds ns limits times places marks work₀ rows last begins owed under may open₀ left₀ ended₀ may-end₀ fault at to next begin number children place mark fine work «open» left ended may-end =
+μ-loop2 kinds ns limits times places marks work₀ rows last plain begins owed under may open₀ left₀ ended₀ may-end₀ fault at to next begin number kids place mark work «open» left ended may-end =
     «open»
 
 abbrev Inv-loop : tie.InvT-loop
-Inv-loop kinds ns limits times places marks work₀ rows last begins₀ owed₀ under₀ may₀ open₀ left₀ ended₀ may-end₀ fault₀ at₀ work begins owed under may «open» left ended may-end fault at =
+Inv-loop kinds ns limits times places marks work₀ rows last plain begins₀ owed₀ under₀ may₀ open₀ left₀ ended₀ may-end₀ fault₀ at₀ work begins owed under may «open» left ended may-end fault at =
     Nodes kinds ns limits times places marks work₀ begins owed under may work «open» left ended may-end fault at
 
 abbrev μ-loop : tie.MeasureT-loop
-μ-loop kinds ns limits times places marks work₀ rows last begins₀ owed₀ under₀ may₀ open₀ left₀ ended₀ may-end₀ fault₀ at₀ work begins owed under may «open» left ended may-end fault at =
+μ-loop kinds ns limits times places marks work₀ rows last plain begins₀ owed₀ under₀ may₀ open₀ left₀ ended₀ may-end₀ fault₀ at₀ work begins owed under may «open» left ended may-end fault at =
     256 - at
 
 -- ---- the way back from each place
 abbrev start : tie.At-loop Inv-loop2 μ-loop2 Inv-loop μ-loop → tie.Start Inv-loop2 μ-loop2 Inv-loop μ-loop
-start c = c .before .before .before .before .before .before .before .before
+start c = c .before .before .before .before .before .before .before .before .before
 
 abbrev turn : tie.After-past-waits Inv-loop2 μ-loop2 Inv-loop μ-loop → tie.At-loop Inv-loop2 μ-loop2 Inv-loop μ-loop
-turn c = c .before .before .before .before .before .before
+turn c = c .before .before .before .before .before .before .before
 
 abbrev waits : tie.After-of Inv-loop2 μ-loop2 Inv-loop μ-loop → tie.After-past-waits Inv-loop2 μ-loop2 Inv-loop μ-loop
 waits c = c .before .before .before .before .before .before .before .before
@@ -46,17 +52,17 @@ abbrev leaf : tie.At-loop2 Inv-loop2 μ-loop2 Inv-loop μ-loop → tie.After-wor
 leaf c = c .before .before
 
 -- ---- what is known there
-last-is : (c : tie.At-loop Inv-loop2 μ-loop2 Inv-loop μ-loop) → let a = start c .args in c .before .least .result ≡ min (length (rows (a .kinds .now) (a .ns .now) (a .limits .now))) 256
-last-is c = omega (arith, c .before .least .ensures, start c .pre .0 .nodes)
+last-is : (c : tie.At-loop Inv-loop2 μ-loop2 Inv-loop μ-loop) → let a = start c .args in c .before .before .least .result ≡ min (length (rows (a .kinds .now) (a .ns .now) (a .limits .now))) 256
+last-is c = omega (arith, c .before .before .least .ensures, start c .pre .0 .nodes)
 
 abbrev InAt : tie.At-loop Inv-loop2 μ-loop2 Inv-loop μ-loop → ℕ → Type 0
 InAt c = let a = start c .args in In (a .kinds .now) (a .ns .now) (a .limits .now) (a .times .now) (a .places .now) (a .marks .now)
 
-in-all : (c : tie.At-loop Inv-loop2 μ-loop2 Inv-loop μ-loop) (at : ℕ) → at < c .before .least .result → InAt c at
+in-all : (c : tie.At-loop Inv-loop2 μ-loop2 Inv-loop μ-loop) (at : ℕ) → at < c .before .before .least .result → InAt c at
 in-all c at h = all-in (start c .pre .0) (omega (arith, h, last-is c))
 
 inside : (c : tie.After-past-waits Inv-loop2 μ-loop2 Inv-loop μ-loop) → InAt (turn c) (c .past-waits .result)
-inside c = in-all (turn c) _ (omega (arith, c .past-waits .ensures .upper, c .before .before .run-end .ensures .1))
+inside c = in-all (turn c) _ (omega (arith, c .past-waits .ensures .upper, c .before .before .before .run-end .ensures .1))
 
 abbrev NodesAt : tie.After-past-waits Inv-loop2 μ-loop2 Inv-loop μ-loop → Type 0
 NodesAt c =
@@ -67,9 +73,9 @@ NodesAt c =
 
 nodes : (c : tie.After-past-waits Inv-loop2 μ-loop2 Inv-loop μ-loop) → NodesAt c
 nodes c =
-    let e = c .before .before .run-end .ensures in
+    let e = c .before .before .before .run-end .ensures in
     let is = last-is (turn c) in
-    passed (turn c .loop .inv) (c .past-waits .ensures) (e .2) (omega (arith, e .1, is)) (omega (arith, e .1, is)) λ h. e .3 (c .before .before .before .no-run .ensures h)
+    passed (turn c .loop .inv) (c .past-waits .ensures) (e .2) (omega (arith, e .1, is)) (omega (arith, e .1, is)) λ h. e .3 (c .before .before .before .before .no-run .ensures h)
 
 abbrev NodeAt : tie.After-word Inv-loop2 μ-loop2 Inv-loop μ-loop → Type 0
 NodeAt c =
@@ -88,20 +94,50 @@ node c =
       looks = rw (← kind .of .ensures) (c .before .before .cell-allowed .ensures);
     }
 
+-- the code calls first_of at a bad cell only; either way the fault is then the first one up to this cell
+abbrev FaultAt : tie.Joined2 Inv-loop2 μ-loop2 Inv-loop μ-loop → Type 0
+FaultAt c =
+    let w = waits (c .before .before .before .before .before .before) in
+    c .if2 .fault ≡ firstOf (turn w .loop .fault) (c .before .cell-allowed .result) (w .past-waits .result)
+
+fault-is : (c : tie.Joined2 Inv-loop2 μ-loop2 Inv-loop μ-loop) → FaultAt c
+fault-is c =
+    let fine = c .before .cell-allowed .result in
+    ⊎-elim (λ w. rw (not-true fine (w .0 .taken)) (w .2 ∙ w .1 .ensures)) (λ w. rw (not-false fine (w .0 .left)) (w .1)) (c .if2 .came)
+
+-- where no group was looked for, none is said to be plain
+abbrev GroupsAt : tie.Joined1 Inv-loop2 μ-loop2 Inv-loop μ-loop → Type 0
+GroupsAt c =
+    let a = c .before .before .before .before .before .before .before .before .args in
+    Groups (a .kinds .now) (a .ns .now) (a .limits .now) (a .times .now) (a .places .now) (a .marks .now) (c .if1 .plain)
+
+groups : (c : tie.Joined1 Inv-loop2 μ-loop2 Inv-loop μ-loop) → GroupsAt c
+groups c =
+    ⊎-elim (λ w. rw (w .3) (w .2 .ensures)) (λ w. rw (w .1) (groups-none refl λ b h. getD-replicate 16 b false false h)) (c .if1 .came)
+
+find-plain-requires : tie.Need-find-plain-requires Inv-loop2 μ-loop2 Inv-loop μ-loop
+find-plain-requires c κs =
+    let begin = c .before .before .before .before .before .before .before .before .before in
+    let most = c .before .before .least in
+    let i = all-in {at = most .result - 1} (begin .pre .0) (omega (arith, most .ensures, c .before .if1 .taken, begin .pre .0 .nodes)) in (
+      (omega (arith, most .ensures), omega arith, omega arith, omega arith),
+      ((omega arith, omega arith, omega arith), (refl, λ b h. getD-replicate 16 b false false h)),
+    )
+
 loop-holds : tie.Need-loop-holds Inv-loop2 μ-loop2 Inv-loop μ-loop
-loop-holds c = first (search needs) (search needs) (search needs) (search needs) (c .before .before .before .before .before .before .before .pre .1)
+loop-holds c = first (search needs) (search needs) (search needs) (search needs) (c .before .before .before .before .before .before .before .before .pre .1)
 
 run-end-requires : tie.Need-run-end-requires Inv-loop2 μ-loop2 Inv-loop μ-loop
 run-end-requires c κs =
     let loop = c .before .before .before in
-    (c .before .before .loop-test .taken, omega (arith, loop .before .least .ensures), loop .loop .inv .state .owes)
+    (c .before .before .loop-test .taken, omega (arith, loop .before .before .least .ensures), loop .loop .inv .state .owes)
 
 past-waits-requires : tie.Need-past-waits-requires Inv-loop2 μ-loop2 Inv-loop μ-loop
 past-waits-requires c κs =
-    let at = c .before .before .before .before .before in
-    let e = c .before .run-end .ensures in
+    let at = c .before .before .before .before .before .before in
+    let e = c .before .before .run-end .ensures in
     let i = in-all at _ (e .1) in
-    ((e .0, omega arith), ((omega arith, omega arith, omega arith), ((omega arith, omega arith, omega arith), at .loop .inv .fits .long)))
+    ((e .0, omega arith), ((omega arith, omega arith, omega arith), ((omega arith, omega arith, omega arith), (at .loop .inv .fits .long, groups (at .before)))))
 
 returns : tie.Need-returns Inv-loop2 μ-loop2 Inv-loop μ-loop
 returns c =
@@ -112,18 +148,20 @@ returns c =
 returns-2 : tie.Need-returns-2 Inv-loop2 μ-loop2 Inv-loop μ-loop
 returns-2 c =
     let word = c .before .before .before .before in
-    too-deep-at (nodes (waited word)) (inside (waited word) .in-table) (node word) (c .before .before .before .if1 .taken) (c .if2 .taken)
+    too-deep-at (nodes (waited word)) (inside (waited word) .in-table) (node word) (c .before .before .before .if3 .taken) (c .if4 .taken)
 
 loop-again : tie.Need-loop-again Inv-loop2 μ-loop2 Inv-loop μ-loop
 loop-again c =
     let word = c .before .before .before .before in
-    rw (word .before .first-of .ensures, c .before .before .ended-below .ensures, c .before .marks-children .ensures, kinded word .of .ensures)
-    (opens (nodes (waited word)) (inside (waited word) .in-table) (node word) (c .before .before .before .if1 .taken) (c .if2 .left))
+    -- the way back to `of` is written out: an abbreviation of it would hold the fault, which is rewritten last
+    let joined = word .before in
+    rw (c .before .before .ended-below .ensures, c .before .marks-children .ensures, joined .before .before .before .before .before .before .of .ensures, fault-is joined)
+    (opens (nodes (waited word)) (inside (waited word) .in-table) (node word) (c .before .before .before .if3 .taken) (c .if4 .left))
 
 loop2-holds : tie.Need-loop2-holds Inv-loop2 μ-loop2 Inv-loop μ-loop
 loop2-holds c =
     let word = c .before in
-    rw (word .before .first-of .ensures) (ends-leaf (nodes (waited word)) (inside (waited word) .in-table) (node word) (c .if1 .left))
+    rw (fault-is (word .before)) (ends-leaf (nodes (waited word)) (inside (waited word) .in-table) (node word) (c .if3 .left))
 
 loop-again-2 : tie.Need-loop-again-2 Inv-loop2 μ-loop2 Inv-loop μ-loop
 loop-again-2 c =
@@ -133,7 +171,7 @@ loop-again-2 c =
 returns-3 : tie.Need-returns-3 Inv-loop2 μ-loop2 Inv-loop μ-loop
 returns-3 c =
     let ended = c .before .before .before in
-    too-long (ended .loop2 .inv) (c .before .if3 .taken) (omega (arith, c .if4 .taken, start (turn (waited (leaf ended))) .pre .0 .nodes))
+    too-long (ended .loop2 .inv) (c .before .if5 .taken) (omega (arith, c .if6 .taken, start (turn (waited (leaf ended))) .pre .0 .nodes))
 
 returns-4 : tie.Need-returns-4 Inv-loop2 μ-loop2 Inv-loop μ-loop
 returns-4 c =
@@ -141,7 +179,7 @@ returns-4 c =
     let word = leaf ended in
     let pre = start (turn (waited word)) .pre in
     rw (c .told .ensures) (tells (since (stays-on (nodes (waited word)) (inside (waited word) .in-table) (node word)) (ended .loop2 .inv))
-    (c .before .before .if3 .taken) _ (pre .0) (c .before .if4 .left) (pre .1))
+    (c .before .before .if5 .taken) _ (pre .0) (c .before .if6 .left) (pre .1))
 
 loop2-again : tie.Need-loop2-again Inv-loop2 μ-loop2 Inv-loop μ-loop
 loop2-again c = closes-one (c .before .before .before .before .loop2 .inv) (omega arith) _ (c .with-below .ensures) (c .before .before .before .loop2-test .taken)
@@ -152,6 +190,7 @@ returns-5 c = at-end (c .before .loop .inv) (omega (arith, c .loop-test .left, l
 pub look-spec : {M : Type 1} → statement M
 look-spec = tie.close (tie.spec Inv-loop2 μ-loop2 Inv-loop μ-loop
     (λ c κs. search needs)
+    find-plain-requires
     loop-holds
     (λ c. let i = in-all (c .before .before) _ (c .before .loop-test .taken) in omega arith)
     (λ c κs. search needs)
@@ -159,7 +198,7 @@ look-spec = tie.close (tie.spec Inv-loop2 μ-loop2 Inv-loop μ-loop
     past-waits-requires
     (λ c. omega (arith, c .past-waits .ensures .lower))
     (λ c. omega (arith, inside c .in-table))
-    (λ c. omega (arith, c .past-waits .ensures .upper, c .before .before .run-end .ensures .2))
+    (λ c. omega (arith, c .past-waits .ensures .upper, c .before .before .before .run-end .ensures .2))
     (λ c. let i = inside (c .before) in omega arith)
     (λ c. let i = inside (c .before) in omega arith)
     (λ c. let i = inside (c .before .before) in omega arith)

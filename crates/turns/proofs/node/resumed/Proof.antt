@@ -22,7 +22,7 @@ resumed-spec =
     (λ c. search needs)
     (λ c κs. let arms = c .before .before in law.asked (arms .before .before .pre) (law.after-driver _ (arms .match .keys9)))
     (λ c. search needs)
-    (λ c κs. let arms = c .before .before in law.asked (arms .before .before .pre) (law.race-driver _ (arms .match .keys10)))
+    (λ c κs. let arms = c .before .before .before in law.asked (arms .before .before .pre) (law.race-driver _ (arms .match .keys10)))
     (λ c. let g = c .done .ensures in law.resumed-by (law.leaf-driver _ (c .before .match .keys1)) (rw g (over refl refl)) _ _ (λ a b v. rw g) (λ h. tt) refl)
     (λ c. search needs)
     (λ c. let run = c .before .before .before in let g = c .done2 .ensures in
@@ -44,8 +44,9 @@ resumed-spec =
     law.resumed-by (law.while-all-driver _ (run .before .before .before .before .match .keys7)) (r .1 .0) _ _ (λ a b. r .0) (r .1 .1 .0) (r .1 .1 .1))
     (λ c. search needs)
     (λ c. let run = c .before .before in let r = run .when-all-resumed .ensures in
-    law.resumed-by (law.when-all-driver _ _ (run .before .exchanges3 .ensures) (run .before .before .before .before .match .keys8)) (r .1 .0) _ _ (λ a b. r .0) (r .1 .1 .0) (r .1 .1 .1))
+    law.visited-by (law.when-all-driver _ _ (run .before .exchanges3 .ensures) (run .before .before .before .before .match .keys8)) (r .1 .0) _ _ (r .0) (r .1 .1 .0) (r .1 .1 .1))
     (λ c. let run = c in let r = run .after-resumed .ensures in
     law.resumed-by (law.after-driver _ (run .before .before .before .match .keys9)) (r .1 .0) _ _ (λ a b v. r .0 v _) (r .1 .1 .0) (r .1 .1 .1))
-    (λ c. let run = c in let r = run .race-resumed .ensures in
-    law.resumed-by (law.race-driver _ (run .before .before .before .match .keys10)) (r .1 .0) _ _ (λ a b v. r .0 v _) (r .1 .1) (refl)))
+    (λ c. search needs)
+    (λ c. let run = c .before .before in let r = run .race-resumed .ensures in
+    law.visited-by (law.race-driver _ (run .before .before .before .before .match .keys10)) (r .1 .0) _ _ (r .0) (r .1 .1 .0) (r .1 .1 .1)))

@@ -15,9 +15,11 @@ use Rattle.work.proofs.put_mark.Reads as put-mark
 use Rattle.work.proofs.result.Seen.turned.Reads as turned
 use Rattle.work.proofs.smaller.Reads as smaller
 use Rattle.work.proofs.waiting.Reads as waiting
+use Rattle.leaves.proofs.WaitLaws.{passed-on}
 use Rattle.leaves.proofs.keeps_waiting.Reads as keeps-waiting
+use Rattle.leaves.proofs.past_waits.Reads as past-waits
 use Rattle.walk.proofs.WhenAllLaws as when-law
-use Rattle.walk.proofs.TurnLaws.{visitor, Bounds, bounds, inside, within, due, closer, as-it-was}
+use Rattle.walk.proofs.TurnLaws.{visitor, Bounds, bounds, inside, within, due, closer, farther, as-it-was}
 use Rattle.walk.proofs.visit.Reads as visit
 use Rattle.walk.proofs.when_all.when_all.Reads as own
 use Rattle.walk.proofs.+by_kind+decorators+if_node+loops-while_all+loops-while_loop+sequence-memoryless+sequence-sequence+tick_node+visit+when_all-after+when_all-race+when_all-when_all
@@ -48,6 +50,8 @@ callees t = (
   mark-of.Learnt,
   keeps-waiting.Asked,
   keeps-waiting.Learnt,
+  past-waits.Asked,
+  past-waits.Learnt,
   visit-below t,
   visit.Post,
   fresh.Asked,
@@ -90,6 +94,11 @@ met-when-all·when-all t = lts.spec (callees t) (at-exchange own.Pre t) own.Post
     (λ c κs.
     let loop-test = c .before .before .before .before .before .before .before in
     inside (loop-test .before .loop .inv .1) (loop-test .loop-test .taken))
+    -- past-waits-requires
+    (λ c κs.
+    let keeps = c .before .before .before .before .before .before in
+    let end-of2 = keeps .before .before .before .before .before .before in
+    (end-of2 .end-of2 .ensures .1, end-of2 .before .before .before .loop .inv .1 .end))
     -- visit-requires
     (λ c κs.
     let keeps = c .before .before .before .before .before in
@@ -152,30 +161,55 @@ met-when-all·when-all t = lts.spec (callees t) (at-exchange own.Pre t) own.Post
     (λ c κs. search needs)
     -- loop-less
     (λ c.
-    let end-of2 = c .before .before .before .before .before .before .before .before .before in
+    let past = c .before .before in
+    let keeps = past .before .before .before .before .before .before .before in
+    let end-of2 = keeps .before .before .before .before .before .before in
     let d = end-of2 .before .before .loop-test .taken in
-    closer d (end-of2 .end-of2 .ensures .2 (inside (end-of2 .before .before .before .loop .inv .1) d)))
+    farther d (end-of2 .end-of2 .ensures .2 (inside (end-of2 .before .before .before .loop .inv .1) d)) (passed-on (past .past-waits .ensures .0)))
     -- loop-again
     (λ c.
-    let keeps = c .before .before .before in
+    let past = c .before .before in
+    let if3 = past .before .before .before .before in
+    let keeps = if3 .before .before .before in
     let if2 = keeps .before .before .before in
     let mark-of = if2 .before in
     let end-of2 = mark-of .before .before in
     let d = end-of2 .before .before .loop-test .taken in
     let inv = end-of2 .before .before .before .loop .inv in (
       (λ r e. inv .0 r (λ k h. when-law.when-running _ _ _ _ _ _ _ _ d _ (mark-of .mark-of .ensures .0) (if2 .if2 .taken) _ _ _ k h
-          (turn-visit _ _ _ _ _ _ _ (keeps .keeps-waiting .ensures .0 (c .if3 .taken) _ _ _) refl) _ (end-of2 .end-of2 .ensures .0)
+          (turn-visit _ _ _ _ _ _ _ (keeps .keeps-waiting .ensures .0 (if3 .if3 .taken) _ _ _) refl) _ (end-of2 .end-of2 .ensures .0)
+          (end-of2 .end-of2 .ensures .2 (inside (inv .1) d)) r
+          (when-law.when-waiting _ _ _ _ _ _ _ _ (past .past-waits .ensures .0) (past .past-waits .ensures .1) r e))),
+      inv .1,
+      past .past-waits .kept .1 .1 .0 ∙ keeps .keeps-waiting .kept .1 .1 .0 ∙ inv .2,
+    ))
+    -- loop-less-2
+    (λ c.
+    let end-of2 = c .before .before .before .before .before .before .before .before .before .before in
+    let d = end-of2 .before .before .loop-test .taken in
+    closer d (end-of2 .end-of2 .ensures .2 (inside (end-of2 .before .before .before .loop .inv .1) d)))
+    -- loop-again-2
+    (λ c.
+    let if3 = c .before in
+    let keeps = if3 .before .before .before in
+    let if2 = keeps .before .before .before in
+    let mark-of = if2 .before in
+    let end-of2 = mark-of .before .before in
+    let d = end-of2 .before .before .loop-test .taken in
+    let inv = end-of2 .before .before .before .loop .inv in (
+      (λ r e. inv .0 r (λ k h. when-law.when-running _ _ _ _ _ _ _ _ d _ (mark-of .mark-of .ensures .0) (if2 .if2 .taken) _ _ _ k h
+          (turn-visit _ _ _ _ _ _ _ (keeps .keeps-waiting .ensures .0 (if3 .if3 .taken) _ _ _) refl) _ (end-of2 .end-of2 .ensures .0)
           (end-of2 .end-of2 .ensures .2 (inside (inv .1) d)) r e)),
       inv .1,
       keeps .keeps-waiting .kept .1 .1 .0 ∙ inv .2,
     ))
-    -- loop-less-2
+    -- loop-less-3
     (λ c.
     let visit = c .before .before .before .before .before in
     let end-of2 = visit .before .before .before .before .before .before .before .before .before .before .before .before in
     let d = end-of2 .before .before .loop-test .taken in
     closer d (end-of2 .end-of2 .ensures .2 (inside (end-of2 .before .before .before .loop .inv .1) d)))
-    -- loop-again-2
+    -- loop-again-3
     (λ c.
     let turned2 = c .before .before in
     let visit = turned2 .before .before .before in
@@ -193,14 +227,14 @@ met-when-all·when-all t = lts.spec (callees t) (at-exchange own.Pre t) own.Post
       inv .1,
       visit .visit .kept .1 .1 .1 .1 .0 ∙ keeps .keeps-waiting .kept .1 .1 .0 ∙ inv .2,
     ))
-    -- loop-less-3
+    -- loop-less-4
     (λ c.
     let fresh = c .before .before .before .before .before in
     let visit = fresh .before .before .before .before .before .before .before .before in
     let end-of2 = visit .before .before .before .before .before .before .before .before .before .before .before .before in
     let d = end-of2 .before .before .loop-test .taken in
     closer d (end-of2 .end-of2 .ensures .2 (inside (end-of2 .before .before .before .loop .inv .1) d)))
-    -- loop-again-3
+    -- loop-again-4
     (λ c.
     let put-mark = c .before in
     let fresh = put-mark .before .before .before .before in
@@ -222,12 +256,12 @@ met-when-all·when-all t = lts.spec (callees t) (at-exchange own.Pre t) own.Post
       inv .1,
       fresh .fresh .kept .1 .0 ∙ visit .visit .kept .1 .1 .1 .1 .0 ∙ keeps .keeps-waiting .kept .1 .1 .0 ∙ inv .2,
     ))
-    -- loop-less-4
+    -- loop-less-5
     (λ c.
     let end-of2 = c .before .before .before in
     let d = end-of2 .before .before .loop-test .taken in
     closer d (end-of2 .end-of2 .ensures .2 (inside (end-of2 .before .before .before .loop .inv .1) d)))
-    -- loop-again-4
+    -- loop-again-5
     (λ c.
     let mark-of = c .before in
     let end-of2 = mark-of .before .before in
@@ -245,7 +279,7 @@ met-when-all·when-all t = lts.spec (callees t) (at-exchange own.Pre t) own.Post
     -- returns-4
     (λ c.
     let loop-test = c .before .before in
-    turn-out _ _ _ _ _ _ _ (loop-test .before .loop .inv .0 _ (λ k h. when-law.when-all-over _ _ _ _ _ _ _ _ k (loop-test .loop-test .left) (c .before .if4 .taken)))
+    turn-out _ _ _ _ _ _ _ (loop-test .before .loop .inv .0 _ (λ k h. when-law.when-all-over _ _ _ _ _ _ _ _ k (loop-test .loop-test .left) (c .before .if5 .taken)))
     (turned-back _ _ _ (sym (c .turned3 .ensures))))
     -- waiting-requires
     (λ c κs. search needs)
@@ -255,4 +289,4 @@ met-when-all·when-all t = lts.spec (callees t) (at-exchange own.Pre t) own.Post
     (λ c.
     let loop-test = c .before .before in
     rw (c .waiting .ensures) (turn-out _ _ _ _ _ _ _
-    (loop-test .before .loop .inv .0 _ (λ k h. when-law.when-some-over _ _ _ _ _ _ _ _ k (loop-test .loop-test .left) (c .before .if4 .left))) refl))
+    (loop-test .before .loop .inv .0 _ (λ k h. when-law.when-some-over _ _ _ _ _ _ _ _ k (loop-test .loop-test .left) (c .before .if5 .left))) refl))
