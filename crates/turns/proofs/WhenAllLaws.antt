@@ -163,21 +163,21 @@ module _ (limits : List Float) (a : List ℕ) (b : List Float) (tk : Visitor) (s
 -- from the child that runs to where the next is looked for
 pub record Past (limits : List Float) (e : Level) (ws : List ℕ) (ts : List Float) (next : ℕ) (ws₁ : List ℕ) (ts₁ : List Float) : Type 0 where
   pub visits : Waiting limits (e .whole) (e .next) next ws ts ws₁ ts₁
-  pub before-stop : e .next < next → next ≤ e .stop
+  pub within-stop : e .next < next → next ≤ e .stop
   pub long : length ts₁ ≡ length ts
 
 module _ {limits : List Float} {e : Level} {ws : List ℕ} {ts : List Float} {next : ℕ} {ws₁ : List ℕ} {ts₁ : List Float} where
   pub past-none : ws₁ ≡ ws → ts₁ ≡ ts → next ≡ e .next → Past limits e ws ts next ws₁ ts₁
-  past-none a b c = rw (a, b, c) (record { visits = w.none; before-stop = λ h. absurd (omega arith); long = refl })
+  past-none a b c = rw (a, b, c) (record { visits = w.none; within-stop = λ h. absurd (omega arith); long = refl })
 
   pub past-some : {n : ℕ} {ws₂ : List ℕ} {ts₂ : List Float} → ws₁ ≡ ws₂ → ts₁ ≡ ts₂ → next ≡ n
       → Waiting limits (e .whole) (e .next) n ws ts ws₂ ts₂ → (e .next < n → n ≤ e .stop) → length ts₂ ≡ length ts → Past limits e ws ts next ws₁ ts₁
-  past-some a b c v h l = rw (a, b, c) (record { visits = v; before-stop = h; long = l })
+  past-some a b c v h l = rw (a, b, c) (record { visits = v; within-stop = h; long = l })
 
   module _ (f : Fine e) (p : Past limits e ws ts next ws₁ ts₁) where
     in-places : next ≤ 256
     in-places = elim (decLt (e .next) next) [
-      | yes l ↦ omega (arith, p .before-stop l, f .stop-in)
+      | yes l ↦ omega (arith, p .within-stop l, f .stop-in)
       | no l ↦ omega (arith, f .next-in)
     ]
 
@@ -193,11 +193,11 @@ module _ {limits : List Float} {e : Level} {ws : List ℕ} {ts : List Float} {ne
       pub when-runs : (x : Bool) → turned x (r .seen) ≡ Running
           → turnOut x (whenAllGo (turning x (visit binary64 (lent limits a b) tk)) (e .stop) (e .whole) 256 next false (e .rest) ws₁ ts₁) ≡ o
           → whenAllResumed x (visit binary64 (lent limits a b) tk) e (out (r .seen) (r .left) ws ts) ≡ o
-      when-runs x h g = rw h (ap (turnOut x) (when-waiting limits a b tk (e .stop) (e .whole) (f .stop-in) x (e .rest) (p .visits) (p .before-stop)) ∙ g)
+      when-runs x h g = rw h (ap (turnOut x) (when-waiting limits a b tk (e .stop) (e .whole) (f .stop-in) x (e .rest) (p .visits) (p .within-stop)) ∙ g)
 
       pub race-runs : r .seen ≡ Running → raceGo (visit binary64 (lent limits a b) tk) (e .stop) (e .whole) 256 next ws₁ ts₁ ≡ o
           → raceResumed (visit binary64 (lent limits a b) tk) e (out (r .seen) (r .left) ws ts) ≡ o
-      race-runs h g = rw h (race-waiting limits a b tk (e .stop) (e .whole) (f .stop-in) (p .visits) (p .before-stop) ∙ g)
+      race-runs h g = rw h (race-waiting limits a b tk (e .stop) (e .whole) (f .stop-in) (p .visits) (p .within-stop) ∙ g)
 
 -- what is made of the children, exchanged or not
 module _ (x : Bool) (v : Visitor) (stop : ℕ) (dt : Float) (q all : ℕ) (least : Float) (ws : List ℕ) (ts : List Float) where
