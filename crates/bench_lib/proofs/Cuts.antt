@@ -25,16 +25,16 @@ cut_line (b ∷ m) rest h =
     let ih = cut_line m rest (λ i l e. h (suc i) (omega arith) e) in
     rw (ne_eqb b 10 (h 0 (omega arith)), ih)
 
-cut-none : cut [] ≡ []
+cut_none : cut [] ≡ []
 unfolding cut
-cut-none = refl
+cut_none = refl
 
-cut-last : (m : List ℕ) → 0 < length m → Open m → cut m ≡ m ∷ []
+cut_last : (m : List ℕ) → 0 < length m → Open m → cut m ≡ m ∷ []
 unfolding cut
-cut-last [] l h = absurd (omega arith)
-cut-last (b ∷ []) l h = rw (ne_eqb b 10 (h 0 (omega arith)))
-cut-last (b ∷ x ∷ m) l h =
-    let ih = cut-last (x ∷ m) (omega arith) (λ i k e. h (suc i) (omega arith) e) in
+cut_last [] l h = absurd (omega arith)
+cut_last (b ∷ []) l h = rw (ne_eqb b 10 (h 0 (omega arith)))
+cut_last (b ∷ x ∷ m) l h =
+    let ih = cut_last (x ∷ m) (omega arith) (λ i k e. h (suc i) (omega arith) e) in
     rw (ne_eqb b 10 (h 0 (omega arith)), ih)
 
 -- no line ends between two places, as far as i
@@ -43,11 +43,11 @@ pub record Searched (s : List ℕ) (start end i : ℕ) : Type 0 where
   pub to : start < i → i ≤ end
   pub none : (j : ℕ) → start ≤ j → j < i → get_or s j 0 ≡ 10 → ⊥
 
-pub searched-none : (s : List ℕ) (start end : ℕ) → Searched s start end start
-searched-none s start end = record { from = omega arith; to = λ h. absurd (omega arith); none = λ j p q. absurd (omega arith) }
+pub searched_none : (s : List ℕ) (start end : ℕ) → Searched s start end start
+searched_none s start end = record { from = omega arith; to = λ h. absurd (omega arith); none = λ j p q. absurd (omega arith) }
 
-pub searched-more : (s : List ℕ) (start end i : ℕ) → Searched s start end i → i < end → (get_or s i 0 ≡ 10 → ⊥) → Searched s start end (i + 1)
-searched-more s start end i h l n =
+pub searched_more : (s : List ℕ) (start end i : ℕ) → Searched s start end i → i < end → (get_or s i 0 ≡ 10 → ⊥) → Searched s start end (i + 1)
+searched_more s start end i h l n =
     record {
       from = omega (arith, h.from);
       to = λ _. omega arith;
@@ -62,8 +62,8 @@ module _ (s : List ℕ) (start end : ℕ) (within : end ≤ length s) where
   shr_slice_at : (k : ℕ) → start + k < end → get_or (slice start end s) k 0 ≡ get_or s (start + k) 0
   shr_slice_at k h = get_or-drop start (take end s) k 0 ∙ get_or-take end s (start + k) 0 h
 
-  take-slice : (k : ℕ) → start + k ≤ end → take k (drop start s) ≡ take k (slice start end s)
-  take-slice k h =
+  take_slice : (k : ℕ) → start + k ≤ end → take k (drop start s) ≡ take k (slice start end s)
+  take_slice k h =
       let long = length-take-le end s within in
       let split : drop start s ≡ slice start end s ++ drop end s =
       ap (drop start) (sym (take-append-drop end s)) ∙ drop-append-le start (take end s) (drop end s) (omega arith) in
@@ -71,15 +71,15 @@ module _ (s : List ℕ) (start end : ℕ) (within : end ≤ length s) where
 
   -- no line ends before i
   module _ (i : ℕ) (from : start ≤ i) (to : i ≤ end) (none : (j : ℕ) → start ≤ j → j < i → get_or s j 0 ≡ 10 → ⊥) where
-    open-before : Open (take (i - start) (slice start end s))
-    open-before k h e =
+    open_before : Open (take (i - start) (slice start end s))
+    open_before k h e =
         let u = slice start end s in
         let l : k < i - start = omega (arith, simp length-take at h) in
         none (start + k) (omega arith) (omega arith) (sym (shr_slice_at k (omega arith)) ∙ sym (get_or-take (i - start) u k 0 l) ∙ e)
 
     -- one ends at i
-    pub line-ends : (last : Bool) → i < end → get_or s i 0 ≡ 10 → Ends s start end last (i + 1)
-    line-ends last h e =
+    pub line_ends : (last : Bool) → i < end → get_or s i 0 ≡ 10 → Ends s start end last (i + 1)
+    line_ends last h e =
         let u = slice start end s in
         let j = i - start in
         let long : j < length u = omega (arith, length-slice start end s within) in
@@ -90,7 +90,7 @@ module _ (s : List ℕ) (start end : ℕ) (within : end ≤ length s) where
         let whole : u ≡ take j u ++ (10 ∷ drop (suc j) u) = split_at u j 0 long ∙ ap (λ b. take j u ++ (b ∷ drop (suc j) u)) here in
         let line : take (i + 1 - start) (drop start s) ≡ take j u ++ (10 ∷ []) =
         ap (λ k. take k (drop start s)) m
-        ∙ take-slice (suc j) (omega arith)
+        ∙ take_slice (suc j) (omega arith)
         ∙ take-suc u j 0 long
         ∙ ap (λ b. take j u ++ (b ∷ [])) here in
         let rest : slice (i + 1) end s ≡ drop (suc j) u = ap (λ k. drop k (take end s)) q ∙ sym (drop-drop (suc j) start (take end s)) in
@@ -100,15 +100,15 @@ module _ (s : List ℕ) (start end : ℕ) (within : end ≤ length s) where
               λ _ more _.
               ap (λ l. cut (l ++ more)) whole
               ∙ ap cut (append_assoc (take j u) (10 ∷ drop (suc j) u) more)
-              ∙ cut_line (take j u) (drop (suc j) u ++ more) open-before
+              ∙ cut_line (take j u) (drop (suc j) u ++ more) open_before
               ∙ ap₂ (λ (l : Line) (m : List ℕ). l ∷ cut (m ++ more)) (sym line) (sym rest);
           waits = λ k. absurd (omega arith);
         }
 
   -- no line ends
   module _ (none : (j : ℕ) → start ≤ j → j < end → get_or s j 0 ≡ 10 → ⊥) where
-    open-all : Open (slice start end s)
-    open-all k h e =
+    open_all : Open (slice start end s)
+    open_all k h e =
         let l : start + k < end = omega (arith, length-slice start end s within) in
         none (start + k) (omega arith) l (sym (shr_slice_at k l) ∙ e)
 
@@ -117,7 +117,7 @@ module _ (s : List ℕ) (start end : ℕ) (within : end ≤ length s) where
         record {
           within = λ h. absurd (omega arith);
           line = λ h. absurd (omega arith);
-          waits = λ _. record { unended = open-all; none = λ p. absurd (no_true (sym e ∙ p)) };
+          waits = λ _. record { unended = open_all; none = λ p. absurd (no_true (sym e ∙ p)) };
         }
 
     -- what stands before the end is the last line
@@ -129,16 +129,16 @@ module _ (s : List ℕ) (start end : ℕ) (within : end ≤ length s) where
           within = λ h. omega (arith, k h);
           line =
               λ h more b.
-              let at-end : r ≡ end = k h in
+              let at_end : r ≡ end = k h in
               let m : r - start ≡ length u = omega arith in
               let line : take (r - start) (drop start s) ≡ u =
-              take-slice (r - start) (omega arith) ∙ ap (λ j. take j u) m ∙ take-length u in
-              let rest : slice r end s ≡ [] = ap (λ j. slice j end s) at-end ∙ slice_empty end s in
-              rw (b e, append-nil u, line, rest, cut-none) (cut-last u (omega arith) open-all);
+              take_slice (r - start) (omega arith) ∙ ap (λ j. take j u) m ∙ take-length u in
+              let rest : slice r end s ≡ [] = ap (λ j. slice j end s) at_end ∙ slice_empty end s in
+              rw (b e, append-nil u, line, rest, cut_none) (cut_last u (omega arith) open_all);
           waits =
               λ h.
               record {
-                unended = open-all;
+                unended = open_all;
                 none = λ _. drop_of_length-le (take end s) {i = start} (omega (arith, length-take-le end s within));
               };
         }
@@ -168,15 +168,15 @@ moved_more s s' start n h m =
     record {
       long = length-set s' n x ∙ m.long;
       front = rw (add-one n, take-suc-set s' n x short, m.front, here) (sym (take-suc (drop start s) n 0 deep));
-      back = rw (add-one n, drop-set-lt (suc n) s' n x (omega arith), ← drop-drop-one n s', m.back, drop-drop-one n s);
+      back = rw (add-one n, drop-set-lt (suc n) s' n x (omega arith), ← drop_drop_one n s', m.back, drop_drop_one n s);
     }
   where
-    drop-drop-one : (n : ℕ) (l : List ℕ) → drop 1 (drop n l) ≡ drop (suc n) l
-    drop-drop-one n l = drop-drop 1 n l ∙ ap (λ j. drop j l) (add-one n)
+    drop_drop_one : (n : ℕ) (l : List ℕ) → drop 1 (drop n l) ≡ drop (suc n) l
+    drop_drop_one n l = drop-drop 1 n l ∙ ap (λ j. drop j l) (add-one n)
 
 pub moved_all : (s s' : List ℕ) (start end n : ℕ) → start ≤ end → end ≤ length s → n ≡ end - start → Moved s s' start n → Shifts s start end n s'
 moved_all s s' start end n h w e m =
     record {
       count = e;
-      bytes = m.front ∙ take-slice s start end w n (omega arith) ∙ take_all n (slice start end s) (omega (arith, length-slice start end s w));
+      bytes = m.front ∙ take_slice s start end w n (omega arith) ∙ take_all n (slice start end s) (omega (arith, length-slice start end s w));
     }

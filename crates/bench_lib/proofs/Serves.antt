@@ -62,9 +62,9 @@ serves_more last s₀ s u₀ out input start end next on ends h serves =
     }
 
 -- a line printed behind what was printed before
-printed-more : (out room room' : List ℕ) {l : Line} (w k : ℕ) {n : ℕ} → w ≤ length out → Prints l room n room'
+printed_more : (out room room' : List ℕ) {l : Line} (w k : ℕ) {n : ℕ} → w ≤ length out → Prints l room n room'
     → take (w + n) (put_mid w k out room') ≡ take w out ++ l
-printed-more out room room' {l} w k {n} h p =
+printed_more out room room' {l} w k {n} h p =
     let front = take w out in
     let rest = drop (length l) room ++ drop k (drop w out) in
     let whole : put_mid w k out room' ≡ (front ++ l) ++ rest =
@@ -75,12 +75,12 @@ printed-more out room room' {l} w k {n} h p =
     ∙ take_at (front ++ l) rest (w + n) (omega (arith, p.count, length-append front l, length-take-le w out h))
 
 -- it has room there
-pub printed-fits : (out room' : List ℕ) {l : Line} (w : ℕ) {n : ℕ}
+pub printed_fits : (out room' : List ℕ) {l : Line} (w : ℕ) {n : ℕ}
     → w ≤ length out
     → length room' ≡ length (mid_of w (length out - w) out)
     → Prints l (mid_of w (length out - w) out) n room'
     → w + n ≤ length out
-printed-fits out room' {l} w h same p =
+printed_fits out room' {l} w h same p =
     let room = mid_of w (length out - w) out in
     omega (
       arith,
@@ -96,19 +96,19 @@ printed-fits out room' {l} w h same p =
 -- nothing changed its length
 pub record Alike (kinds ns : List ℕ) (limits times : List Float) (places marks sinces output : List ℕ)
     (kinds' ns' : List ℕ) (limits' times' : List Float) (places' marks' sinces' output' : List ℕ) : Type 0 where
-  pub kinds-alike : length kinds' ≡ length kinds
-  pub ns-alike : length ns' ≡ length ns
-  pub limits-alike : length limits' ≡ length limits
-  pub times-alike : length times' ≡ length times
-  pub places-alike : length places' ≡ length places
-  pub marks-alike : length marks' ≡ length marks
-  pub sinces-alike : length sinces' ≡ length sinces
-  pub output-alike : length output' ≡ length output
+  pub kinds_alike : length kinds' ≡ length kinds
+  pub ns_alike : length ns' ≡ length ns
+  pub limits_alike : length limits' ≡ length limits
+  pub times_alike : length times' ≡ length times
+  pub places_alike : length places' ≡ length places
+  pub marks_alike : length marks' ≡ length marks
+  pub sinces_alike : length sinces' ≡ length sinces
+  pub output_alike : length output' ≡ length output
 
 pub record Scratch (statuses patterns : List ℕ) (leftovers : List Float) : Type 0 where
-  pub statuses-long : 1024 ≡ length statuses
-  pub patterns-long : 1024 ≡ length patterns
-  pub leftovers-long : 1024 ≡ length leftovers
+  pub statuses_long : 1024 ≡ length statuses
+  pub patterns_long : 1024 ≡ length patterns
+  pub leftovers_long : 1024 ≡ length leftovers
 
 -- where it stands
 pub record Stands (last : Bool) (s₀ : State) (u₀ input : List ℕ) (end : ℕ) (held : Held) (t : Rows) (c : Run) (start written : ℕ) (output : List ℕ) : Type 0 where
@@ -117,14 +117,14 @@ pub record Stands (last : Bool) (s₀ : State) (u₀ input : List ℕ) (end : �
   pub ordered : start ≤ end
   pub room : written ≤ length output
 
-pub stands-first : (last : Bool) (input : List ℕ) (end : ℕ) (held : Held) (t : Rows) (c : Run) (start : ℕ) (output : List ℕ)
+pub stands_first : (last : Bool) (input : List ℕ) (end : ℕ) (held : Held) (t : Rows) (c : Run) (start : ℕ) (output : List ℕ)
     → held.nodes ≤ 257
     → start ≤ end
     → Stands last (state_of held t c) (slice start end input) input end held t c start 0 output
-stands-first last input end held t c start output few ordered =
+stands_first last input end held t c start output few ordered =
     record { serves = record { so = λ more b. refl }; few = few; ordered = ordered; room = omega arith }
 
-pub stands-more : (last : Bool) (s₀ : State) (u₀ input : List ℕ) (end : ℕ) (held : Held) (t t' : Rows) (c c' : Run) (start next written : ℕ)
+pub stands_more : (last : Bool) (s₀ : State) (u₀ input : List ℕ) (end : ℕ) (held : Held) (t t' : Rows) (c c' : Run) (start next written : ℕ)
     (output room' : List ℕ) (d : Done)
     → Stands last s₀ u₀ input end held t c start written output
     → held.on ≡ true
@@ -133,14 +133,14 @@ pub stands-more : (last : Bool) (s₀ : State) (u₀ input : List ℕ) (end : �
     → length room' ≡ length (mid_of written (length output - written) output)
     → Steps (state_of held t c) (take (next - start) (drop start input)) (mid_of written (length output - written) output) d t' c' room'
     → Stands last s₀ u₀ input end d.held t' c' next (written + d.printed) (put_mid written (length output - written) output room')
-stands-more last s₀ u₀ input end held t t' c c' start next written output room' d so on ends h same steps =
+stands_more last s₀ u₀ input end held t t' c c' start next written output room' d so on ends h same steps =
     let k = length output - written in
     let room = mid_of written k output in
     let p = steps.prints in
-    let fits = printed-fits output room' written so.room same p in
+    let fits = printed_fits output room' written so.room same p in
     record {
       serves =
-          rw (steps.state, printed-more output room room' written k so.room p)
+          rw (steps.state, printed_more output room room' written k so.room p)
           (serves_more last s₀ (state_of held t c) u₀ (take written output) input start end next on ends h so.serves);
       few = steps.few;
       ordered = ends.within h;

@@ -6,7 +6,7 @@ use Rattle.frames.specs.Text.{bytes, page}
 use Rattle.rules.specs.Kinds.{kind_of}
 use Rattle.rules.specs.Tree.{size}
 use Rattle.rules.specs.Cells.{column}
-use Rattle.rules.specs.Call.{tickCall, restartCall}
+use Rattle.rules.specs.Call.{tick_call, restart_call}
 use Rattle.bench_line.specs.Bench.{bench}
 
 worked : bench (page (
@@ -22,12 +22,12 @@ worked : bench (page (
     ∷ "82 00 02 3ff0000000000000 00000003 0000 0000"
     ∷ "82 02 00 0000000000000000 00000000 0000 0000"
     ∷ [])
-unfolding bench page digits tickCall kind_of size column of_bits to_bits
+unfolding bench page digits tick_call kind_of size column of_bits to_bits
 worked = refl
 
 -- a finished tree is restarted: without fuel it stays finished, and with it one call resets and ticks;
 -- a node line behind it is malformed, and nothing behind that is read
-then-stops : bench (page (
+then_stops : bench (page (
     "01 00 0000 3ff0000000000000"
     ∷ "02 01 3ff0000000000000 00000010 0000"
     ∷ "03 00 0000000000000000 00000000 0000"
@@ -45,23 +45,23 @@ then-stops : bench (page (
     ∷ "82 00 02 0000000000000000 00000001 0000 0000"
     ∷ "8f 0007"
     ∷ [])
-unfolding bench page digits tickCall restartCall kind_of size column of_bits to_bits
-then-stops = refl
+unfolding bench page digits tick_call restart_call kind_of size column of_bits to_bits
+then_stops = refl
 
 -- a dt on event 00; another event; a restart without fields; a line without LF
-time-of-other : bench (page ("02 00 3ff0000000000000 00000010 0000" ∷ "03" ∷ [])) ≡ page ("8f 0001" ∷ [])
+time_of_other : bench (page ("02 00 3ff0000000000000 00000010 0000" ∷ "03" ∷ [])) ≡ page ("8f 0001" ∷ [])
 unfolding bench page digits
-time-of-other = refl
+time_of_other = refl
 
-another-event : bench (page ("03 02 0000000000000000 00000010 0000" ∷ "03" ∷ [])) ≡ page ("8f 0001" ∷ [])
+another_event : bench (page ("03 02 0000000000000000 00000010 0000" ∷ "03" ∷ [])) ≡ page ("8f 0001" ∷ [])
 unfolding bench page digits
-another-event = refl
+another_event = refl
 
-bare-restart : bench (page ("01 00 0000 3ff0000000000000" ∷ "03" ∷ [])) ≡ page ("8f 0002" ∷ [])
+bare_restart : bench (page ("01 00 0000 3ff0000000000000" ∷ "03" ∷ [])) ≡ page ("8f 0002" ∷ [])
 unfolding bench page digits
-bare-restart = refl
+bare_restart = refl
 
 no_end : bench (page ("03 00 0000000000000000 00000010 0000" ∷ []) ++ bytes "03 00 0000000000000000 00000010 0000")
     ≡ page ("83 03 00 0000000000000000 00000000 0000 0000" ∷ "8f 0002" ∷ [])
-unfolding bench page bytes digits restartCall to_bits
+unfolding bench page bytes digits restart_call to_bits
 no_end = refl

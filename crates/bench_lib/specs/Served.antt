@@ -3,7 +3,7 @@ use Rattle.std.specs.Prelude.{◌≡◌, Bool, true, false, List, [], ◌∷◌,
 use Rattle.std.proofs.Math.Seq.{slice}
 use Rattle.rules.specs.Call.{Run}
 use Rattle.bench_lib.specs.declared.Progress.{Progress}
-use Rattle.bench_line.specs.Bench.{Rows, State, freshRun, start, cut, from}
+use Rattle.bench_line.specs.Bench.{Rows, State, fresh_run, start, cut, from}
 use Rattle.bench_line.specs.Held.{state_of}
 
 -- bytes among which no line ends
@@ -37,7 +37,7 @@ pub record Serves (last : Bool) (s : State) (u out : List ℕ) (s' : State) (u' 
 
 -- nothing has come yet
 pub record Starts (p : Progress) : Type 0 where
-  pub state : (t : Rows) → state_of p.held t freshRun ≡ start
+  pub state : (t : Rows) → state_of p.held t fresh_run ≡ start
   pub none : p.held.nodes ≡ 0
   pub empty : (p.start ≡ 0) × (p.end ≡ 0)
   pub more : p.last ≡ false

@@ -10,7 +10,7 @@ use Rattle.rules.specs.declared.answer.Record.{Record}
 use Rattle.rules.specs.Call.{Run, Left}
 use Rattle.bench_line.specs.declared.step.Held.{Held}
 use Rattle.bench_line.specs.declared.step.Done.{Done}
-use Rattle.bench_line.specs.Bench.{Line, Rows, rows, State, step, withNode, withTree, stopped, lineNumber, printed}
+use Rattle.bench_line.specs.Bench.{Line, Rows, rows, State, step, with_node, with_tree, stopped, line_number, printed}
 
 -- the table is the first nodes of its runs
 abbrev pub state_of : Held → Rows → Run → State
@@ -31,18 +31,18 @@ pub record Long (n : ℕ) (t : Rows) : Type 0 where
 
 -- room for 1,024 answers, and for what a line prints
 pub record Rooms (statuses patterns : List ℕ) (leftovers : List Float) (room : List ℕ) : Type 0 where
-  pub statuses-long : 1024 ≤ length statuses
-  pub patterns-long : 1024 ≤ length patterns
-  pub leftovers-long : 1024 ≤ length leftovers
-  pub room-long : 45 ≤ length room
+  pub statuses_long : 1024 ≤ length statuses
+  pub patterns_long : 1024 ≤ length patterns
+  pub leftovers_long : 1024 ≤ length leftovers
+  pub room_long : 45 ≤ length room
 
-abbrev pub restartsOf : Call → Bool
-restartsOf Tick = false
-restartsOf Restart = true
+abbrev pub restarts_of : Call → Bool
+restarts_of Tick = false
+restarts_of Restart = true
 
 -- what a call leaves of the tree, and its answer
 pub record Leaves (left : Left) (answer : Answer) (after : Record) (cells : Run) : Type 0 where
-  pub answer-is : left.answer ≡ answer
+  pub answer_is : left.answer ≡ answer
   pub record_is : left.record' ≡ after
   pub cells_are : left.cells' ≡ cells
 
@@ -53,20 +53,20 @@ pub record Prints (l : Line) (room : List ℕ) (n : ℕ) (room' : List ℕ) : Ty
 
 -- one row more, and nothing printed
 pub record Keeps (h : Held) (t : Rows) (kind n limit : ℕ) (r : Done) (t' : Rows) : Type 0 where
-  pub state : (c : Run) → state_of r.held t' c ≡ withNode (state_of h t c) kind n limit
+  pub state : (c : Run) → state_of r.held t' c ≡ with_node (state_of h t c) kind n limit
   pub count : r.printed ≡ 0
   pub few : r.held.nodes ≤ 257
 
 -- the tree as a call left it, and a frame printed
 pub record Tells (h : Held) (after : Record) (f : Frame) (room : List ℕ) (r : Done) (room' : List ℕ) : Type 0 where
-  pub state : (t : Rows) (c c' : Run) → state_of r.held t c' ≡ withTree (state_of h t c) after c'
+  pub state : (t : Rows) (c c' : Run) → state_of r.held t c' ≡ with_tree (state_of h t c) after c'
   pub prints : Prints (printed f) room r.printed room'
   pub few : r.held.nodes ≡ h.nodes
 
 -- a malformed line
 pub record Stops (h : Held) (room : List ℕ) (r : Done) (room' : List ℕ) : Type 0 where
   pub state : (t : Rows) (c : Run) → state_of r.held t c ≡ stopped (state_of h t c)
-  pub prints : Prints (printed (Malformed (lineNumber h.lines))) room r.printed room'
+  pub prints : Prints (printed (Malformed (line_number h.lines))) room r.printed room'
   pub few : r.held.nodes ≡ h.nodes
 
 -- the state after a line, and what it prints

@@ -1,9 +1,9 @@
 // One line: what it asks for is done, and what it prints is put into a room.
 ghost use Rattle.std.specs.Prelude.{◌≡◌, ◌<◌, ◌≤◌, length, take};
-ghost use Rattle.frames.specs.Line.{answersOf};
+ghost use Rattle.frames.specs.Line.{answers_of};
 ghost use Rattle.rules.specs.Call.{run};
-ghost use Rattle.bench_line.specs.Bench.{rows, eventOf, lineNumber, printed, served};
-ghost use Rattle.bench_line.specs.Held.{state_of, restartsOf, Long, Rooms, Prints, Keeps, Tells, Stops, Leaves, Steps};
+ghost use Rattle.bench_line.specs.Bench.{rows, event_of, line_number, printed, served};
+ghost use Rattle.bench_line.specs.Held.{state_of, restarts_of, Long, Rooms, Prints, Keeps, Tells, Stops, Leaves, Steps};
 
 use crate::said::said;
 use frames::{Call, Event, Frame, Input, Written};
@@ -32,14 +32,14 @@ pub struct Done {
 
 // The number of the line that has come.
 fn number(lines: u16) -> u16
-    ensures { result ≡ lineNumber lines }
+    ensures { result ≡ line_number lines }
 {
     std::num::wrapping_add_u16(lines, 1)
 }
 
 // Puts a frame without answers at the start of a room.
 fn put(frame: Frame, room: &mut [u8]) -> usize
-    requires frame_value { answersOf frame ≡ 0 }
+    requires frame_value { answers_of frame ≡ 0 }
     requires in_bounds { 45 ≤ length room.old }
     ensures { Prints (printed frame) room.old result room.new }
 {
@@ -53,7 +53,7 @@ fn put(frame: Frame, room: &mut [u8]) -> usize
 }
 
 fn event_of(event: Event) -> rules::Event
-    ensures { result ≡ eventOf event }
+    ensures { result ≡ event_of event }
 {
     match event {
         Event::Other(_) => rules::Event::Other,
@@ -96,7 +96,7 @@ fn keep(
 
 // A tick or a restart left this record, and this frame to print.
 fn tell(held: Held, record: Record, frame: Frame, room: &mut [u8]) -> Done
-    requires frame_value { answersOf frame ≡ 0 }
+    requires frame_value { answers_of frame ≡ 0 }
     requires in_bounds { 45 ≤ length room.old }
     ensures { Tells held «record» frame room.old result room.new }
 {
@@ -132,7 +132,7 @@ fn stop(held: Held, room: &mut [u8]) -> Done
 }
 
 fn restarts(call: Call) -> bool
-    ensures { result ≡ restartsOf call }
+    ensures { result ≡ restarts_of call }
 {
     match call {
         Call::Tick => false,

@@ -11,62 +11,62 @@ use lib.Ieee.{Float, Format}
 use lib.ListN.{get_or}
 use Rattle.rules.specs.declared.answer.BoundAnswer.{BoundAnswer}
 use Rattle.rules.specs.declared.answer.BoundAnswer.TheVariants as says
-use Rattle.rules.specs.Table.{mostDeep, bad, tableWithin}
-use Rattle.rules.specs.Bound.{cap, num, wholeTime, boundable, bound, told, boundCall}
-use Rattle.tables.proofs.Placed.{at-end}
+use Rattle.rules.specs.Table.{most_deep, bad, table_within}
+use Rattle.rules.specs.Bound.{cap, num, whole_time, boundable, bound, told, bound_call}
+use Rattle.tables.proofs.Placed.{at_end}
 use Rattle.tables.proofs.Good.{Good}
 use Rattle.limits.specs.declared.ticks.Ticks.{Ticks}
 use Rattle.limits.specs.Ticks.{lim, clipped}
-use Rattle.limits.proofs.Laws.{clip-told}
-use Rattle.limits.proofs.WholeTimes.{cap-most}
+use Rattle.limits.proofs.Laws.{clip_told}
+use Rattle.limits.proofs.WholeTimes.{cap_most}
 use Rattle.bound.specs.Ready.{Step, Room, Ready}
 
 -- ---- the step
-pub step-allowed : (F : Format) (d : ℕ) → (d ≡ 0 → ⊥) → d ≤ cap F → Step d
-step-allowed F d z h = record { some = lt_of_not-le (λ g. z (omega arith)); most = omega (arith, cap-most F) }
+pub step_allowed_lem : (F : Format) (d : ℕ) → (d ≡ 0 → ⊥) → d ≤ cap F → Step d
+step_allowed_lem F d z h = record { some = lt_of_not-le (λ g. z (omega arith)); most = omega (arith, cap_most F) }
 
 -- ---- a table that was found good
-module _ (kinds ns : List ℕ) (limits : List Float) (ends : List ℕ) (count : ℕ) (g : Good mostDeep kinds ns limits ends count) where
+module _ (kinds ns : List ℕ) (limits : List Float) (ends : List ℕ) (count : ℕ) (g : Good most_deep kinds ns limits ends count) where
   pub ends_at : get_or ends 0 0 ≡ count
-  ends_at = omega (arith, at-end kinds ns limits g.tree ends 0 g.stands, g.sized)
+  ends_at = omega (arith, at_end kinds ns limits g.tree ends 0 g.stands, g.sized)
 
   pub room : Room kinds ns limits count
-  room = record { in-kinds = g.in-kinds; in-ns = g.in-ns; in-limits = g.in-limits; in-ends = g.few }
+  room = record { in_kinds = g.in_kinds; in_ns = g.in_ns; in_limits = g.in_limits; in_ends = g.few }
 
   module _ (F : Format) where
-    pub good-ready : boundable F g.tree ≡ true → Ready F kinds ns limits ends 0
-    good-ready b = record { tree = g.tree; stands = record { held = g.stands; whole = b }; room = rw ends_at room }
+    pub good_ready : boundable F g.tree ≡ true → Ready F kinds ns limits ends 0
+    good_ready b = record { tree = g.tree; stands = record { held = g.stands; whole = b }; room = rw ends_at room }
 
     module _ (x : Float) where
-      good-call :
-          boundCall F kinds ns limits x ≡
-          cond (wholeTime F x && leb 1 (num x) && boundable F g.tree) (told (bound (num x) g.tree)) says.NoBound
-      unfolding boundCall
-      good-call = rw (boundCall, g.is)
+      good_call :
+          bound_call F kinds ns limits x ≡
+          cond (whole_time F x && leb 1 (num x) && boundable F g.tree) (told (bound (num x) g.tree)) says.NoBound
+      unfolding bound_call
+      good_call = rw (bound_call, g.is)
 
-      pub step-not-whole : wholeTime F x ≡ false → says.NoBound ≡ boundCall F kinds ns limits x
-      step-not-whole e = rw (good-call, e)
+      pub step_not_whole : whole_time F x ≡ false → says.NoBound ≡ bound_call F kinds ns limits x
+      step_not_whole e = rw (good_call, e)
 
-      module _ (d : ℕ) (w : wholeTime F x ≡ true) (n : d ≡ num x) where
-        pub step-zero : d ≡ 0 → says.NoBound ≡ boundCall F kinds ns limits x
-        step-zero z = rw (good-call, w, ← n, z)
+      module _ (d : ℕ) (w : whole_time F x ≡ true) (n : d ≡ num x) where
+        pub step_zero : d ≡ 0 → says.NoBound ≡ bound_call F kinds ns limits x
+        step_zero z = rw (good_call, w, ← n, z)
 
         module _ (z : d ≡ 0 → ⊥) where
           above_zero : leb 1 d ≡ true
           above_zero = le-leb 1 d (lt_of_not-le (λ h. z (omega arith)))
 
-          pub not-bounded : boundable F g.tree ≡ false → says.NoBound ≡ boundCall F kinds ns limits x
-          not-bounded b = rw (good-call, w, ← n, above_zero, b)
+          pub not_bounded : boundable F g.tree ≡ false → says.NoBound ≡ bound_call F kinds ns limits x
+          not_bounded b = rw (good_call, w, ← n, above_zero, b)
 
-          pub bounded-told :
+          pub bounded_told :
               boundable F g.tree ≡ true →
               (r : Ticks) (a : BoundAnswer) → r ≡ clipped (bound d g.tree) → a ≡ told (lim r) →
-              a ≡ boundCall F kinds ns limits x
-          bounded-told b r a p q = q ∙ rw (good-call, w, ← n, above_zero, b, p) (clip-told (bound d g.tree))
+              a ≡ bound_call F kinds ns limits x
+          bounded_told b r a p q = q ∙ rw (good_call, w, ← n, above_zero, b, p) (clip_told (bound d g.tree))
 
 -- ---- a table that was found bad
-pub bad-told : (F : Format) (kinds ns : List ℕ) (limits : List Float) (place : ℕ)
-    → tableWithin mostDeep kinds ns limits ≡ bad place
-    → (x : Float) → says.BadTable place ≡ boundCall F kinds ns limits x
-unfolding boundCall
-bad-told F kinds ns limits place e x = rw (boundCall, e)
+pub bad_told : (F : Format) (kinds ns : List ℕ) (limits : List Float) (place : ℕ)
+    → table_within most_deep kinds ns limits ≡ bad place
+    → (x : Float) → says.BadTable place ≡ bound_call F kinds ns limits x
+unfolding bound_call
+bad_told F kinds ns limits place e x = rw (bound_call, e)

@@ -1,6 +1,6 @@
 -- A tree has a bound or none exactly where each of its rows allows it.
 use mathlib.Core.Path.{◌≡◌, refl, sym, ap, ◌∙◌}
-use mathlib.Core.Bool.{Bool, true, false, and-false}
+use mathlib.Core.Bool.{Bool, true, false, and_false}
 use mathlib.Core.List.{List}
 use mathlib.Core.Logic.{◌⊎◌, inl, inr, ⊎_elim}
 use Prim.Native.Nat.{ℕ, suc, ◌≤◌, ◌<◌}
@@ -12,13 +12,13 @@ use lib.Ieee.{Float, Format, nan}
 use lib.ListN.{get_or, length}
 use Rattle.rules.specs.declared.behavior.Kind.{Kind}
 use Rattle.rules.specs.Kinds.{kind_of, children}
-use Rattle.rules.specs.Tree.{zeroTime, Tree, node, Forest, [], ◌∷◌, count}
+use Rattle.rules.specs.Tree.{zero_time, Tree, node, Forest, [], ◌∷◌, count}
 use Rattle.rules.specs.Table.{cleaned}
 use Rattle.rules.specs.Bound.{boundable, boundables}
 use Rattle.tables.specs.At.{Row, At, Ats}
-use Rattle.tables.proofs.Rows.{any-default}
-use Rattle.limits.specs.Node.{rowBounded}
-use Rattle.bound.proofs.Laws.{ends-after, ends-from}
+use Rattle.tables.proofs.Rows.{any_default}
+use Rattle.limits.specs.Node.{row_bounded}
+use Rattle.bound.proofs.Laws.{ends_after, ends_from_lem}
 
 either : (a b : ℕ) → (a < b) ⊎ (b ≤ a)
 either a b = go (ltb a b) refl
@@ -30,49 +30,49 @@ either a b = go (ltb a b) refl
 module _ (F : Format) (kinds ns : List ℕ) (limits : List Float) where
   -- the row at a place
   abbrev pub row_at : ℕ → Bool
-  row_at i = rowBounded F (kind_of (get_or kinds i 0)) (children (kind_of (get_or kinds i 0)) (get_or ns i 0)) (cleaned (get_or limits i nan))
+  row_at i = row_bounded F (kind_of (get_or kinds i 0)) (children (kind_of (get_or kinds i 0)) (get_or ns i 0)) (cleaned (get_or limits i nan))
 
-  row_is : (q : ℕ) (k : Kind) (n : ℕ) (l : Float) (many : ℕ) → q < length limits → Row kinds ns limits q k n l many → row_at q ≡ rowBounded F k many l
-  row_is q k n l many h r = rw (any-default limits q nan zeroTime h, r.kind, r.number, r.limit, r.kids)
+  row_is : (q : ℕ) (k : Kind) (n : ℕ) (l : Float) (many : ℕ) → q < length limits → Row kinds ns limits q k n l many → row_at q ≡ row_bounded F k many l
+  row_is q k n l many h r = rw (any_default limits q nan zero_time h, r.kind, r.number, r.limit, r.kids)
 
   module _ (ends : List ℕ) (top : ℕ) (fits : top ≤ length limits) where
     mutual
       unfolding boundable
 
-      pub all-rows :
+      pub all_rows :
           (q : ℕ) (t : Tree) → At kinds ns limits ends q t → get_or ends q 0 ≤ top →
           ((i : ℕ) → q ≤ i → i < get_or ends q 0 → row_at i ≡ true) → boundable F t ≡ true
-      all-rows q (node k n l c b ts) h u f =
-          let below = ends-after F kinds ns limits ends q (node k n l c b ts) h in
-          let here : rowBounded F k (count ts) l ≡ true = sym (row_is q k n l (count ts) (omega arith) h.0) ∙ f q (le_refl q) below in
-          rw (here, all-rows-of (suc q) ts (get_or ends q 0) h.1 u (λ i a b. f i (omega arith) b))
+      all_rows q (node k n l c b ts) h u f =
+          let below = ends_after F kinds ns limits ends q (node k n l c b ts) h in
+          let here : row_bounded F k (count ts) l ≡ true = sym (row_is q k n l (count ts) (omega arith) h.0) ∙ f q (le_refl q) below in
+          rw (here, all_rows_of (suc q) ts (get_or ends q 0) h.1 u (λ i a b. f i (omega arith) b))
 
-      pub all-rows-of :
+      pub all_rows_of :
           (q : ℕ) (ts : Forest) (stop : ℕ) → Ats kinds ns limits ends q ts stop → stop ≤ top →
           ((i : ℕ) → q ≤ i → i < stop → row_at i ≡ true) → boundables F ts ≡ true
-      all-rows-of q [] stop h u f = refl
-      all-rows-of q (t ∷ ts) stop h u f =
-          let on = ends-from F kinds ns limits ends (get_or ends q 0) ts stop h.1 in
-          let up = ends-after F kinds ns limits ends q t h.0 in
-          let first = all-rows q t h.0 (omega arith) (λ i a b. f i a (omega arith)) in
-          rw (first, all-rows-of (get_or ends q 0) ts stop h.1 u (λ i a b. f i (omega arith) b))
+      all_rows_of q [] stop h u f = refl
+      all_rows_of q (t ∷ ts) stop h u f =
+          let on = ends_from_lem F kinds ns limits ends (get_or ends q 0) ts stop h.1 in
+          let up = ends_after F kinds ns limits ends q t h.0 in
+          let first = all_rows q t h.0 (omega arith) (λ i a b. f i a (omega arith)) in
+          rw (first, all_rows_of (get_or ends q 0) ts stop h.1 u (λ i a b. f i (omega arith) b))
 
     mutual
       unfolding boundable
 
-      pub a-row :
+      pub a_row :
           (q : ℕ) (t : Tree) → At kinds ns limits ends q t → get_or ends q 0 ≤ top →
           (i : ℕ) → q ≤ i → i < get_or ends q 0 → row_at i ≡ false → boundable F t ≡ false
-      a-row q (node k n l c b ts) h u i from to e = ⊎_elim
+      a_row q (node k n l c b ts) h u i from to e = ⊎_elim
           (λ (s : q ≡ i). rw (sym (row_is q k n l (count ts) (omega arith) h.0) ∙ ap row_at s ∙ e))
-          (λ (s : q < i). rw (a-row-of (suc q) ts (get_or ends q 0) h.1 u i s to e) (and-false (rowBounded F k (count ts) l)))
+          (λ (s : q < i). rw (a_row_of (suc q) ts (get_or ends q 0) h.1 u i s to e) (and_false (row_bounded F k (count ts) l)))
           (eq-or-lt_of_le from)
 
-      pub a-row-of :
+      pub a_row_of :
           (q : ℕ) (ts : Forest) (stop : ℕ) → Ats kinds ns limits ends q ts stop → stop ≤ top →
           (i : ℕ) → q ≤ i → i < stop → row_at i ≡ false → boundables F ts ≡ false
-      a-row-of q [] stop h u i from to e = absurd (omega arith)
-      a-row-of q (t ∷ ts) stop h u i from to e = ⊎_elim
-          (λ (s : i < get_or ends q 0). rw (a-row q t h.0 (le_trans (ends-from F kinds ns limits ends (get_or ends q 0) ts stop h.1) u) i from s e))
-          (λ (s : get_or ends q 0 ≤ i). rw (a-row-of (get_or ends q 0) ts stop h.1 u i s to e) (and-false (boundable F t)))
+      a_row_of q [] stop h u i from to e = absurd (omega arith)
+      a_row_of q (t ∷ ts) stop h u i from to e = ⊎_elim
+          (λ (s : i < get_or ends q 0). rw (a_row q t h.0 (le_trans (ends_from_lem F kinds ns limits ends (get_or ends q 0) ts stop h.1) u) i from s e))
+          (λ (s : get_or ends q 0 ≤ i). rw (a_row_of (get_or ends q 0) ts stop h.1 u i s to e) (and_false (boundable F t)))
           (either i (get_or ends q 0))

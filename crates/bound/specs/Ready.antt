@@ -12,10 +12,10 @@ pub record Step (d : ℕ) : Type 0 where
 
 -- what stands before a place is in the lent slices
 pub record Room (kinds ns : List ℕ) (limits : List Float) (stop : ℕ) : Type 0 where
-  pub in-kinds : stop ≤ length kinds
-  pub in-ns : stop ≤ length ns
-  pub in-limits : stop ≤ length limits
-  pub in-ends : stop ≤ 256
+  pub in_kinds : stop ≤ length kinds
+  pub in_ns : stop ≤ length ns
+  pub in_limits : stop ≤ length limits
+  pub in_ends : stop ≤ 256
 
 module _ (F : Format) (kinds ns : List ℕ) (limits : List Float) (ends : List ℕ) where
   -- the tree begins at q

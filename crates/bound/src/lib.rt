@@ -2,7 +2,7 @@
 ghost use Rattle.std.specs.Prelude.{◌≡◌, List, ℕ, get_or};
 ghost use Rattle.std.specs.Float.{binary64};
 ghost use Rattle.rules.specs.Tree.{Tree, Forest};
-ghost use Rattle.rules.specs.Bound.{bound, boundable, boundCall};
+ghost use Rattle.rules.specs.Bound.{bound, boundable, bound_call};
 ghost use Rattle.limits.specs.Ticks.{clipped};
 ghost use Rattle.limits.specs.Node.{joined};
 ghost use Rattle.tables.specs.At.{At};
@@ -87,7 +87,7 @@ fn all_bounded(kinds: &[u8], ns: &[u16], limits: &[f64], count: usize) -> bool
 
 // The finish bound of a table for a step, or why there is none to tell.
 pub fn finish_bound(kinds: &[u8], ns: &[u16], limits: &[f64], step: f64) -> BoundAnswer
-    ensures { result ≡ boundCall binary64 kinds.now ns.now limits.now step }
+    ensures { result ≡ bound_call binary64 kinds.now ns.now limits.now step }
 {
     let mut ends = [0u16; 256];
     match check_table(kinds, ns, limits, &mut ends, MOST_DEEP) {

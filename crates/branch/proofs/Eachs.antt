@@ -9,26 +9,26 @@ use Rattle.rules.specs.declared.behavior.Kind.{Kind}
 use Rattle.rules.specs.Tree.{Cell, Tree, node, Forest, [], ◌∷◌, size, sizes}
 use Rattle.branch.specs.Each.{Each, EachAll}
 
-pub size-pos : (t : Tree) → 0 < size t
+pub size_pos : (t : Tree) → 0 < size t
 unfolding size
-size-pos (node k n l c b ts) = omega arith
+size_pos (node k n l c b ts) = omega arith
 
 module _ (ends : List ℕ) (P : ℕ → Kind → ℕ → Float → Cell → Type 0) where
   mutual
     unfolding size
 
-    pub each-end : (t : Tree) (q : ℕ) → Each ends P q t → get_or ends q 0 ≡ q + size t
-    each-end (node k n l c b ts) q h = omega (arith, eachs-end ts (suc q) (get_or ends q 0) h.1)
+    pub each_end : (t : Tree) (q : ℕ) → Each ends P q t → get_or ends q 0 ≡ q + size t
+    each_end (node k n l c b ts) q h = omega (arith, eachs_end ts (suc q) (get_or ends q 0) h.1)
 
-    pub eachs-end : (ts : Forest) (q stop : ℕ) → EachAll ends P q ts stop → stop ≡ q + sizes ts
-    eachs-end [] q stop h = omega (arith, h)
-    eachs-end (t ∷ ts) q stop h = omega (arith, each-end t q h.0, eachs-end ts (get_or ends q 0) stop h.1)
+    pub eachs_end : (ts : Forest) (q stop : ℕ) → EachAll ends P q ts stop → stop ≡ q + sizes ts
+    eachs_end [] q stop h = omega (arith, h)
+    eachs_end (t ∷ ts) q stop h = omega (arith, each_end t q h.0, eachs_end ts (get_or ends q 0) stop h.1)
 
   module _ (Q : ℕ → Kind → ℕ → Float → Cell → Type 0) (to : (q : ℕ) (k : Kind) (n : ℕ) (l : Float) (c : Cell) → P q k n l c → Q q k n l c) where
     mutual
       pub each_map : (t : Tree) (q : ℕ) → Each ends P q t → Each ends Q q t
-      each_map (node k n l c b ts) q h = (to q k n l c h.0, eachs-map ts (suc q) (get_or ends q 0) h.1)
+      each_map (node k n l c b ts) q h = (to q k n l c h.0, eachs_map ts (suc q) (get_or ends q 0) h.1)
 
-      pub eachs-map : (ts : Forest) (q stop : ℕ) → EachAll ends P q ts stop → EachAll ends Q q ts stop
-      eachs-map [] q stop h = h
-      eachs-map (t ∷ ts) q stop h = (each_map t q h.0, eachs-map ts (get_or ends q 0) stop h.1)
+      pub eachs_map : (ts : Forest) (q stop : ℕ) → EachAll ends P q ts stop → EachAll ends Q q ts stop
+      eachs_map [] q stop h = h
+      eachs_map (t ∷ ts) q stop h = (each_map t q h.0, eachs_map ts (get_or ends q 0) stop h.1)

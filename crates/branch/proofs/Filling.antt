@@ -9,36 +9,36 @@ use lib.ListN.{length, get_or, set, drop, length-set}
 use lib.Seq.{drop-cons, set_at}
 use Rattle.branch.specs.declared.write.Cut.{Cut}
 use Rattle.branch.specs.declared.write.Source.{Source}
-use Rattle.branch.specs.Write.{values, sourceOf, from}
-use Rattle.branch.proofs.Values.{values_length, values-add}
+use Rattle.branch.specs.Write.{values, source_of, from}
+use Rattle.branch.proofs.Values.{values_length, values_add}
 
 pub record Filling {A : Type 0} (f : ℕ → A) (start : List A) (n i : ℕ) (l : List A) : Type 0 where
   pub within : i ≤ n
   pub is : l ≡ values f 0 i ++ drop i start
   pub long : length l ≡ length start
 
-pub filling-start : {A : Type 0} {f : ℕ → A} {start : List A} {n : ℕ} → Filling f start n 0 start
-filling-start = record { within = omega arith; is = refl; long = refl }
+pub filling_start : {A : Type 0} {f : ℕ → A} {start : List A} {n : ℕ} → Filling f start n 0 start
+filling_start = record { within = omega arith; is = refl; long = refl }
 
 set_next : {A : Type 0} (f : ℕ → A) (start : List A) (i : ℕ) (v : A) → i < length start → v ≡ f i → set (values f 0 i ++ drop i start) i v ≡ values f 0 (i + 1) ++ drop (i + 1) start
 set_next {A} f start i v h e =
     let last : List A = f i ∷ [] in
     rw (drop-cons start i v h)
     (set_at (values f 0 i) (get_or start i v) (drop (suc i) start) v i (values_length f i 0)
-    ∙ rw (values-add f i 0 1, zero-add i, e, add-one, append_assoc (values f 0 i) last (drop (suc i) start)))
+    ∙ rw (values_add f i 0 1, zero-add i, e, add-one, append_assoc (values f 0 i) last (drop (suc i) start)))
 
-pub filling-more : {A : Type 0} {f : ℕ → A} {start : List A} {n i : ℕ} {l : List A} {v : A} → n ≤ length start → Filling f start n i l → i < n → v ≡ f i → Filling f start n (i + 1) (set l i v)
-filling-more {f = f} {start = start} {i = i} {l = l} {v = v} long c h e = record {
+pub filling_more : {A : Type 0} {f : ℕ → A} {start : List A} {n i : ℕ} {l : List A} {v : A} → n ≤ length start → Filling f start n i l → i < n → v ≡ f i → Filling f start n (i + 1) (set l i v)
+filling_more {f = f} {start = start} {i = i} {l = l} {v = v} long c h e = record {
   within = omega arith;
   is = rw c.is (set_next f start i v (omega arith) e);
   long = simp length-set c.long;
 }
 
 -- a node of the result, from where it stands
-pub filling-node : {A : Type 0} (cut : Cut) (old new : ℕ → A) {start : List A} {n i : ℕ} {l : List A} → n ≤ length start
-    → Filling (λ i. from old new (sourceOf cut i)) start n i l → i < n → {s : Source} → s ≡ sourceOf cut i → {v : A} → v ≡ from old new s
-    → Filling (λ i. from old new (sourceOf cut i)) start n (i + 1) (set l i v)
-filling-node cut old new {i = i} long c h e e' = filling-more long c h (e' ∙ ap (from old new) e)
+pub filling_node : {A : Type 0} (cut : Cut) (old new : ℕ → A) {start : List A} {n i : ℕ} {l : List A} → n ≤ length start
+    → Filling (λ i. from old new (source_of cut i)) start n i l → i < n → {s : Source} → s ≡ source_of cut i → {v : A} → v ≡ from old new s
+    → Filling (λ i. from old new (source_of cut i)) start n (i + 1) (set l i v)
+filling_node cut old new {i = i} long c h e e' = filling_more long c h (e' ∙ ap (from old new) e)
 
-pub filling-end : {A : Type 0} {f : ℕ → A} {start : List A} {n i : ℕ} {l : List A} → Filling f start n i l → n ≤ i → l ≡ values f 0 n ++ drop n start
-filling-end {n = n} {i = i} c h = let e : n ≡ i = omega (arith, c.within) in rw e c.is
+pub filling_end : {A : Type 0} {f : ℕ → A} {start : List A} {n i : ℕ} {l : List A} → Filling f start n i l → n ≤ i → l ≡ values f 0 n ++ drop n start
+filling_end {n = n} {i = i} c h = let e : n ≡ i = omega (arith, c.within) in rw e c.is

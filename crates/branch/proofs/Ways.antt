@@ -12,21 +12,21 @@ use lib.ListN.{get_or}
 use Rattle.rules.specs.declared.behavior.Kind.{Kind}
 use Rattle.rules.specs.Kinds.{kind_of}
 use Rattle.rules.specs.Tree.{Cell, Tree, node, Forest, [], ◌∷◌, size, marked}
-use Rattle.rules.specs.Exchange.{spot, free, freeIn}
+use Rattle.rules.specs.Exchange.{spot, free, free_in}
 use Rattle.branch.specs.Each.{Each, EachAll}
-use Rattle.branch.specs.Way.{above, aboveIn, wayAt, Node, Stands}
+use Rattle.branch.specs.Way.{above, above_in, way_at, Node, Stands}
 use Rattle.branch.specs.declared.way.Way.TheVariants.{Held}
-use Rattle.branch.proofs.Eachs.{size-pos, each-end, eachs-end}
+use Rattle.branch.proofs.Eachs.{size_pos, each_end, eachs_end}
 
 -- what is known of the numbers on the way
 pub record Numbers (at up levels child i : ℕ) : Type 0 where
   pub low : child ≤ at
   pub over : up < child
   pub number : i < child
-  pub levels-low : levels ≤ child
+  pub levels_low : levels ≤ child
 
 -- the root lies in no spot
-pub root : (t : Tree) → Held ≡ wayAt (free false t 0) (above t 0)
+pub root : (t : Tree) → Held ≡ way_at (free false t 0) (above t 0)
 unfolding free above
 root (node k n l c b ts) = refl
 
@@ -45,9 +45,9 @@ module _ (kinds ns ends places marks : List ℕ) where
     high : at < stop
     over : up < child
     number : i < child
-    levels-low : levels ≤ child
-    leads : freeIn in_spot (kind_of (get_or kinds up 0)) (get_or ns up 0) (get_or places up 0) i kids (at - child) ≡ free false t at
-    deep : levels + aboveIn kids (at - child) ≡ above t at
+    levels_low : levels ≤ child
+    leads : free_in in_spot (kind_of (get_or kinds up 0)) (get_or ns up 0) (get_or places up 0) i kids (at - child) ≡ free false t at
+    deep : levels + above_in kids (at - child) ≡ above t at
 
   pub record Going (t : Tree) (at up levels child i : ℕ) (in_spot : Bool) : Type 0 where
     kids : Forest
@@ -56,13 +56,13 @@ module _ (kinds ns ends places marks : List ℕ) where
 
   module _ {t : Tree} {at up levels child i : ℕ} {in_spot : Bool} (g : Going t at up levels child i in_spot) where
     pub numbers : Numbers at up levels child i
-    numbers = let a = g.among in record { low = a.low; over = a.over; number = a.number; levels-low = a.levels-low }
+    numbers = let a = g.among in record { low = a.low; over = a.over; number = a.number; levels_low = a.levels_low }
 
   -- ---- from the root
-  start-at : (t : Tree) (p : ℕ) → Stands kinds ns ends places marks t → suc p < size t → Going t (suc p) 0 1 1 0 false
+  start_at : (t : Tree) (p : ℕ) → Stands kinds ns ends places marks t → suc p < size t → Going t (suc p) 0 1 1 0 false
   unfolding size free above
-  start-at (node k n l c b ts) p h m =
-      let e = eachs-end ends Here ts 1 (get_or ends 0 0) h.1 in
+  start_at (node k n l c b ts) p h m =
+      let e = eachs_end ends Here ts 1 (get_or ends 0 0) h.1 in
       let z : suc p - 1 ≡ p = omega arith in
       record {
         kids = ts;
@@ -73,7 +73,7 @@ module _ (kinds ns ends places marks : List ℕ) where
           high = omega arith;
           over = omega arith;
           number = omega arith;
-          levels-low = omega arith;
+          levels_low = omega arith;
           leads = rw (h.0.kind, h.0.number, h.0.place, z);
           deep = rw z (omega arith);
         };
@@ -81,16 +81,16 @@ module _ (kinds ns ends places marks : List ℕ) where
 
   pub start : (t : Tree) (at : ℕ) → Stands kinds ns ends places marks t → at < size t → (at ≡ 0 → ⊥) → Going t at 0 1 1 0 false
   start t zero h m n = absurd (n refl)
-  start t (suc p) h m n = start-at t p h m
+  start t (suc p) h m n = start_at t p h m
 
   -- ---- past a child
   module _ (t : Tree) (at up levels child i : ℕ) (in_spot : Bool) where
-    passes-by : (us : Forest) (stop : ℕ) → Among t at up levels child i in_spot us stop → get_or ends child 0 ≤ at → Going t at up levels (get_or ends child 0) (i + 1) in_spot
+    passes_by : (us : Forest) (stop : ℕ) → Among t at up levels child i in_spot us stop → get_or ends child 0 ≤ at → Going t at up levels (get_or ends child 0) (i + 1) in_spot
     unfolding free above
-    passes-by [] stop a past = absurd (omega (arith, a.stands))
-    passes-by (u ∷ us) stop a past =
-        let e = each-end ends Here u child a.stands.0 in
-        let pos = size-pos u in
+    passes_by [] stop a past = absurd (omega (arith, a.stands))
+    passes_by (u ∷ us) stop a past =
+        let e = each_end ends Here u child a.stands.0 in
+        let pos = size_pos u in
         let z : at - child - size u ≡ at - get_or ends child 0 = omega arith in
         let f = le-ltb (at - child) (size u) (omega arith) in
         record {
@@ -102,15 +102,15 @@ module _ (kinds ns ends places marks : List ℕ) where
             high = a.high;
             over = omega arith;
             number = omega arith;
-            levels-low = omega arith;
+            levels_low = omega arith;
             leads = rw add-one (rw (f, z) at a.leads);
             deep = rw (f, z) at a.deep;
           };
         }
 
-    later-by : (us : Forest) (stop : ℕ) → Among t at up levels child i in_spot us stop → child < get_or ends child 0
-    later-by [] stop a = absurd (omega (arith, a.stands, a.low, a.high))
-    later-by (u ∷ us) stop a = omega (arith, each-end ends Here u child a.stands.0, size-pos u)
+    later_by : (us : Forest) (stop : ℕ) → Among t at up levels child i in_spot us stop → child < get_or ends child 0
+    later_by [] stop a = absurd (omega (arith, a.stands, a.low, a.high))
+    later_by (u ∷ us) stop a = omega (arith, each_end ends Here u child a.stands.0, size_pos u)
 
     -- ---- into a child, the tree u
     record Entered : Type 0 where
@@ -120,31 +120,31 @@ module _ (kinds ns ends places marks : List ℕ) where
       leads : not (marked u) && free (inside in_spot up i) u (at - child) ≡ free false t at
       deep : levels + above u (at - child) ≡ above t at
 
-    enters-by : (us : Forest) (stop : ℕ) → Among t at up levels child i in_spot us stop → at < get_or ends child 0 → Entered
+    enters_by : (us : Forest) (stop : ℕ) → Among t at up levels child i in_spot us stop → at < get_or ends child 0 → Entered
     unfolding free above
-    enters-by [] stop a before = absurd (omega (arith, a.stands))
-    enters-by (u ∷ us) stop a before =
-        let e = each-end ends Here u child a.stands.0 in
+    enters_by [] stop a before = absurd (omega (arith, a.stands))
+    enters_by (u ∷ us) stop a before =
+        let e = each_end ends Here u child a.stands.0 in
         let f = lt-ltb (at - child) (size u) (omega arith) in
         record { u = u; stands = a.stands.0; fits = omega arith; leads = rw f at a.leads; deep = rw f at a.deep }
 
     marked_by : (u : Tree) → Each ends Here child u → marked u ≡ eqb (get_or marks child 0) 1
     marked_by (node k n l c b ts) h = rw h.0.mark
 
-    found-by : (u : Tree) → free (inside in_spot up i) u 0 ≡ inside in_spot up i
+    found_by : (u : Tree) → free (inside in_spot up i) u 0 ≡ inside in_spot up i
     unfolding free
-    found-by (node k n l c b ts) = refl
+    found_by (node k n l c b ts) = refl
 
     none_above : (u : Tree) → above u 0 ≡ 0
     unfolding above
     none_above (node k n l c b ts) = refl
 
-    deeper-by : (u : Tree) (p : ℕ) → Each ends Here child u → at - child ≡ suc p → suc p < size u → (s : Bool) →
+    deeper_by : (u : Tree) (p : ℕ) → Each ends Here child u → at - child ≡ suc p → suc p < size u → (s : Bool) →
         free s u (suc p) ≡ free false t at → levels + above u (suc p) ≡ above t at → child ≤ at → levels ≤ child →
         Going t at child (levels + 1) (child + 1) 0 s
     unfolding size free above
-    deeper-by (node k n l c b ts) p h z m s leads deep low ups =
-        let e = eachs-end ends Here ts (suc child) (get_or ends child 0) h.1 in
+    deeper_by (node k n l c b ts) p h z m s leads deep low ups =
+        let e = eachs_end ends Here ts (suc child) (get_or ends child 0) h.1 in
         let z' : at - (child + 1) ≡ p = omega arith in
         record {
           kids = ts;
@@ -155,7 +155,7 @@ module _ (kinds ns ends places marks : List ℕ) where
             high = omega arith;
             over = omega arith;
             number = omega arith;
-            levels-low = omega arith;
+            levels_low = omega arith;
             leads = rw (h.0.kind, h.0.number, h.0.place, z') leads;
             deep = rw z' (omega arith);
           };
@@ -163,16 +163,16 @@ module _ (kinds ns ends places marks : List ℕ) where
 
   module _ {t : Tree} {at up levels child i : ℕ} {in_spot : Bool} (g : Going t at up levels child i in_spot) where
     pub later : child < get_or ends child 0
-    later = later-by t at up levels child i in_spot g.kids g.stop g.among
+    later = later_by t at up levels child i in_spot g.kids g.stop g.among
 
     pub passes : get_or ends child 0 ≤ at → Going t at up levels (get_or ends child 0) (i + 1) in_spot
-    passes h = passes-by t at up levels child i in_spot g.kids g.stop g.among h
+    passes h = passes_by t at up levels child i in_spot g.kids g.stop g.among h
 
     module _ (before : at < get_or ends child 0) where
       into : Entered t at up levels child i in_spot
-      into = enters-by t at up levels child i in_spot g.kids g.stop g.among before
+      into = enters_by t at up levels child i in_spot g.kids g.stop g.among before
 
-      pub ended : get_or marks child 0 ≡ 1 → Held ≡ wayAt (free false t at) (above t at)
+      pub ended : get_or marks child 0 ≡ 1 → Held ≡ way_at (free false t at) (above t at)
       ended m =
           let e = into in
           let held : marked e.u ≡ true = marked_by t at up levels child i in_spot e.u e.stands ∙ eq-eqb (get_or marks child 0) 1 m in
@@ -186,14 +186,14 @@ module _ (kinds ns ends places marks : List ℕ) where
             let held : marked e.u ≡ false = marked_by t at up levels child i in_spot e.u e.stands ∙ ne_eqb (get_or marks child 0) 1 live in
             rw held at e.leads
 
-        pub found : {s : Bool} → s ≡ inside in_spot up i → child ≡ at → wayAt s levels ≡ wayAt (free false t at) (above t at)
+        pub found : {s : Bool} → s ≡ inside in_spot up i → child ≡ at → way_at s levels ≡ way_at (free false t at) (above t at)
         found e z =
             let u = into.u in
             let none : at - child ≡ 0 = omega arith in
-            let free-is : inside in_spot up i ≡ free false t at = sym (found-by t at up levels child i in_spot u) ∙ (rw none at goes_on) in
+            let free-is : inside in_spot up i ≡ free false t at = sym (found_by t at up levels child i in_spot u) ∙ (rw none at goes_on) in
             let at-root = rw none at into.deep in
-            let levels-are : levels ≡ above t at = omega (arith, at-root, none_above t at up levels child i in_spot u) in
-            rw (e, free-is, levels-are)
+            let levels_are : levels ≡ above t at = omega (arith, at-root, none_above t at up levels child i in_spot u) in
+            rw (e, free-is, levels_are)
 
         pub deeper : {s : Bool} → s ≡ inside in_spot up i → (child ≡ at → ⊥) → Going t at child (levels + 1) (child + 1) 0 s
         deeper {s} e z =
@@ -202,5 +202,5 @@ module _ (kinds ns ends places marks : List ℕ) where
             let more : at - child ≡ suc (at - child - 1) = omega arith in
             let fits = rw more at into.fits in
             let free-is = rw more at goes_on in
-            let levels-are = rw more at into.deep in
-            deeper-by t at up levels child i in_spot into.u (at - child - 1) into.stands more fits s (rw e free-is) levels-are low a.levels-low
+            let levels_are = rw more at into.deep in
+            deeper_by t at up levels child i in_spot into.u (at - child - 1) into.stands more fits s (rw e free-is) levels_are low a.levels_low

@@ -14,14 +14,14 @@ unfoldable mutual
 
   pub above : Tree → ℕ → ℕ
   above (node k n l c b ts) zero = 0
-  above (node k n l c b ts) (suc p) = suc (aboveIn ts p)
+  above (node k n l c b ts) (suc p) = suc (above_in ts p)
 
-  pub aboveIn : Forest → ℕ → ℕ
-  aboveIn [] p = 0
-  aboveIn (t ∷ ts) p = cond (ltb p (size t)) (above t p) (aboveIn ts (p - size t))
+  pub above_in : Forest → ℕ → ℕ
+  above_in [] p = 0
+  above_in (t ∷ ts) p = cond (ltb p (size t)) (above t p) (above_in ts (p - size t))
 
-abbrev pub wayAt : Bool → ℕ → Way
-wayAt free n = cond free (Free n) Held
+abbrev pub way_at : Bool → ℕ → Way
+way_at free n = cond free (Free n) Held
 
 module _ (kinds ns ends places marks : List ℕ) where
   -- what is read of a node on the way
@@ -40,11 +40,11 @@ module _ (kinds ns ends places marks : List ℕ) where
     pub stands : Stands tree
     pub inside : at < size tree
     pub few : size tree ≤ 256
-    pub in-kinds : size tree ≤ length kinds
-    pub in-ns : size tree ≤ length ns
-    pub in-places : size tree ≤ length places
-    pub in-marks : size tree ≤ length marks
+    pub in_kinds : size tree ≤ length kinds
+    pub in_ns : size tree ≤ length ns
+    pub in_places : size tree ≤ length places
+    pub in_marks : size tree ≤ length marks
 
   -- whatever tree stands in the slices, this is the way to its node at a place
   abbrev pub Leads : ℕ → Way → Type 0
-  Leads at r = (t : Tree) → Stands t → at < size t → r ≡ wayAt (free false t at) (above t at)
+  Leads at r = (t : Tree) → Stands t → at < size t → r ≡ way_at (free false t at) (above t at)

@@ -1,6 +1,6 @@
 -- What is written: each node of the result as it stands in the tree or in the branch.
 use Rattle.std.specs.Prelude.{cond, ◌≡◌, List, [], ◌∷◌, ◌++◌, ℕ, zero, suc, ◌+◌, ◌-◌, ◌≤◌, ltb, Float, length, get_or, drop}
-use Rattle.rules.specs.Tree.{zeroTime}
+use Rattle.rules.specs.Tree.{zero_time}
 use Rattle.rules.specs.Table.{cleaned}
 use Rattle.rules.specs.Exchange.{Room, room, GivenExchange}
 use Rattle.branch.specs.declared.write.Cut.{Cut}
@@ -13,8 +13,8 @@ values f q zero = []
 values f q (suc n) = f q ∷ values f (suc q) n
 
 -- where a node of the result comes from
-abbrev pub sourceOf : Cut → ℕ → Source
-sourceOf cut i =
+abbrev pub source_of : Cut → ℕ → Source
+source_of cut i =
     cond (ltb i cut.at) (Old i) (cond (ltb (i - cut.at) cut.added) (New (i - cut.at)) (Old (cut.stop + (i - cut.at - cut.added))))
 
 -- what the tree has there, or the branch
@@ -25,8 +25,8 @@ from old new (New j) = new j
 abbrev pub at : {A : Type 0} → A → List A → ℕ → A
 at d l j = get_or l j d
 
-abbrev pub limitAt : List Float → ℕ → Float
-limitAt l j = cleaned (get_or l j zeroTime)
+abbrev pub limit_at : List Float → ℕ → Float
+limit_at l j = cleaned (get_or l j zero_time)
 
 abbrev pub always : {A : Type 0} → A → ℕ → A
 always x j = x
@@ -42,13 +42,13 @@ InOld old (New j) = Unit {0}
 
 -- a column of the result over a slice of the room
 abbrev pub filled : {A : Type 0} → Cut → (ℕ → A) → (ℕ → A) → List A → List A
-filled cut old new to = values (λ i. from old new (sourceOf cut i)) 0 cut.nodes ++ drop cut.nodes to
+filled cut old new to = values (λ i. from old new (source_of cut i)) 0 cut.nodes ++ drop cut.nodes to
 
-unfoldable pub filledRoom : Cut → GivenExchange → Room
-filledRoom cut g =
+unfoldable pub filled_room : Cut → GivenExchange → Room
+filled_room cut g =
     let to = g.room' in
-    room (filled cut (at 0 g.kinds) (at 0 g.newKinds) to.kinds) (filled cut (at 0 g.ns) (at 0 g.newNs) to.ns)
-    (filled cut (limitAt g.limits) (limitAt g.newLimits) to.limits) (filled cut (at zeroTime g.cells'.times) (always zeroTime) to.times)
+    room (filled cut (at 0 g.kinds) (at 0 g.new_kinds) to.kinds) (filled cut (at 0 g.ns) (at 0 g.new_ns) to.ns)
+    (filled cut (limit_at g.limits) (limit_at g.new_limits) to.limits) (filled cut (at zero_time g.cells'.times) (always zero_time) to.times)
     (filled cut (at 0 g.cells'.places) (always 0) to.places) (filled cut (at 0 g.cells'.marks) (always 0) to.marks)
     (filled cut (at 0 g.cells'.sinces) (always g.record'.ticks) to.sinces)
 
@@ -60,20 +60,20 @@ pub record Fits (cut : Cut) (g : GivenExchange) : Type 0 where
   pub begins : cut.at ≤ cut.stop
   pub ends : cut.stop ≤ n
   pub all : cut.nodes + cut.stop ≡ n + cut.at + cut.added
-  pub in-kinds : n ≤ length g.kinds
-  pub in-ns : n ≤ length g.ns
-  pub in-limits : n ≤ length g.limits
-  pub in-times : n ≤ length g.cells'.times
-  pub in-places : n ≤ length g.cells'.places
-  pub in-marks : n ≤ length g.cells'.marks
-  pub in-sinces : n ≤ length g.cells'.sinces
-  pub new-kinds : cut.added ≤ length g.newKinds
-  pub new-ns : cut.added ≤ length g.newNs
-  pub new-limits : cut.added ≤ length g.newLimits
-  pub to-kinds : cut.nodes ≤ length g.room'.kinds
-  pub to-ns : cut.nodes ≤ length g.room'.ns
-  pub to-limits : cut.nodes ≤ length g.room'.limits
-  pub to-times : cut.nodes ≤ length g.room'.times
-  pub to-places : cut.nodes ≤ length g.room'.places
-  pub to-marks : cut.nodes ≤ length g.room'.marks
-  pub to-sinces : cut.nodes ≤ length g.room'.sinces
+  pub in_kinds : n ≤ length g.kinds
+  pub in_ns : n ≤ length g.ns
+  pub in_limits : n ≤ length g.limits
+  pub in_times : n ≤ length g.cells'.times
+  pub in_places : n ≤ length g.cells'.places
+  pub in_marks : n ≤ length g.cells'.marks
+  pub in_sinces : n ≤ length g.cells'.sinces
+  pub new_kinds : cut.added ≤ length g.new_kinds
+  pub new_ns : cut.added ≤ length g.new_ns
+  pub new_limits : cut.added ≤ length g.new_limits
+  pub to_kinds : cut.nodes ≤ length g.room'.kinds
+  pub to_ns : cut.nodes ≤ length g.room'.ns
+  pub to_limits : cut.nodes ≤ length g.room'.limits
+  pub to_times : cut.nodes ≤ length g.room'.times
+  pub to_places : cut.nodes ≤ length g.room'.places
+  pub to_marks : cut.nodes ≤ length g.room'.marks
+  pub to_sinces : cut.nodes ≤ length g.room'.sinces

@@ -1,7 +1,7 @@
 // The way from the root down to a node, and whether it passes a spot where no state is held.
 ghost use Rattle.std.specs.Prelude.{◌≡◌, not, ◌&&◌, ◌||◌, ◌-◌, min, max, eqb, ltb};
 ghost use Rattle.rules.specs.Exchange.{spot};
-ghost use Rattle.branch.specs.Way.{Lies, Leads, wayAt};
+ghost use Rattle.branch.specs.Way.{Lies, Leads, way_at};
 
 use rules::Kind;
 use tables::wide;
@@ -65,7 +65,7 @@ fn in_spot(spot: bool, kind: Kind, n: u16, place: u16, i: usize) -> bool
 }
 
 fn answer(free: bool, above: usize) -> Way
-    ensures { result ≡ wayAt free above }
+    ensures { result ≡ way_at free above }
 {
     if free { Way::Free(above) } else { Way::Held }
 }

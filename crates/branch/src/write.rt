@@ -1,10 +1,10 @@
 // Writing the tree with the branch replaced: one pass over the nodes of the result.
 ghost use Rattle.std.specs.Prelude.{◌≡◌, ◌<◌, ◌≤◌, length};
-ghost use Rattle.rules.specs.Tree.{zeroTime};
+ghost use Rattle.rules.specs.Tree.{zero_time};
 ghost use Rattle.rules.specs.Table.{cleaned};
 ghost use Rattle.rules.specs.Call.{run};
-ghost use Rattle.rules.specs.Exchange.{room, givenExchange};
-ghost use Rattle.branch.specs.Write.{sourceOf, from, at, limitAt, always, InBoth, InOld, Fits, filledRoom};
+ghost use Rattle.rules.specs.Exchange.{room, given_exchange};
+ghost use Rattle.branch.specs.Write.{source_of, from, at, limit_at, always, InBoth, InOld, Fits, filled_room};
 
 use rules::{Record, cleaned};
 
@@ -26,7 +26,7 @@ enum Source {
 
 fn source_of(cut: Cut, i: usize) -> Source
     requires { (cut.stop ≤ 256) × (i ≤ 256) }
-    ensures { result ≡ sourceOf cut i }
+    ensures { result ≡ source_of cut i }
 {
     if i < cut.at {
         return Source::Old(i);
@@ -60,7 +60,7 @@ fn number_from(old: &[u16], new: &[u16], place: Source) -> u16
 
 fn limit_from(old: &[f64], new: &[f64], place: Source) -> f64
     requires { InBoth old.now new.now place }
-    ensures { result ≡ from (limitAt old.now) (limitAt new.now) place }
+    ensures { result ≡ from (limit_at old.now) (limit_at new.now) place }
 {
     match place {
         Source::Old(j) => cleaned(old[j]),
@@ -70,7 +70,7 @@ fn limit_from(old: &[f64], new: &[f64], place: Source) -> f64
 
 fn time_from(old: &[f64], place: Source) -> f64
     requires { InOld old.now place }
-    ensures { result ≡ from (at zeroTime old.now) (always zeroTime) place }
+    ensures { result ≡ from (at zero_time old.now) (always zero_time) place }
 {
     match place {
         Source::Old(j) => old[j],
@@ -130,12 +130,12 @@ pub fn write(
     room_marks: &mut [u8],
     room_sinces: &mut [u64],
 )
-    requires { Fits cut (givenExchange «record» kinds.now ns.now limits.now (run times.now places.now marks.now sinces.now) cut.at
+    requires { Fits cut (given_exchange «record» kinds.now ns.now limits.now (run times.now places.now marks.now sinces.now) cut.at
         new_kinds.now new_ns.now new_limits.now
         (room room_kinds.old room_ns.old room_limits.old room_times.old room_places.old room_marks.old room_sinces.old)) }
     ensures { room room_kinds.new room_ns.new room_limits.new room_times.new room_places.new
         room_marks.new room_sinces.new
-        ≡ filledRoom cut (givenExchange «record» kinds.now ns.now limits.now
+        ≡ filled_room cut (given_exchange «record» kinds.now ns.now limits.now
         (run times.now places.now marks.now sinces.now) cut.at
         new_kinds.now new_ns.now new_limits.now
         (room room_kinds.old room_ns.old room_limits.old room_times.old room_places.old

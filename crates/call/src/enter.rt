@@ -6,7 +6,7 @@ ghost use Rattle.rules.specs.Levels.{levels, cleared};
 ghost use Rattle.work.specs.Flat.{out, lent, tick};
 ghost use Rattle.refine.specs.Words.{bit};
 ghost use Rattle.refusals.specs.Enter.{updates};
-ghost use Rattle.refusals.specs.Due.{entriesOf};
+ghost use Rattle.refusals.specs.Due.{entries_of};
 
 use engine::tick_flat;
 use rules::Event;
@@ -40,7 +40,7 @@ pub fn enter(
     flat: bool,
 ) -> Result
     requires n_in_bounds { n ≤ length times.old }
-    requires bound { 16 ≤ entriesOf flat (levels opens.old counts.old wholes.old rests.old) }
+    requires bound { 16 ≤ entries_of flat (levels opens.old counts.old wholes.old rests.old) }
     ensures times_value { tick binary64 (lent limits.now statuses.now leftovers.now) 16 0 (dt event)
         (set (set work.old 256 fuel) 259 (bit (updates event))) (take n times.old)
         ≡ out result.seen result.left work.new (take n times.new) }

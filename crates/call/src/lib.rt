@@ -4,8 +4,8 @@ mod enter;
 
 ghost use Rattle.std.specs.Prelude.{◌≡◌, cond, ◌≤◌};
 ghost use Rattle.rules.specs.Call.{run, given, left};
-ghost use Rattle.rules.specs.Levels.{levels, cleared, flatLeft};
-ghost use Rattle.refusals.specs.Due.{call_of, wholeCall, entriesOf, Due};
+ghost use Rattle.rules.specs.Levels.{levels, cleared, flat_left};
+ghost use Rattle.refusals.specs.Due.{call_of, whole_call, entries_of, Due};
 
 use cells::{clear_times, copy_cells};
 use enter::enter;
@@ -43,7 +43,7 @@ fn carry_out(
 ) -> Called
     requires due { Due fresh (given «record» kinds.now ns.now limits.now (run times.old places.old marks.old sinces.old)
         (run spare_times.old spare_places.old spare_marks.old spare_sinces.old) board.old event fuel statuses.now leftovers.now) work.old n }
-    requires bound { 16 ≤ entriesOf flat (levels opens.old counts.old wholes.old rests.old) }
+    requires bound { 16 ≤ entries_of flat (levels opens.old counts.old wholes.old rests.old) }
     ensures leftovers_value { call_of fresh (given «record» kinds.now ns.now limits.now (run times.old places.old marks.old sinces.old)
         (run spare_times.old spare_places.old spare_marks.old spare_sinces.old) board.old event fuel statuses.now
         leftovers.now) ≡ left result.answer result.record (run times.new places.new marks.new sinces.new) (run spare_times.new
@@ -114,10 +114,10 @@ pub fn value(
     flat: bool,
     fresh: bool,
 ) -> Called
-    ensures { wholeCall flat fresh (given «record» kinds.now ns.now limits.now (run times.old places.old marks.old sinces.old)
+    ensures { whole_call flat fresh (given «record» kinds.now ns.now limits.now (run times.old places.old marks.old sinces.old)
         (run spare_times.old spare_places.old spare_marks.old spare_sinces.old) board.old event fuel statuses.now
         leftovers.now) (levels opens.old counts.old wholes.old rests.old)
-        ≡ flatLeft (left result.answer result.record (run times.new places.new marks.new sinces.new) (run spare_times.new
+        ≡ flat_left (left result.answer result.record (run times.new places.new marks.new sinces.new) (run spare_times.new
         spare_places.new spare_marks.new spare_sinces.new) board.new)
         (levels opens.new counts.new wholes.new rests.new) }
 {

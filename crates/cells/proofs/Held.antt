@@ -9,20 +9,20 @@ use lib.ListN.{length, get_or, drop}
 use Rattle.rules.specs.declared.behavior.Kind.{Kind}
 use Rattle.rules.specs.Kinds.{kind_of}
 use Rattle.rules.specs.Tree.{Cell, Tree, node, Forest, [], ◌∷◌, size, depth, depths}
-use Rattle.rules.specs.Cells.{cell_of, cells, withCells, withCellsAll}
+use Rattle.rules.specs.Cells.{cell_of, cells, with_cells, with_cells_all}
 use Rattle.tables.specs.At.{At, Ats}
-use Rattle.tables.proofs.Placed.{ats-end}
+use Rattle.tables.proofs.Placed.{ats_end}
 
 -- ---- the cells
 abbrev pub cell_at : List Float → List ℕ → List ℕ → ℕ → Cell
 cell_at times places marks i = cell_of (get_or times i nan) (get_or places i 0) (get_or marks i 0)
 
-pub length-cells : (xs : List Float) (ps ms : List ℕ) → length (cells xs ps ms) ≡ min (length xs) (min (length ps) (length ms))
+pub length_cells : (xs : List Float) (ps ms : List ℕ) → length (cells xs ps ms) ≡ min (length xs) (min (length ps) (length ms))
 unfolding cells
-length-cells List.[] ps ms = omega arith
-length-cells (List.◌∷◌ x xs) List.[] ms = omega arith
-length-cells (List.◌∷◌ x xs) (List.◌∷◌ p ps) List.[] = omega arith
-length-cells (List.◌∷◌ x xs) (List.◌∷◌ p ps) (List.◌∷◌ m ms) = omega (arith, length-cells xs ps ms)
+length_cells List.[] ps ms = omega arith
+length_cells (List.◌∷◌ x xs) List.[] ms = omega arith
+length_cells (List.◌∷◌ x xs) (List.◌∷◌ p ps) List.[] = omega arith
+length_cells (List.◌∷◌ x xs) (List.◌∷◌ p ps) (List.◌∷◌ m ms) = omega (arith, length_cells xs ps ms)
 
 pub drop_cells :
     (xs : List Float) (ps ms : List ℕ) (i : ℕ) → i < length (cells xs ps ms) →
@@ -50,13 +50,13 @@ module _ (kinds ns ends : List ℕ) (times : List Float) (places marks : List �
     Helds (t ∷ ts) d q stop = Held t d q × Helds ts d (get_or ends q 0) stop
 
   mutual
-    pub held-lt : (t : Tree) (d q : ℕ) → Held t d q → q < get_or ends q 0
-    held-lt (node k n l c b ts) zero q h = absurd h
-    held-lt (node k n l c b ts) (suc d) q h = helds-le ts d (suc q) (get_or ends q 0) h.1
+    pub held_lt : (t : Tree) (d q : ℕ) → Held t d q → q < get_or ends q 0
+    held_lt (node k n l c b ts) zero q h = absurd h
+    held_lt (node k n l c b ts) (suc d) q h = helds_le ts d (suc q) (get_or ends q 0) h.1
 
-    pub helds-le : (ts : Forest) (d q stop : ℕ) → Helds ts d q stop → q ≤ stop
-    helds-le [] d q stop h = omega arith
-    helds-le (t ∷ ts) d q stop h = omega (arith, held-lt t d q h.0, helds-le ts d (get_or ends q 0) stop h.1)
+    pub helds_le : (ts : Forest) (d q stop : ℕ) → Helds ts d q stop → q ≤ stop
+    helds_le [] d q stop h = omega arith
+    helds_le (t ∷ ts) d q stop h = omega (arith, held_lt t d q h.0, helds_le ts d (get_or ends q 0) stop h.1)
 
   -- a tree that stands in the table, with the cells of the run
   abbrev run : List Cell
@@ -64,24 +64,24 @@ module _ (kinds ns ends : List ℕ) (times : List Float) (places marks : List �
 
   module _ (limits : List Float) where
     mutual
-      unfolding withCells depth size
+      unfolding with_cells depth size
 
       pub holds :
           (t : Tree) (d q : ℕ) → depth t ≤ d → At kinds ns limits ends q t → get_or ends q 0 ≤ length run →
-          Held (withCells t (drop q run)).0 d q × ((withCells t (drop q run)).1 ≡ drop (get_or ends q 0) run)
+          Held (with_cells t (drop q run)).0 d q × ((with_cells t (drop q run)).1 ≡ drop (get_or ends q 0) run)
       holds (node k n l c b ts) zero q deep h long = absurd (omega arith)
       holds (node k n l c b ts) (suc d) q deep h long =
-          let z = ats-end kinds ns limits ts ends (suc q) (get_or ends q 0) h.1 in
-          let r = holds-all ts d (suc q) (get_or ends q 0) (omega arith) h.1 long in
+          let z = ats_end kinds ns limits ts ends (suc q) (get_or ends q 0) h.1 in
+          let r = holds_all ts d (suc q) (get_or ends q 0) (omega arith) h.1 long in
           rw (drop_cells times places marks q (omega arith)) ((record { kind = h.0.kind; number = h.0.number; held = refl }, r.0), r.1)
 
-      pub holds-all :
+      pub holds_all :
           (ts : Forest) (d q stop : ℕ) → depths ts ≤ d → Ats kinds ns limits ends q ts stop → stop ≤ length run →
-          Helds (withCellsAll ts (drop q run)).0 d q stop × ((withCellsAll ts (drop q run)).1 ≡ drop stop run)
-      holds-all [] d q stop deep h long = (h, ap (λ (x : ℕ). drop x run) h)
-      holds-all (t ∷ ts) d q stop deep h long =
-          let z = ats-end kinds ns limits ts ends (get_or ends q 0) stop h.1 in
+          Helds (with_cells_all ts (drop q run)).0 d q stop × ((with_cells_all ts (drop q run)).1 ≡ drop stop run)
+      holds_all [] d q stop deep h long = (h, ap (λ (x : ℕ). drop x run) h)
+      holds_all (t ∷ ts) d q stop deep h long =
+          let z = ats_end kinds ns limits ts ends (get_or ends q 0) stop h.1 in
           let r = holds t d q (omega arith) h.0 (omega arith) in
-          let rest = holds-all ts d (get_or ends q 0) stop (omega arith) h.1 long in
-          let rs = subst (λ (x : List Cell). Helds (withCellsAll ts x).0 d (get_or ends q 0) stop × ((withCellsAll ts x).1 ≡ drop stop run)) (sym r.1) rest in
+          let rest = holds_all ts d (get_or ends q 0) stop (omega arith) h.1 long in
+          let rs = subst (λ (x : List Cell). Helds (with_cells_all ts x).0 d (get_or ends q 0) stop × ((with_cells_all ts x).1 ≡ drop stop run)) (sym r.1) rest in
           ((r.0, rs.0), rs.1)

@@ -12,25 +12,25 @@ use lib.Ieee.{Float}
 use lib.ListN.{length, get_or, set}
 use lib.Seq.{get_or-set_same, get_or-set_other}
 use Rattle.rules.specs.declared.behavior.Kind.{Kind}
-use Rattle.rules.specs.Kinds.{kind_of, marksChildren}
+use Rattle.rules.specs.Kinds.{kind_of, marks_children}
 use Rattle.rules.specs.Tree.{Cell, Tree, node, Forest, [], ◌∷◌}
-use Rattle.rules.specs.Table.{zeroBits}
-use Rattle.rules.specs.Cells.{cellAllowed, endedIn, Found, faulty, none, badCell, badCells}
+use Rattle.rules.specs.Table.{zero_bits}
+use Rattle.rules.specs.Cells.{cell_allowed, ended_in, Found, faulty, none, bad_cell, bad_cells}
 use Rattle.tables.proofs.Placed.{Alike}
 use Rattle.cells.specs.declared.check.Found.TheVariants.{Faulty, Fine}
-use Rattle.cells.specs.Check.{said, stillOpen}
-use Rattle.cells.proofs.Still.{one, top-stays, top-drops}
-use Rattle.cells.proofs.Held.{cell_at, Node, Held, Helds, held-lt, helds-le}
+use Rattle.cells.specs.Check.{said, still_open}
+use Rattle.cells.proofs.Still.{one, top_stays, top_drops}
+use Rattle.cells.proofs.Held.{cell_at, Node, Held, Helds, held_lt, helds_le}
 
 -- ---- what follows a part without a bad cell
 after : Found → (ℕ → Found) → Found
 after (faulty p) f = faulty p
 after (none at) f = f at
 
-after-after : (x : Found) (f g : ℕ → Found) → after (after x f) g ≡ after x (λ at. after (f at) g)
+after_after : (x : Found) (f g : ℕ → Found) → after (after x f) g ≡ after x (λ at. after (f at) g)
 unfolding after
-after-after (faulty p) f g = refl
-after-after (none at) f g = refl
+after_after (faulty p) f g = refl
+after_after (none at) f g = refl
 
 -- ended, may-end, the trees, and where they end
 data Frame : Type 0 where
@@ -38,7 +38,7 @@ data Frame : Type 0 where
 
 unfoldable run : List Frame → ℕ → Found
 run List.[] at = none at
-run (List.◌∷◌ (frame e m ts stop) σ) at = after (badCells e m at ts) (run σ)
+run (List.◌∷◌ (frame e m ts stop) σ) at = after (bad_cells e m at ts) (run σ)
 
 split : (x : Found) (f : ℕ → Found) → elim x [ faulty p ↦ faulty p | none at ↦ f at ] ≡ after x f
 unfolding after
@@ -46,45 +46,45 @@ split (faulty p) f = refl
 split (none at) f = refl
 
 run_none : (e m : Bool) (stop : ℕ) (σ : List Frame) (at : ℕ) → run (List.◌∷◌ (frame e m [] stop) σ) at ≡ run σ at
-unfolding run badCell after
+unfolding run bad_cell after
 run_none e m stop σ at = refl
 
-bad-cons :
+bad_cons :
     (e m : Bool) (at : ℕ) (t : Tree) (us : Forest) →
-    badCells e m at (t ∷ us) ≡ after (badCell e m at t) (λ a. badCells e m a us)
-unfolding badCell
-bad-cons e m at t us = split (badCell e m at t) (λ a. badCells e m a us)
+    bad_cells e m at (t ∷ us) ≡ after (bad_cell e m at t) (λ a. bad_cells e m a us)
+unfolding bad_cell
+bad_cons e m at t us = split (bad_cell e m at t) (λ a. bad_cells e m a us)
 
 module _ (e m : Bool) (k : Kind) (n : ℕ) (l : Float) (c : Cell) (b : ℕ) (ts us : Forest) (stop : ℕ) (σ : List Frame) (at : ℕ) where
   inner : Found
-  inner = badCells (e || endedIn c) (marksChildren k) (suc at) ts
+  inner = bad_cells (e || ended_in c) (marks_children k) (suc at) ts
 
-  bad-node : badCell e m at (node k n l c b ts) ≡ cond (cellAllowed e m k n c) inner (faulty at)
-  unfolding badCell inner
-  bad-node = refl
+  bad_node : bad_cell e m at (node k n l c b ts) ≡ cond (cell_allowed e m k n c) inner (faulty at)
+  unfolding bad_cell inner
+  bad_node = refl
 
   abbrev frames : List Frame
   frames = List.◌∷◌ (frame e m (node k n l c b ts ∷ us) stop) σ
 
-  at-node :
-      (x : Bool) → cellAllowed e m k n c ≡ x →
-      run frames at ≡ after (after (cond x inner (faulty at)) (λ a. badCells e m a us)) (run σ)
+  at_node :
+      (x : Bool) → cell_allowed e m k n c ≡ x →
+      run frames at ≡ after (after (cond x inner (faulty at)) (λ a. bad_cells e m a us)) (run σ)
   unfolding run
-  at-node x h =
-      let first = bad-node ∙ ap (λ (z : Bool). cond z inner (faulty at)) h in
-      let all = bad-cons e m at (node k n l c b ts) us ∙ ap (λ (y : Found). after y (λ a. badCells e m a us)) first in
+  at_node x h =
+      let first = bad_node ∙ ap (λ (z : Bool). cond z inner (faulty at)) h in
+      let all = bad_cons e m at (node k n l c b ts) us ∙ ap (λ (y : Found). after y (λ a. bad_cells e m a us)) first in
       ap (λ (y : Found). after y (run σ)) all
 
-  run-bad : cellAllowed e m k n c ≡ false → run frames at ≡ faulty at
+  run_bad : cell_allowed e m k n c ≡ false → run frames at ≡ faulty at
   unfolding after
-  run-bad h = at-node false h
+  run_bad h = at_node false h
 
-  run-good :
-      (stop' : ℕ) → cellAllowed e m k n c ≡ true →
+  run_good :
+      (stop' : ℕ) → cell_allowed e m k n c ≡ true →
       run frames at ≡
-      run (List.◌∷◌ (frame (e || endedIn c) (marksChildren k) ts stop') (List.◌∷◌ (frame e m us stop) σ)) (suc at)
+      run (List.◌∷◌ (frame (e || ended_in c) (marks_children k) ts stop') (List.◌∷◌ (frame e m us stop) σ)) (suc at)
   unfolding run inner
-  run-good stop' h = at-node true h ∙ after-after inner (λ a. badCells e m a us) (run σ)
+  run_good stop' h = at_node true h ∙ after_after inner (λ a. bad_cells e m a us) (run σ)
 
 -- ---- the frames in the code's arrays
 -- all that is left below an ended child ends by `until`; otherwise nothing is left before it
@@ -127,35 +127,35 @@ module _ (kinds ns ends : List ℕ) (times : List Float) (places marks : List �
     here : Node kinds ns ends times places marks at k n' c
     below : Helds kinds ns ends times places marks kids deep (suc at) (get_or ends at 0)
     beside : Helds kinds ns ends times places marks us (suc deep) (get_or ends at 0) stop
-    stops-is : get_or stops (length frames) 0 ≡ stop
-    may-is : get_or may (length frames) false ≡ m
+    stops_is : get_or stops (length frames) 0 ≡ stop
+    may_is : get_or may (length frames) false ≡ m
     flag : Flag e until at stop
     zip : Zip stops may until frames (suc (suc deep)) stop
     runs : run (List.◌∷◌ (frame e m (node k n' l c b kids ∷ us) stop) frames) at ≡ answer
 
-  zip-le : (stops : List ℕ) (may : List Bool) (until : ℕ) (σ : List Frame) (d at : ℕ) → Zip stops may until σ d at → at ≤ n
-  zip-le stops may until List.[] d at z = omega arith
-  zip-le stops may until (List.◌∷◌ (frame e m ts stop) σ) d at (h, (s, (y, (f, z)))) =
-      omega (arith, helds-le kinds ns ends times places marks ts d at stop h, zip-le stops may until σ (suc d) stop z)
+  zip_le : (stops : List ℕ) (may : List Bool) (until : ℕ) (σ : List Frame) (d at : ℕ) → Zip stops may until σ d at → at ≤ n
+  zip_le stops may until List.[] d at z = omega arith
+  zip_le stops may until (List.◌∷◌ (frame e m ts stop) σ) d at (h, (s, (y, (f, z)))) =
+      omega (arith, helds_le kinds ns ends times places marks ts d at stop h, zip_le stops may until σ (suc d) stop z)
 
   -- behind the last cell nothing is left
-  ends-all :
+  ends_all :
       (stops : List ℕ) (may : List Bool) (until : ℕ) (σ : List Frame) (d at : ℕ) →
       Zip stops may until σ d at → n ≤ at → run σ at ≡ none at
   unfolding run
-  ends-all stops may until List.[] d at z h = refl
-  ends-all stops may until (List.◌∷◌ (frame e m [] stop) σ) d at (w, (s, (y, (f, z)))) h =
-      run_none e m stop σ at ∙ ends-all stops may until σ (suc d) at (rw (← w) at z) h
-  ends-all stops may until (List.◌∷◌ (frame e m (t ∷ ts) stop) σ) d at (w, (s, (y, (f, z)))) h =
-      let first = held-lt kinds ns ends times places marks t d at w.0 in
-      let rest = helds-le kinds ns ends times places marks ts d (get_or ends at 0) stop w.1 in
-      absurd (omega (arith, zip-le stops may until σ (suc d) stop z))
+  ends_all stops may until List.[] d at z h = refl
+  ends_all stops may until (List.◌∷◌ (frame e m [] stop) σ) d at (w, (s, (y, (f, z)))) h =
+      run_none e m stop σ at ∙ ends_all stops may until σ (suc d) at (rw (← w) at z) h
+  ends_all stops may until (List.◌∷◌ (frame e m (t ∷ ts) stop) σ) d at (w, (s, (y, (f, z)))) h =
+      let first = held_lt kinds ns ends times places marks t d at w.0 in
+      let rest = helds_le kinds ns ends times places marks ts d (get_or ends at 0) stop w.1 in
+      absurd (omega (arith, zip_le stops may until σ (suc d) stop z))
 
   pub finished :
       (stops : List ℕ) (may : List Bool) (open' until at : ℕ) (answer : Found) →
       Scanned stops may open' until at answer → n ≤ at → Fine ≡ said answer
   finished stops may open' until at answer s h =
-      ap said (sym (ends-all stops may until s.frames s.deep at s.zip h) ∙ s.runs)
+      ap said (sym (ends_all stops may until s.frames s.deep at s.zip h) ∙ s.runs)
 
   root : (x : Found) → after (after x (λ a. none a)) (λ a. none a) ≡ x
   unfolding after
@@ -165,15 +165,15 @@ module _ (kinds ns ends : List ℕ) (times : List Float) (places marks : List �
   pub start :
       (stops : List ℕ) (may : List Bool) (t : Tree) → Held kinds ns ends times places marks t 16 0 →
       get_or ends 0 0 ≡ n → get_or stops 0 0 ≡ n → get_or may 0 false ≡ false →
-      Scanned stops may 1 0 0 (badCell false false 0 t)
-  unfolding run badCell
+      Scanned stops may 1 0 0 (bad_cell false false 0 t)
+  unfolding run bad_cell
   start stops may t h e s y = record {
     deep = 16;
     frames = List.◌∷◌ (frame false false (t ∷ []) n) List.[];
     level = refl;
     levels = refl;
     zip = ((h, e), (s, (y, (omega arith, refl))));
-    runs = ap (λ (x : Found). after x (run List.[])) (bad-cons false false 0 t []) ∙ root (badCell false false 0 t);
+    runs = ap (λ (x : Found). after x (run List.[])) (bad_cons false false 0 t []) ∙ root (bad_cell false false 0 t);
   }
 
   -- ---- the node whose cell is next
@@ -202,8 +202,8 @@ module _ (kinds ns ends : List ℕ) (times : List Float) (places marks : List �
       here = w.0.0;
       below = w.0.1;
       beside = w.1;
-      stops-is = s;
-      may-is = y;
+      stops_is = s;
+      may_is = y;
       flag = f;
       zip = z;
       runs = r;
@@ -214,7 +214,7 @@ module _ (kinds ns ends : List ℕ) (times : List Float) (places marks : List �
 
     ready_at :
         (σ : List Frame) (d : ℕ) → d + length σ ≡ 17 → Zip stops may until σ d at → run σ at ≡ answer → at < n →
-        Ready stops may (stillOpen stops at (length σ)) until at answer
+        Ready stops may (still_open stops at (length σ)) until at answer
     ready_at List.[] d ups z r h = absurd (omega arith)
     ready_at (List.◌∷◌ (frame e m [] stop) List.[]) d ups (w, (s, (y, (f, z)))) r h = absurd (omega arith)
     ready_at (List.◌∷◌ (frame e m (t ∷ us) stop) List.[]) d ups z r h =
@@ -222,83 +222,83 @@ module _ (kinds ns ends : List ℕ) (times : List Float) (places marks : List �
     ready_at (List.◌∷◌ (frame e m [] stop) (List.◌∷◌ g σ)) d ups (w, (s, (y, (f, z)))) r h =
         let zip = subst (λ (x : ℕ). Zip stops may until (List.◌∷◌ g σ) (suc d) x) (sym w) z in
         let runs = sym (run_none e m stop (List.◌∷◌ g σ) at) ∙ r in
-        opened (top-drops stops at (length σ) (omega arith)) (ready_at (List.◌∷◌ g σ) (suc d) (omega arith) zip runs h)
+        opened (top_drops stops at (length σ) (omega arith)) (ready_at (List.◌∷◌ g σ) (suc d) (omega arith) zip runs h)
     ready_at (List.◌∷◌ (frame e m (t ∷ us) stop) (List.◌∷◌ g σ)) d ups (w, (s, (y, (f, z)))) r h =
-        let first = held-lt kinds ns ends times places marks t d at w.0 in
-        let rest = helds-le kinds ns ends times places marks us d (get_or ends at 0) stop w.1 in
-        opened (top-stays stops at (length σ) (omega arith)) (build e m t us stop (List.◌∷◌ g σ) d ups (w, (s, (y, (f, z)))) r)
+        let first = held_lt kinds ns ends times places marks t d at w.0 in
+        let rest = helds_le kinds ns ends times places marks us d (get_or ends at 0) stop w.1 in
+        opened (top_stays stops at (length σ) (omega arith)) (build e m t us stop (List.◌∷◌ g σ) d ups (w, (s, (y, (f, z)))) r)
 
     pub ready :
         (open' : ℕ) → Scanned stops may open' until at answer → at < n →
-        Ready stops may (stillOpen stops at open') until at answer
+        Ready stops may (still_open stops at open') until at answer
     ready open' s h = rw s.level (ready_at s.frames s.deep s.levels s.zip s.runs h)
 
   -- ---- lower frames keep what is known of them
-  zip-keeps :
+  zip_keeps :
       (stops stops' : List ℕ) (may may' : List Bool) (until : ℕ) (σ : List Frame) (d at : ℕ) →
       Zip stops may until σ d at → Alike 0 stops stops' (length σ) → Alike false may may' (length σ) →
       Zip stops' may' until σ d at
-  zip-keeps stops stops' may may' until List.[] d at z ss sm = z
-  zip-keeps stops stops' may may' until (List.◌∷◌ (frame e m ts stop) σ) d at (w, (s, (y, (f, z)))) ss sm =
-      let rest = zip-keeps stops stops' may may' until σ (suc d) stop z (λ i h. ss i (omega arith)) (λ i h. sm i (omega arith)) in
+  zip_keeps stops stops' may may' until List.[] d at z ss sm = z
+  zip_keeps stops stops' may may' until (List.◌∷◌ (frame e m ts stop) σ) d at (w, (s, (y, (f, z)))) ss sm =
+      let rest = zip_keeps stops stops' may may' until σ (suc d) stop z (λ i h. ss i (omega arith)) (λ i h. sm i (omega arith)) in
       (w, (ss (length σ) (omega arith) ∙ s, (sm (length σ) (omega arith) ∙ y, (f, rest))))
 
-  flag-later : (e : Bool) (until until' at stop : ℕ) → until ≤ until' → until' ≤ at → Flag e until at stop → Flag e until' at stop
-  flag-later true until until' at stop a b f = omega arith
-  flag-later false until until' at stop a b f = b
+  flag_later : (e : Bool) (until until' at stop : ℕ) → until ≤ until' → until' ≤ at → Flag e until at stop → Flag e until' at stop
+  flag_later true until until' at stop a b f = omega arith
+  flag_later false until until' at stop a b f = b
 
-  flag-on : (e : Bool) (until at at' stop : ℕ) → at < at' → Flag e until at stop → Flag e until at' stop
-  flag-on true until at at' stop h f = f
-  flag-on false until at at' stop h f = omega arith
+  flag_on : (e : Bool) (until at at' stop : ℕ) → at < at' → Flag e until at stop → Flag e until at' stop
+  flag_on true until at at' stop h f = f
+  flag_on false until at at' stop h f = omega arith
 
-  zip-later :
+  zip_later :
       (stops : List ℕ) (may : List Bool) (until until' : ℕ) (σ : List Frame) (d at : ℕ) →
       until ≤ until' → until' ≤ at → Zip stops may until σ d at → Zip stops may until' σ d at
-  zip-later stops may until until' List.[] d at a b z = z
-  zip-later stops may until until' (List.◌∷◌ (frame e m ts stop) σ) d at a b (w, (s, (y, (f, z)))) =
-      let le = helds-le kinds ns ends times places marks ts d at stop w in
-      let rest = zip-later stops may until until' σ (suc d) stop a (omega arith) z in
-      (w, (s, (y, (flag-later e until until' at stop a b f, rest))))
+  zip_later stops may until until' List.[] d at a b z = z
+  zip_later stops may until until' (List.◌∷◌ (frame e m ts stop) σ) d at a b (w, (s, (y, (f, z)))) =
+      let le = helds_le kinds ns ends times places marks ts d at stop w in
+      let rest = zip_later stops may until until' σ (suc d) stop a (omega arith) z in
+      (w, (s, (y, (flag_later e until until' at stop a b f, rest))))
 
   clash : ◌≡◌ {A = Bool} true false → ⊥
   clash h = let y : ◌≡◌ {A = ℕ} 0 1 = cc in omega arith
 
   -- ---- a mark moves `until`: below the node, beside it and around it
-  flag-below :
+  flag_below :
       (e x : Bool) (until at end stop : ℕ) →
       (e ≡ true → x ≡ false) → at < end → end ≤ stop → Flag e until at stop →
       Flag (e || x) (cond x end until) (suc at) end
-  flag-below true true until at end stop h a b f = absurd (clash (h refl))
-  flag-below true false until at end stop h a b f = omega arith
-  flag-below false true until at end stop h a b f = omega arith
-  flag-below false false until at end stop h a b f = omega arith
+  flag_below true true until at end stop h a b f = absurd (clash (h refl))
+  flag_below true false until at end stop h a b f = omega arith
+  flag_below false true until at end stop h a b f = omega arith
+  flag_below false false until at end stop h a b f = omega arith
 
-  flag-beside :
+  flag_beside :
       (e x : Bool) (until at end stop : ℕ) →
       (e ≡ true → x ≡ false) → at < end → end ≤ stop → Flag e until at stop →
       Flag e (cond x end until) end stop
-  flag-beside true true until at end stop h a b f = absurd (clash (h refl))
-  flag-beside true false until at end stop h a b f = f
-  flag-beside false true until at end stop h a b f = omega arith
-  flag-beside false false until at end stop h a b f = omega arith
+  flag_beside true true until at end stop h a b f = absurd (clash (h refl))
+  flag_beside true false until at end stop h a b f = f
+  flag_beside false true until at end stop h a b f = omega arith
+  flag_beside false false until at end stop h a b f = omega arith
 
-  zip-around :
+  zip_around :
       (stops : List ℕ) (may : List Bool) (σ : List Frame) (d : ℕ) (e x : Bool) (until at end stop : ℕ) →
       (e ≡ true → x ≡ false) → at < end → end ≤ stop → Flag e until at stop → Zip stops may until σ d stop →
       Zip stops may (cond x end until) σ d stop
-  zip-around stops may σ d true true until at end stop h a b f z = absurd (clash (h refl))
-  zip-around stops may σ d false true until at end stop h a b f z = zip-later stops may until end σ d stop (omega arith) b z
-  zip-around stops may σ d true false until at end stop h a b f z = z
-  zip-around stops may σ d false false until at end stop h a b f z = z
+  zip_around stops may σ d true true until at end stop h a b f z = absurd (clash (h refl))
+  zip_around stops may σ d false true until at end stop h a b f z = zip_later stops may until end σ d stop (omega arith) b z
+  zip_around stops may σ d true false until at end stop h a b f z = z
+  zip_around stops may σ d false false until at end stop h a b f z = z
 
   both_true : (p q : Bool) → p && q ≡ true → q ≡ true
   both_true true q h = h
   both_true false q h = absurd (clash (sym h))
 
   -- below an ended child no cell has a mark
-  unmarked : (e m : Bool) (k : Kind) (n' : ℕ) (c : Cell) → cellAllowed e m k n' c ≡ true → e ≡ true → endedIn c ≡ false
-  unfolding cellAllowed
-  unmarked true m k n' c h t = rw (eqb-true c.mark 0 (both_true (zeroBits c.time && eqb c.place 0) (eqb c.mark 0) h))
+  unmarked : (e m : Bool) (k : Kind) (n' : ℕ) (c : Cell) → cell_allowed e m k n' c ≡ true → e ≡ true → ended_in c ≡ false
+  unfolding cell_allowed
+  unmarked true m k n' c h t = rw (eqb-true c.mark 0 (both_true (zero_bits c.time && eqb c.place 0) (eqb c.mark 0) h))
   unmarked false m k n' c h t = absurd (clash (sym t))
 
   -- ---- a turn
@@ -307,13 +307,13 @@ module _ (kinds ns ends : List ℕ) (times : List Float) (places marks : List �
     end = get_or ends at 0
 
     past : at < end
-    past = helds-le kinds ns ends times places marks r.kids r.deep (suc at) end r.below
+    past = helds_le kinds ns ends times places marks r.kids r.deep (suc at) end r.below
 
     inside : end ≤ r.stop
-    inside = helds-le kinds ns ends times places marks r.us (suc r.deep) end r.stop r.beside
+    inside = helds_le kinds ns ends times places marks r.us (suc r.deep) end r.stop r.beside
 
     pub within : end ≤ n
-    within = omega (arith, inside, zip-le stops may until r.frames (suc (suc r.deep)) r.stop r.zip)
+    within = omega (arith, inside, zip_le stops may until r.frames (suc (suc r.deep)) r.stop r.zip)
 
     flag_is : (e : Bool) (stop : ℕ) → at < stop → Flag e until at stop → ltb at until ≡ e
     flag_is true stop h f = lt-ltb at until (omega arith)
@@ -325,35 +325,35 @@ module _ (kinds ns ends : List ℕ) (times : List Float) (places marks : List �
     -- the code's own test is the rules'
     module _
         (k : Kind) (kind : k ≡ kind_of (get_or kinds at 0))
-        (a : Bool) (is : a ≡ cellAllowed (ltb at until) (get_or may (open' - 1) false) k (get_or ns at 0) (cell_at times places marks at)) where
-      k-is : k ≡ r.k
-      k-is = kind ∙ r.here.kind
+        (a : Bool) (is : a ≡ cell_allowed (ltb at until) (get_or may (open' - 1) false) k (get_or ns at 0) (cell_at times places marks at)) where
+      k_is : k ≡ r.k
+      k_is = kind ∙ r.here.kind
 
-      same : a ≡ cellAllowed r.e r.m r.k r.n' r.c
+      same : a ≡ cell_allowed r.e r.m r.k r.n' r.c
       same =
           let f = flag_is r.e r.stop (omega (arith, past, inside)) r.flag in
-          let y : get_or may (open' - 1) false ≡ r.m = rw top r.may-is in
+          let y : get_or may (open' - 1) false ≡ r.m = rw top r.may_is in
           let z = r.here.number in
           let w = r.here.held in
           is ∙ cc
 
       pub refuses : not a ≡ true → Faulty at ≡ said answer
       refuses h =
-          let bad = run-bad r.e r.m r.k r.n' r.l r.c r.b r.kids r.us r.stop r.frames at (sym same ∙ not-true a h) in
+          let bad = run_bad r.e r.m r.k r.n' r.l r.c r.b r.kids r.us r.stop r.frames at (sym same ∙ not-true a h) in
           ap said (sym bad ∙ r.runs)
 
       module _ (taken : not a ≡ false) where
-        ok : cellAllowed r.e r.m r.k r.n' r.c ≡ true
+        ok : cell_allowed r.e r.m r.k r.n' r.c ≡ true
         ok = sym same ∙ not-false a taken
 
         abbrev x : Bool
         x = eqb (get_or marks at 0) 1
 
-        mark-is : endedIn r.c ≡ x
-        mark-is = ap endedIn r.here.held
+        mark_is : ended_in r.c ≡ x
+        mark_is = ap ended_in r.here.held
 
         plain : r.e ≡ true → x ≡ false
-        plain h = sym mark-is ∙ unmarked r.e r.m r.k r.n' r.c ok h
+        plain h = sym mark_is ∙ unmarked r.e r.m r.k r.n' r.c ok h
 
         abbrev until' : ℕ
         until' = cond x end until
@@ -362,43 +362,43 @@ module _ (kinds ns ends : List ℕ) (times : List Float) (places marks : List �
         abbrev rest : List Frame
         rest = List.◌∷◌ (frame r.e r.m r.us r.stop) r.frames
 
-        abbrev within-node : Forest → List Frame
-        within-node ts = List.◌∷◌ (frame (r.e || x) (marksChildren r.k) ts end) rest
+        abbrev within_node : Forest → List Frame
+        within_node ts = List.◌∷◌ (frame (r.e || x) (marks_children r.k) ts end) rest
 
-        goes_on : run (within-node r.kids) (at + 1) ≡ answer
+        goes_on : run (within_node r.kids) (at + 1) ≡ answer
         goes_on =
-            let good = run-good r.e r.m r.k r.n' r.l r.c r.b r.kids r.us r.stop r.frames at end ok in
-            rw (add-one at, ← mark-is) (sym good ∙ r.runs)
+            let good = run_good r.e r.m r.k r.n' r.l r.c r.b r.kids r.us r.stop r.frames at end ok in
+            rw (add-one at, ← mark_is) (sym good ∙ r.runs)
 
         around : Zip stops may until' rest (suc r.deep) end
         around =
-            let flag = flag-beside r.e x until at end r.stop plain past inside r.flag in
-            let zip = zip-around stops may r.frames (suc (suc r.deep)) r.e x until at end r.stop plain past inside r.flag r.zip in
-            (r.beside, (r.stops-is, (r.may-is, (flag, zip))))
+            let flag = flag_beside r.e x until at end r.stop plain past inside r.flag in
+            let zip = zip_around stops may r.frames (suc (suc r.deep)) r.e x until at end r.stop plain past inside r.flag r.zip in
+            (r.beside, (r.stops_is, (r.may_is, (flag, zip))))
 
         -- a node with children opens
         pub opens :
-            (m : Bool) → m ≡ marksChildren k → at + 1 < end → open' < 16 → length stops ≡ 16 → length may ≡ 16 →
+            (m : Bool) → m ≡ marks_children k → at + 1 < end → open' < 16 → length stops ≡ 16 → length may ≡ 16 →
             Scanned (set stops open' end) (set may open' m) (open' + 1) until' (at + 1) answer
         opens m ms h room ls lm =
             let lev = r.level in
-            let m-is : m ≡ marksChildren r.k = ms ∙ ap marksChildren k-is in
+            let m-is : m ≡ marks_children r.k = ms ∙ ap marks_children k_is in
             let stops' = set stops open' end in
             let may' = set may open' m in
             let below = subst (λ (i : ℕ). Helds kinds ns ends times places marks r.kids r.deep i end) (sym (add-one at)) r.below in
             let stop_is = subst (λ (i : ℕ). get_or stops' i 0 ≡ end) lev (get_or-set_same stops open' end 0 (omega arith)) in
-            let may-is = subst (λ (i : ℕ). get_or may' i false ≡ marksChildren r.k) lev (get_or-set_same may open' m false (omega arith) ∙ m-is) in
-            let flag = flag-below r.e x until at end r.stop plain past inside r.flag in
+            let may_is = subst (λ (i : ℕ). get_or may' i false ≡ marks_children r.k) lev (get_or-set_same may open' m false (omega arith) ∙ m-is) in
+            let flag = flag_below r.e x until at end r.stop plain past inside r.flag in
             let flag' = subst (λ (i : ℕ). Flag (r.e || x) until' i end) (sym (add-one at)) flag in
             let stops-keep : Alike 0 stops stops' (length rest) = λ i z. get_or-set_other stops open' i end 0 (omega arith) in
             let may-keeps : Alike false may may' (length rest) = λ i z. get_or-set_other may open' i m false (omega arith) in
-            let outer = zip-keeps stops stops' may may' until' rest (suc r.deep) end around stops-keep may-keeps in
+            let outer = zip_keeps stops stops' may may' until' rest (suc r.deep) end around stops-keep may-keeps in
             record {
               deep = r.deep;
-              frames = within-node r.kids;
+              frames = within_node r.kids;
               level = omega arith;
               levels = omega (arith, r.levels);
-              zip = (below, (stop_is, (may-is, (flag', outer))));
+              zip = (below, (stop_is, (may_is, (flag', outer))));
               runs = goes_on;
             }
 
@@ -407,8 +407,8 @@ module _ (kinds ns ends : List ℕ) (times : List Float) (places marks : List �
             kids ≡ []
         no_kids [] d h le = refl
         no_kids (t ∷ ts) d h le =
-            let first = held-lt kinds ns ends times places marks t d (suc at) h.0 in
-            let others = helds-le kinds ns ends times places marks ts d (get_or ends (suc at) 0) end h.1 in
+            let first = held_lt kinds ns ends times places marks t d (suc at) h.0 in
+            let others = helds_le kinds ns ends times places marks ts d (get_or ends (suc at) 0) end h.1 in
             absurd (omega arith)
 
         -- a leaf leaves the open nodes as they are
@@ -416,23 +416,23 @@ module _ (kinds ns ends : List ℕ) (times : List Float) (places marks : List �
         passes le =
             let none' = no_kids r.kids r.deep r.below le in
             let e : end ≡ at + 1 = omega (arith, past) in
-            let flag = flag-on r.e until at end r.stop past r.flag in
-            let none = run_none (r.e || x) (marksChildren r.k) end rest (at + 1) in
+            let flag = flag_on r.e until at end r.stop past r.flag in
+            let none = run_none (r.e || x) (marks_children r.k) end rest (at + 1) in
             record {
               deep = suc r.deep;
               frames = rest;
               level = r.level;
               levels = omega (arith, r.levels, r.level);
-              zip = subst (λ (i : ℕ). Zip stops may until rest (suc r.deep) i) e (r.beside, (r.stops-is, (r.may-is, (flag, r.zip))));
-              runs = sym none ∙ subst (λ (ts : Forest). run (within-node ts) (at + 1) ≡ answer) none' goes_on;
+              zip = subst (λ (i : ℕ). Zip stops may until rest (suc r.deep) i) e (r.beside, (r.stops_is, (r.may_is, (flag, r.zip))));
+              runs = sym none ∙ subst (λ (ts : Forest). run (within_node ts) (at + 1) ≡ answer) none' goes_on;
             }
 
-        no-level : (kids : Forest) → Helds kinds ns ends times places marks kids 0 (suc at) end → at + 1 < end → ⊥
-        no-level [] h lt = omega arith
-        no-level (node k n l c b ts ∷ us) h lt = h.0
+        no_level : (kids : Forest) → Helds kinds ns ends times places marks kids 0 (suc at) end → at + 1 < end → ⊥
+        no_level [] h lt = omega arith
+        no_level (node k n l c b ts ∷ us) h lt = h.0
 
         -- there are no more levels
         pub never : at + 1 < end → 16 ≤ open' → ⊥
         never lt h =
             let z : r.deep ≡ 0 = omega (arith, r.levels) in
-            no-level r.kids (subst (λ (d : ℕ). Helds kinds ns ends times places marks r.kids d (suc at) end) z r.below) lt
+            no_level r.kids (subst (λ (d : ℕ). Helds kinds ns ends times places marks r.kids d (suc at) end) z r.below) lt

@@ -7,47 +7,47 @@ use native.Mathlib.Omega.{arith}
 use borrow.Author.Tests.{lt-ltb, le-ltb}
 use lib.Dec.{ltb}
 use lib.ListN.{get_or}
-use Rattle.cells.specs.Check.{stillOpen}
+use Rattle.cells.specs.Check.{still_open}
 
 below : (i : ℕ) → suc (suc i) - 1 ≡ suc i
 below i = omega arith
 
 module _ (stops : List ℕ) (at : ℕ) where
-  pub one : stillOpen stops at 1 ≡ 1
-  unfolding stillOpen
+  pub one : still_open stops at 1 ≡ 1
+  unfolding still_open
   one = refl
 
-  pub top-stays : (i : ℕ) → at < get_or stops (suc i) 0 → stillOpen stops at (suc (suc i)) ≡ suc (suc i)
-  unfolding stillOpen
-  top-stays i h = rw (lt-ltb at (get_or stops (suc i) 0) h)
+  pub top_stays : (i : ℕ) → at < get_or stops (suc i) 0 → still_open stops at (suc (suc i)) ≡ suc (suc i)
+  unfolding still_open
+  top_stays i h = rw (lt-ltb at (get_or stops (suc i) 0) h)
 
-  pub top-drops : (i : ℕ) → get_or stops (suc i) 0 ≤ at → stillOpen stops at (suc (suc i)) ≡ stillOpen stops at (suc i)
-  unfolding stillOpen
-  top-drops i h = rw (le-ltb at (get_or stops (suc i) 0) h)
+  pub top_drops : (i : ℕ) → get_or stops (suc i) 0 ≤ at → still_open stops at (suc (suc i)) ≡ still_open stops at (suc i)
+  unfolding still_open
+  top_drops i h = rw (le-ltb at (get_or stops (suc i) 0) h)
 
-  pub drops : (left : ℕ) → 1 < left → get_or stops (left - 1) 0 ≤ at → stillOpen stops at left ≡ stillOpen stops at (left - 1)
+  pub drops : (left : ℕ) → 1 < left → get_or stops (left - 1) 0 ≤ at → still_open stops at left ≡ still_open stops at (left - 1)
   drops zero h k = absurd (omega arith)
   drops (suc zero) h k = absurd (omega arith)
-  drops (suc (suc i)) h k = rw (below i) (top-drops i (rw (below i) at k))
+  drops (suc (suc i)) h k = rw (below i) (top_drops i (rw (below i) at k))
 
-  pub ends : (left : ℕ) → left ≤ 1 → stillOpen stops at left ≡ left
-  unfolding stillOpen
+  pub ends : (left : ℕ) → left ≤ 1 → still_open stops at left ≡ left
+  unfolding still_open
   ends zero h = refl
   ends (suc zero) h = refl
   ends (suc (suc i)) h = absurd (omega arith)
 
-  pub all_stay : (left : ℕ) → 1 ≤ left → at < get_or stops (left - 1) 0 → stillOpen stops at left ≡ left
+  pub all_stay : (left : ℕ) → 1 ≤ left → at < get_or stops (left - 1) 0 → still_open stops at left ≡ left
   all_stay zero h k = absurd (omega arith)
   all_stay (suc zero) h k = one
-  all_stay (suc (suc i)) h k = top-stays i (rw (below i) at k)
+  all_stay (suc (suc i)) h k = top_stays i (rw (below i) at k)
 
-  by-test : (b : Bool) (i o : ℕ) → 1 ≤ o → o ≤ suc i → (1 ≤ cond b (suc (suc i)) o) × (cond b (suc (suc i)) o ≤ suc (suc i))
-  by-test true i o g h = (omega arith, omega arith)
-  by-test false i o g h = (g, omega arith)
+  by_test : (b : Bool) (i o : ℕ) → 1 ≤ o → o ≤ suc i → (1 ≤ cond b (suc (suc i)) o) × (cond b (suc (suc i)) o ≤ suc (suc i))
+  by_test true i o g h = (omega arith, omega arith)
+  by_test false i o g h = (g, omega arith)
 
   -- the first one stays, and none is added
-  pub bounds : (i : ℕ) → 1 ≤ i → (1 ≤ stillOpen stops at i) × (stillOpen stops at i ≤ i)
-  unfolding stillOpen
+  pub bounds : (i : ℕ) → 1 ≤ i → (1 ≤ still_open stops at i) × (still_open stops at i ≤ i)
+  unfolding still_open
   bounds zero h = absurd (omega arith)
   bounds (suc zero) h = (omega arith, omega arith)
-  bounds (suc (suc i)) h = let r = bounds (suc i) (omega arith) in by-test (ltb at (get_or stops (suc i) 0)) i (stillOpen stops at (suc i)) r.0 r.1
+  bounds (suc (suc i)) h = let r = bounds (suc i) (omega arith) in by_test (ltb at (get_or stops (suc i) 0)) i (still_open stops at (suc i)) r.0 r.1

@@ -10,14 +10,14 @@ use lib.Ieee.{Float}
 use lib.ListN.{length, get_or, set, length-set}
 use lib.Seq.{get_or-set_same, get_or-set_other}
 use Rattle.rules.specs.declared.behavior.Kind.{Kind}
-use Rattle.rules.specs.Kinds.{kind_of, marksChildren}
+use Rattle.rules.specs.Kinds.{kind_of, marks_children}
 use Rattle.rules.specs.Tree.{Tree, size, depth}
-use Rattle.rules.specs.Cells.{cells, withCells, cellAllowed, Found, badCell}
+use Rattle.rules.specs.Cells.{cells, with_cells, cell_allowed, Found, bad_cell}
 use Rattle.tables.specs.At.{At}
-use Rattle.tables.proofs.Placed.{at-end}
+use Rattle.tables.proofs.Placed.{at_end}
 use Rattle.cells.specs.declared.check.Found.TheVariants.{Faulty, Fine}
-use Rattle.cells.specs.Check.{Room, Checks, stillOpen}
-use Rattle.cells.proofs.Held.{cell_at, length-cells, holds}
+use Rattle.cells.specs.Check.{Room, Checks, still_open}
+use Rattle.cells.proofs.Held.{cell_at, length_cells, holds}
 use Rattle.cells.proofs.Run.{Scanned, Ready, start, ready, within, refuses, opens, passes, never, finished}
 use Rattle.cells.proofs.Still.{all_stay, bounds}
 
@@ -33,14 +33,14 @@ set_at false xs o s n i e long h low lt =
     let z : i ≡ o = omega arith in
     rw (z, get_or-set_same xs o s 0 long) low
 
-set-low :
+set_low :
     (xs : List ℕ) (o s n : ℕ) → o < length xs →
     ((j : ℕ) → j < o → get_or xs j 0 ≤ n) → s ≤ n → (i : ℕ) → i < o + 1 → get_or (set xs o s) i 0 ≤ n
-set-low xs o s n long h low i lt = set_at _ xs o s n i refl long h low lt
+set_low xs o s n long h low i lt = set_at _ xs o s n i refl long h low lt
 
 -- the rules' verdict on a tree with the cells of a run
 abbrev answer : List Float → List ℕ → List ℕ → Tree → Found
-answer times places marks t = badCell false false 0 (withCells t (cells times places marks)).0
+answer times places marks t = bad_cell false false 0 (with_cells t (cells times places marks)).0
 
 module _ (kinds ns ends : List ℕ) (times : List Float) (places marks : List ℕ) (n : ℕ) where
   -- of every tree that stands in the table
@@ -52,11 +52,11 @@ module _ (kinds ns ends : List ℕ) (times : List Float) (places marks : List �
   pub record Nodes (stops : List ℕ) (may : List Bool) (open' last : ℕ) (m : Bool) : Type 0 where
     pub some : 1 ≤ open'
     pub room : open' ≤ 16
-    pub stops-long : length stops ≡ 16
-    pub may-long : length may ≡ 16
+    pub stops_long : length stops ≡ 16
+    pub may_long : length may ≡ 16
     pub bounded : (i : ℕ) → i < open' → get_or stops i 0 ≤ n
-    pub last-is : last ≡ get_or stops (open' - 1) 0
-    pub may-is : m ≡ get_or may (open' - 1) false
+    pub last_is : last ≡ get_or stops (open' - 1) 0
+    pub may_is : m ≡ get_or may (open' - 1) false
 
   -- the cells before `at` are allowed
   pub record Turn (stops : List ℕ) (may : List Bool) (open' last : ℕ) (m : Bool) (until at : ℕ) : Type 0 where
@@ -79,19 +79,19 @@ module _ {kinds ns ends : List ℕ} {times : List Float} {places marks : List �
     nodes = record {
       some = omega arith;
       room = omega arith;
-      stops-long = ls;
-      may-long = lm;
+      stops_long = ls;
+      may_long = lm;
       bounded = λ i h. let z : i ≡ 0 = omega arith in rw z (omega arith);
-      last-is = sym s;
-      may-is = sym y;
+      last_is = sym s;
+      may_is = sym y;
     };
     low = omega arith;
     scanned = λ limits t h z d.
-        let e : get_or ends 0 0 ≡ n = omega (arith, at-end kinds ns limits t ends 0 h) in
-        let count = length-cells times places marks in
-        let long : get_or ends 0 0 ≤ length (cells times places marks) = omega (arith, room.times_long, room.places-long, room.marks-long) in
+        let e : get_or ends 0 0 ≡ n = omega (arith, at_end kinds ns limits t ends 0 h) in
+        let count = length_cells times places marks in
+        let long : get_or ends 0 0 ≤ length (cells times places marks) = omega (arith, room.times_long, room.places_long, room.marks_long) in
         let held = (holds kinds ns ends times places marks limits t 16 0 d h long).0 in
-        start kinds ns ends times places marks n stops may (withCells t (cells times places marks)).0 held e s y;
+        start kinds ns ends times places marks n stops may (with_cells t (cells times places marks)).0 held e s y;
   }
 
   module _
@@ -101,7 +101,7 @@ module _ {kinds ns ends : List ℕ} {times : List Float} {places marks : List �
     done h limits t a z d =
         finished kinds ns ends times places marks n stops may open' until at (answer times places marks t) (v.scanned limits t a z d) h
 
-    module _ {o : ℕ} (os : o ≡ stillOpen stops at open') where
+    module _ {o : ℕ} (os : o ≡ still_open stops at open') where
       pub some_left : (1 ≤ o) × (o ≤ open')
       some_left =
           let b = bounds stops at open' v.nodes.some in
@@ -117,11 +117,11 @@ module _ {kinds ns ends : List ℕ} {times : List Float} {places marks : List �
             nodes = record {
               some = b.0;
               room = omega (arith, v.nodes.room);
-              stops-long = v.nodes.stops-long;
-              may-long = v.nodes.may-long;
+              stops_long = v.nodes.stops_long;
+              may_long = v.nodes.may_long;
               bounded = λ i h. v.nodes.bounded i (omega arith);
-              last-is = ls;
-              may-is = ms;
+              last_is = ls;
+              may_is = ms;
             };
             low = lt;
             there = λ limits t a z d.
@@ -134,26 +134,26 @@ module _ {kinds ns ends : List ℕ} {times : List Float} {places marks : List �
     pub stays : at < last → Here kinds ns ends times places marks n stops may open' last m until at
     stays h =
         let w = v.nodes in
-        let all = all_stay stops at open' w.some (omega (arith, w.last-is)) in
+        let all = all_stay stops at open' w.some (omega (arith, w.last_is)) in
         let bound = w.bounded (open' - 1) (omega (arith, w.some)) in
-        closes (sym all) (omega (arith, w.last-is, w.some)) w.last-is w.may-is
+        closes (sym all) (omega (arith, w.last_is, w.some)) w.last_is w.may_is
 
   module _
       {stops : List ℕ} {may : List Bool} {open' last : ℕ} {m : Bool} {until at : ℕ}
       (v : Here kinds ns ends times places marks n stops may open' last m until at) where
     module _
         {k : Kind} (kind : k ≡ kind_of (get_or kinds at 0))
-        {a : Bool} (is : a ≡ cellAllowed (ltb at until) m k (get_or ns at 0) (cell_at times places marks at)) where
-      is' : a ≡ cellAllowed (ltb at until) (get_or may (open' - 1) false) k (get_or ns at 0) (cell_at times places marks at)
-      is' = is ∙ ap (λ (x : Bool). cellAllowed (ltb at until) x k (get_or ns at 0) (cell_at times places marks at)) v.nodes.may-is
+        {a : Bool} (is : a ≡ cell_allowed (ltb at until) m k (get_or ns at 0) (cell_at times places marks at)) where
+      is' : a ≡ cell_allowed (ltb at until) (get_or may (open' - 1) false) k (get_or ns at 0) (cell_at times places marks at)
+      is' = is ∙ ap (λ (x : Bool). cell_allowed (ltb at until) x k (get_or ns at 0) (cell_at times places marks at)) v.nodes.may_is
 
       pub refused : not a ≡ true → Checks kinds ns ends times places marks n (Faulty at)
       refused h limits t x z d =
           refuses kinds ns ends times places marks n stops may open' until at (answer times places marks t) (v.there limits t x z d) k kind a is' h
 
       module _ (taken : not a ≡ false) {s : ℕ} (ss : s ≡ get_or ends at 0) where
-        pub too-deep : at + 1 < s → 16 ≤ open' → Checks kinds ns ends times places marks n (Faulty at)
-        too-deep h g limits t x z d =
+        pub too_deep : at + 1 < s → 16 ≤ open' → Checks kinds ns ends times places marks n (Faulty at)
+        too_deep h g limits t x z d =
             let right = answer times places marks t in
             absurd (never kinds ns ends times places marks n stops may open' until at right (v.there limits t x z d) k kind a is' taken (omega arith) g)
 
@@ -162,7 +162,7 @@ module _ {kinds ns ends : List ℕ} {times : List Float} {places marks : List �
             absurd (omega (arith, within kinds ns ends times places marks n stops may open' until at (answer times places marks t) (v.there limits t x z d)))
 
         pub opened :
-            {u : ℕ} → u ≡ cond (eqb (get_or marks at 0) 1) s until → {m' : Bool} → m' ≡ marksChildren k →
+            {u : ℕ} → u ≡ cond (eqb (get_or marks at 0) 1) s until → {m' : Bool} → m' ≡ marks_children k →
             at + 1 < s → open' < 16 → s ≤ n →
             Turn kinds ns ends times places marks n (set stops open' s) (set may open' m') (open' + 1) s m' u (at + 1)
         opened us {m'} ms h g low =
@@ -172,11 +172,11 @@ module _ {kinds ns ends : List ℕ} {times : List Float} {places marks : List �
               nodes = record {
                 some = omega arith;
                 room = omega arith;
-                stops-long = length-set stops open' s ∙ w.stops-long;
-                may-long = length-set may open' m' ∙ w.may-long;
-                bounded = set-low stops open' s n (omega (arith, w.stops-long)) w.bounded low;
-                last-is = rw e (sym (get_or-set_same stops open' s 0 (omega (arith, w.stops-long))));
-                may-is = rw e (sym (get_or-set_same may open' m' false (omega (arith, w.may-long))));
+                stops_long = length-set stops open' s ∙ w.stops_long;
+                may_long = length-set may open' m' ∙ w.may_long;
+                bounded = set_low stops open' s n (omega (arith, w.stops_long)) w.bounded low;
+                last_is = rw e (sym (get_or-set_same stops open' s 0 (omega (arith, w.stops_long))));
+                may_is = rw e (sym (get_or-set_same may open' m' false (omega (arith, w.may_long))));
               };
               low = omega (arith, v.low);
               scanned = λ limits t x z d.
@@ -184,7 +184,7 @@ module _ {kinds ns ends : List ℕ} {times : List Float} {places marks : List �
                   let there = v.there limits t x z d in
                   let lt : at + 1 < get_or ends at 0 = omega arith in
                   rw (us, ss)
-                  (opens kinds ns ends times places marks n stops may open' until at right there k kind a is' taken m' ms lt g w.stops-long w.may-long);
+                  (opens kinds ns ends times places marks n stops may open' until at right there k kind a is' taken m' ms lt g w.stops_long w.may_long);
             }
 
         pub passed : s ≤ at + 1 → Turn kinds ns ends times places marks n stops may open' last m until (at + 1)

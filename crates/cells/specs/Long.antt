@@ -3,7 +3,7 @@ use Rattle.std.specs.Prelude.{◌≡◌, true, List, ℕ, ◌≤◌, min, leb, F
 use mathlib.Core.List
 use Rattle.std.proofs.Common.{arith, leb-true}
 use Rattle.rules.specs.Cells.{cells}
-use Rattle.rules.specs.Call.{Run, runLength}
+use Rattle.rules.specs.Call.{Run, run_length}
 
 -- a run of n cells or more
 pub record Long (n : ℕ) (r : Run) : Type 0 where
@@ -12,19 +12,19 @@ pub record Long (n : ℕ) (r : Run) : Type 0 where
   pub marks : n ≤ length r.marks
   pub sinces : n ≤ length r.sinces
 
-pub cells-length : (xs : List Float) (ps ms : List ℕ) → length (cells xs ps ms) ≡ min (length xs) (min (length ps) (length ms))
+pub cells_length : (xs : List Float) (ps ms : List ℕ) → length (cells xs ps ms) ≡ min (length xs) (min (length ps) (length ms))
 unfolding cells
-cells-length List.[] ps ms = omega arith
-cells-length (List.◌∷◌ x xs) List.[] ms = omega arith
-cells-length (List.◌∷◌ x xs) (List.◌∷◌ p ps) List.[] = omega arith
-cells-length (List.◌∷◌ x xs) (List.◌∷◌ p ps) (List.◌∷◌ m ms) = omega (arith, cells-length xs ps ms)
+cells_length List.[] ps ms = omega arith
+cells_length (List.◌∷◌ x xs) List.[] ms = omega arith
+cells_length (List.◌∷◌ x xs) (List.◌∷◌ p ps) List.[] = omega arith
+cells_length (List.◌∷◌ x xs) (List.◌∷◌ p ps) (List.◌∷◌ m ms) = omega (arith, cells_length xs ps ms)
 
-pub run_length : (r : Run) → runLength r ≡ min (min (length r.times) (min (length r.places) (length r.marks))) (length r.sinces)
-run_length r = omega (arith, cells-length r.times r.places r.marks)
+pub run_length_lem : (r : Run) → run_length r ≡ min (min (length r.times) (min (length r.places) (length r.marks))) (length r.sinces)
+run_length_lem r = omega (arith, cells_length r.times r.places r.marks)
 
 -- a run that is found long enough
-pub long : (n : ℕ) (r : Run) → leb n (runLength r) ≡ true → Long n r
+pub long : (n : ℕ) (r : Run) → leb n (run_length r) ≡ true → Long n r
 long n r e =
-    let h = leb-true n (runLength r) e in
-    let m = run_length r in
+    let h = leb-true n (run_length r) e in
+    let m = run_length_lem r in
     record { times = omega arith; places = omega arith; marks = omega arith; sinces = omega arith }

@@ -1,15 +1,15 @@
 // What one cell may hold.
 ghost use Rattle.std.specs.Prelude.{◌≡◌, cond, ◌&&◌, leb, eqb};
 ghost use Rattle.rules.specs.Kinds.{timed};
-ghost use Rattle.rules.specs.Table.{zeroBits};
-ghost use Rattle.rules.specs.Cells.{cell_of, elapsed, lastPlace, cellAllowed};
+ghost use Rattle.rules.specs.Table.{zero_bits};
+ghost use Rattle.rules.specs.Cells.{cell_of, elapsed, last_place, cell_allowed};
 
 use rules::Kind;
 use tables::{elapsed, zero_bits};
 
 // No time and no place, as in a fresh cell.
 fn at_start(time: f64, place: u16) -> bool
-    ensures { result ≡ zeroBits time && eqb place 0 }
+    ensures { result ≡ zero_bits time && eqb place 0 }
 {
     if !zero_bits(time) {
         return false;
@@ -19,7 +19,7 @@ fn at_start(time: f64, place: u16) -> bool
 
 // Only Wait and Timeout have an elapsed time.
 fn time_allowed(kind: Kind, time: f64) -> bool
-    ensures { result ≡ cond (timed kind) (elapsed time) (zeroBits time) }
+    ensures { result ≡ cond (timed kind) (elapsed time) (zero_bits time) }
 {
     if kind.timed() {
         elapsed(time)
@@ -30,7 +30,7 @@ fn time_allowed(kind: Kind, time: f64) -> bool
 
 // 0 is a place of every kind.
 fn place_allowed(kind: Kind, n: u16, place: u16) -> bool
-    ensures { result ≡ leb place (lastPlace kind n) }
+    ensures { result ≡ leb place (last_place kind n) }
 {
     if place == 0 {
         return true;
@@ -48,7 +48,7 @@ pub fn cell_allowed(
     place: u16,
     mark: u8,
 ) -> bool
-    ensures { result ≡ cellAllowed ended may_end kind n (cell_of time place mark) }
+    ensures { result ≡ cell_allowed ended may_end kind n (cell_of time place mark) }
 {
     if ended {
         if !at_start(time, place) {

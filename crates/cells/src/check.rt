@@ -1,6 +1,6 @@
 // One pass over the cells, with the open nodes on a stack of fixed size.
 ghost use Rattle.std.specs.Prelude.{◌≡◌, cond, false, ◌||◌, ◌≤◌, eqb};
-ghost use Rattle.cells.specs.Check.{Room, Checks, stillOpen, first_of};
+ghost use Rattle.cells.specs.Check.{Room, Checks, still_open, first_of};
 
 use crate::cell::cell_allowed;
 use rules::Kind;
@@ -15,7 +15,7 @@ pub enum Found {
 // How many nodes are open at a place, of those that were: the others end there.
 fn still_open(stops: &[usize; 16], count: usize, at: usize) -> usize
     requires { count ≤ 16 }
-    ensures { result ≡ stillOpen stops.now at count }
+    ensures { result ≡ still_open stops.now at count }
 {
     let mut left = count;
     while 1 < left {

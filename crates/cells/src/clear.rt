@@ -1,10 +1,10 @@
 // The first elements of a run made zero; what stands behind stays.
 ghost use Rattle.std.specs.Prelude.{◌≡◌, ◌++◌, ◌≤◌, length, drop, replicate};
-ghost use Rattle.rules.specs.Tree.{zeroTime};
+ghost use Rattle.rules.specs.Tree.{zero_time};
 
 pub fn clear_times(times: &mut [f64], n: usize)
     requires { n ≤ length times.old }
-    ensures { times.new ≡ replicate n zeroTime ++ drop n times.old }
+    ensures { times.new ≡ replicate n zero_time ++ drop n times.old }
 {
     let mut i = 0;
     while i < n {

@@ -2,7 +2,7 @@
 ghost use Rattle.std.specs.Prelude.{◌≡◌, ◌≤◌, length};
 ghost use Rattle.rules.specs.Call.{run};
 ghost use Rattle.cells.specs.Long.{Long};
-ghost use Rattle.cells.specs.Onto.{onto, ontoCells};
+ghost use Rattle.cells.specs.Onto.{onto, onto_cells};
 
 pub fn copy_times(from: &[f64], to: &mut [f64], n: usize)
     requires { (n ≤ length from.now) × (n ≤ length to.old) }
@@ -63,7 +63,7 @@ fn copy_few(
     requires long { Long n (run times.now places.now marks.now sinces.now) }
     requires long_2 { Long n (run to_times.old to_places.old to_marks.old to_sinces.old) }
     ensures { run to_times.new to_places.new to_marks.new to_sinces.new
-        ≡ ontoCells n (run times.now places.now marks.now sinces.now)
+        ≡ onto_cells n (run times.now places.now marks.now sinces.now)
         (run to_times.old to_places.old to_marks.old to_sinces.old) }
 {
     let mut i = 0;
@@ -90,7 +90,7 @@ pub fn copy_cells(
     requires long { Long n (run times.now places.now marks.now sinces.now) }
     requires long_2 { Long n (run to_times.old to_places.old to_marks.old to_sinces.old) }
     ensures { run to_times.new to_places.new to_marks.new to_sinces.new
-        ≡ ontoCells n (run times.now places.now marks.now sinces.now)
+        ≡ onto_cells n (run times.now places.now marks.now sinces.now)
         (run to_times.old to_places.old to_marks.old to_sinces.old) }
 {
     if n < 8 {

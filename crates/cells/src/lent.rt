@@ -1,10 +1,10 @@
 // How long a run of cells is.
 ghost use Rattle.std.specs.Prelude.{◌≡◌, leb};
-ghost use Rattle.rules.specs.Call.{run, runLength};
+ghost use Rattle.rules.specs.Call.{run, run_length};
 
 // Whether a run has n cells or more.
 pub fn long_enough(times: &[f64], places: &[u16], marks: &[u8], sinces: &[u64], n: usize) -> bool
-    ensures { result ≡ leb n (runLength (run times.now places.now marks.now sinces.now)) }
+    ensures { result ≡ leb n (run_length (run times.now places.now marks.now sinces.now)) }
 {
     if times.len() < n {
         return false;

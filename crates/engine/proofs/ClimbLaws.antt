@@ -9,101 +9,101 @@ use lib.ListN.{set}
 use Rattle.rules.specs.declared.behavior.Kind.{Kind}
 use Rattle.rules.specs.declared.behavior.Kind.TheVariants.{Wait, WaitForever, Action, Invert, AlwaysSucceed, Timeout, Select, If, Sequence}
 use Rattle.rules.specs.declared.behavior.Kind.TheVariants.{MemorylessSequence, MemorylessSelector, While, WhileAll, WhenAll, WhenAny, After, Race}
-use Rattle.rules.specs.Tree.{zeroTime}
+use Rattle.rules.specs.Tree.{zero_time}
 use Rattle.rules.specs.Levels.{Levels}
 use Rattle.work.specs.declared.result.Seen.TheVariants.{Stopped}
-use Rattle.work.specs.Word.{kindIn}
-use Rattle.work.specs.Array.{word_at, fuelOf}
-use Rattle.work.specs.Flat.{Out, out, Lent, Visitor, seen, isLeaf, leaf, visitLeaf, visit, by_kind, tick, visiting}
-use Rattle.work.proofs.VisitLaws.{visit-leaf, visit-node, tick-zero, tick-spent, tick-on}
+use Rattle.work.specs.Word.{kind_in}
+use Rattle.work.specs.Array.{word_at, fuel_of}
+use Rattle.work.specs.Flat.{Out, out, Lent, Visitor, seen, is_leaf, leaf, visit_leaf, visit, by_kind, tick, visiting}
+use Rattle.work.proofs.VisitLaws.{visit_leaf_lem, visit_node, tick_zero, tick_spent, tick_on}
 use Rattle.turns.specs.declared.level.Level.{Level}
 use Rattle.turns.specs.declared.level.Turn.{Turn}
-use Rattle.turns.specs.Levels.{goes, resumedBy}
+use Rattle.turns.specs.Levels.{goes, resumed_by}
 use Rattle.engine.specs.Stands.{above, through, around}
 
 not_so : ◌≡◌ {A = Bool} false true → ⊥
 not_so e = let z : ◌≡◌ {A = ℕ} 0 1 = cc in omega arith
 
 -- a visit to the root is its tick, of a leaf too
-leaf-kind : (F : Format) (T : Lent) (v : Visitor) (k : Kind) → isLeaf k ≡ true → (p : ℕ) (dt : Float) (ws : List ℕ) (ts : List Float) → by_kind F T v k p dt ws ts ≡ leaf F T k p dt ws ts
+leaf_kind : (F : Format) (T : Lent) (v : Visitor) (k : Kind) → is_leaf k ≡ true → (p : ℕ) (dt : Float) (ws : List ℕ) (ts : List Float) → by_kind F T v k p dt ws ts ≡ leaf F T k p dt ws ts
 unfolding by_kind
-leaf-kind F T v Wait h p dt ws ts = refl
-leaf-kind F T v WaitForever h p dt ws ts = refl
-leaf-kind F T v Action h p dt ws ts = refl
-leaf-kind F T v Invert h p dt ws ts = absurd (not_so h)
-leaf-kind F T v AlwaysSucceed h p dt ws ts = absurd (not_so h)
-leaf-kind F T v Timeout h p dt ws ts = absurd (not_so h)
-leaf-kind F T v Select h p dt ws ts = absurd (not_so h)
-leaf-kind F T v If h p dt ws ts = absurd (not_so h)
-leaf-kind F T v Sequence h p dt ws ts = absurd (not_so h)
-leaf-kind F T v MemorylessSequence h p dt ws ts = absurd (not_so h)
-leaf-kind F T v MemorylessSelector h p dt ws ts = absurd (not_so h)
-leaf-kind F T v While h p dt ws ts = absurd (not_so h)
-leaf-kind F T v WhileAll h p dt ws ts = absurd (not_so h)
-leaf-kind F T v WhenAll h p dt ws ts = absurd (not_so h)
-leaf-kind F T v WhenAny h p dt ws ts = absurd (not_so h)
-leaf-kind F T v After h p dt ws ts = absurd (not_so h)
-leaf-kind F T v Race h p dt ws ts = absurd (not_so h)
+leaf_kind F T v Wait h p dt ws ts = refl
+leaf_kind F T v WaitForever h p dt ws ts = refl
+leaf_kind F T v Action h p dt ws ts = refl
+leaf_kind F T v Invert h p dt ws ts = absurd (not_so h)
+leaf_kind F T v AlwaysSucceed h p dt ws ts = absurd (not_so h)
+leaf_kind F T v Timeout h p dt ws ts = absurd (not_so h)
+leaf_kind F T v Select h p dt ws ts = absurd (not_so h)
+leaf_kind F T v If h p dt ws ts = absurd (not_so h)
+leaf_kind F T v Sequence h p dt ws ts = absurd (not_so h)
+leaf_kind F T v MemorylessSequence h p dt ws ts = absurd (not_so h)
+leaf_kind F T v MemorylessSelector h p dt ws ts = absurd (not_so h)
+leaf_kind F T v While h p dt ws ts = absurd (not_so h)
+leaf_kind F T v WhileAll h p dt ws ts = absurd (not_so h)
+leaf_kind F T v WhenAll h p dt ws ts = absurd (not_so h)
+leaf_kind F T v WhenAny h p dt ws ts = absurd (not_so h)
+leaf_kind F T v After h p dt ws ts = absurd (not_so h)
+leaf_kind F T v Race h p dt ws ts = absurd (not_so h)
 
 module _ (F : Format) (T : Lent) (x : Float) (ws : List ℕ) (ts : List Float) where
   abbrev root : Kind
-  root = kindIn (word_at ws 0)
+  root = kind_in (word_at ws 0)
 
-  root-leaf : isLeaf root ≡ true → tick F T 16 0 x ws ts ≡ visiting F T 16 0 x ws ts
-  unfolding visit visitLeaf tick
-  root-leaf h = rw (h, leaf-kind F T (visiting F T 15) root h 0 x (set ws 256 (fuelOf ws - 1)) ts)
+  root_leaf : is_leaf root ≡ true → tick F T 16 0 x ws ts ≡ visiting F T 16 0 x ws ts
+  unfolding visit visit_leaf tick
+  root_leaf h = rw (h, leaf_kind F T (visiting F T 15) root h 0 x (set ws 256 (fuel_of ws - 1)) ts)
 
-  root-node : isLeaf root ≡ false → tick F T 16 0 x ws ts ≡ visiting F T 16 0 x ws ts
-  root-node h = sym (visit-node F T 0 x ws ts (tick F T 16) root _ refl h refl)
+  root_node : is_leaf root ≡ false → tick F T 16 0 x ws ts ≡ visiting F T 16 0 x ws ts
+  root_node h = sym (visit_node F T 0 x ws ts (tick F T 16) root _ refl h refl)
 
-  either : (b : Bool) → isLeaf root ≡ b → tick F T 16 0 x ws ts ≡ visiting F T 16 0 x ws ts
-  either true h = root-leaf h
-  either false h = root-node h
+  either : (b : Bool) → is_leaf root ≡ b → tick F T 16 0 x ws ts ≡ visiting F T 16 0 x ws ts
+  either true h = root_leaf h
+  either false h = root_node h
 
-  pub visit-root : tick F T 16 0 x ws ts ≡ visiting F T 16 0 x ws ts
-  visit-root = either (isLeaf root) refl
+  pub visit_root : tick F T 16 0 x ws ts ≡ visiting F T 16 0 x ws ts
+  visit_root = either (is_leaf root) refl
 
 -- ---- down
-module _ (F : Format) (T : Lent) (n : ℕ) (x : Float) (q : ℕ) (ws : List ℕ) (ts : List Float) (k : Kind) (c : k ≡ kindIn (word_at ws q)) where
-  abbrev due-now : Out
-  due-now = visiting F T (16 - n) q x ws ts
+module _ (F : Format) (T : Lent) (n : ℕ) (x : Float) (q : ℕ) (ws : List ℕ) (ts : List Float) (k : Kind) (c : k ≡ kind_in (word_at ws q)) where
+  abbrev due_now : Out
+  due_now = visiting F T (16 - n) q x ws ts
 
-  pub down-leaf : (o : Out) → isLeaf k ≡ true → visitLeaf F T k q x ws ts ≡ o → due-now ≡ o
-  down-leaf o h e = visit-leaf F T q x ws ts (tick F T (16 - n)) k o c h e
+  pub down_leaf : (o : Out) → is_leaf k ≡ true → visit_leaf F T k q x ws ts ≡ o → due_now ≡ o
+  down_leaf o h e = visit_leaf_lem F T q x ws ts (tick F T (16 - n)) k o c h e
 
-  module _ (h : isLeaf k ≡ false) where
-    pub down-spent : fuelOf ws ≡ 0 → due-now ≡ out Stopped zeroTime ws ts
-    down-spent z = visit-node F T q x ws ts (tick F T (16 - n)) k _ c h (tick-spent F T q x ws ts (16 - n) z)
+  module _ (h : is_leaf k ≡ false) where
+    pub down_spent : fuel_of ws ≡ 0 → due_now ≡ out Stopped zero_time ws ts
+    down_spent z = visit_node F T q x ws ts (tick F T (16 - n)) k _ c h (tick_spent F T q x ws ts (16 - n) z)
 
-    pub down-deep : 16 ≤ n → due-now ≡ out Stopped zeroTime ws ts
-    down-deep d = visit-node F T q x ws ts (tick F T (16 - n)) k _ c h (tick-zero F T q x ws ts (16 - n) (omega arith))
+    pub down_deep : 16 ≤ n → due_now ≡ out Stopped zero_time ws ts
+    down_deep d = visit_node F T q x ws ts (tick F T (16 - n)) k _ c h (tick_zero F T q x ws ts (16 - n) (omega arith))
 
-    module _ (d : n < 16) (f : fuelOf ws ≡ 0 → ⊥) (ws₁ : List ℕ) (a : ws₁ ≡ set ws 256 (fuelOf ws - 1)) where
+    module _ (d : n < 16) (f : fuel_of ws ≡ 0 → ⊥) (ws₁ : List ℕ) (a : ws₁ ≡ set ws 256 (fuel_of ws - 1)) where
       abbrev v : Visitor
       v = visiting F T (15 - n)
 
-      down-on : (o : Out) → by_kind F T v k q x ws₁ ts ≡ o → due-now ≡ seen q o
-      down-on o e =
+      down_on : (o : Out) → by_kind F T v k q x ws₁ ts ≡ o → due_now ≡ seen q o
+      down_on o e =
           let m : 16 - n - 1 ≡ 15 - n = omega arith in
           let some : 16 - n ≡ 0 → ⊥ = (λ z. omega arith) in
-          visit-node F T q x ws ts (tick F T (16 - n)) k (seen q o) c h (tick-on F T q x ws ts (16 - n) k o (seen q o) some f c (rw (m, ← a) e) refl)
+          visit_node F T q x ws ts (tick F T (16 - n)) k (seen q o) c h (tick_on F T q x ws ts (16 - n) k o (seen q o) some f c (rw (m, ← a) e) refl)
 
-      module _ (t : Turn) (ws₂ : List ℕ) (ts₂ : List Float) (e : by_kind F T v k q x ws₁ ts ≡ goes (resumedBy F T) v t ws₂ ts₂) where
-        pub down-done : t.due ≡ false → (ws₃ : List ℕ) → seen q (out t.seen t.left ws₂ ts₂) ≡ out t.seen t.left ws₃ ts₂ → due-now ≡ out t.seen t.left ws₃ ts₂
-        down-done z ws₃ s = down-on (out t.seen t.left ws₂ ts₂) (e ∙ rw z) ∙ s
+      module _ (t : Turn) (ws₂ : List ℕ) (ts₂ : List Float) (e : by_kind F T v k q x ws₁ ts ≡ goes (resumed_by F T) v t ws₂ ts₂) where
+        pub down_done : t.due ≡ false → (ws₃ : List ℕ) → seen q (out t.seen t.left ws₂ ts₂) ≡ out t.seen t.left ws₃ ts₂ → due_now ≡ out t.seen t.left ws₃ ts₂
+        down_done z ws₃ s = down_on (out t.seen t.left ws₂ ts₂) (e ∙ rw z) ∙ s
 
-        pub down-due : t.due ≡ true → t.level.node ≡ q
-            → due-now ≡ above F T n t.level (visiting F T (16 - suc n) t.level.child t.left ws₂ ts₂)
-        down-due z p =
+        pub down_due : t.due ≡ true → t.level.node ≡ q
+            → due_now ≡ above F T n t.level (visiting F T (16 - suc n) t.level.child t.left ws₂ ts₂)
+        down_due z p =
             let m : 16 - suc n ≡ 15 - n = omega arith in
-            rw m (down-on (resumedBy F T v t.level (v t.level.child t.left ws₂ ts₂)) (e ∙ rw z)
-            ∙ ap (λ (j : ℕ). seen j (resumedBy F T v t.level (v t.level.child t.left ws₂ ts₂))) (sym p))
+            rw m (down_on (resumed_by F T v t.level (v t.level.child t.left ws₂ ts₂)) (e ∙ rw z)
+            ∙ ap (λ (j : ℕ). seen j (resumed_by F T v t.level (v t.level.child t.left ws₂ ts₂))) (sym p))
 
 -- ---- up
 module _ (F : Format) (T : Lent) (m : ℕ) (e : Level) (r : Levels) (o : Out) (t : Turn) (ws : List ℕ) (ts : List Float)
-    (a : resumedBy F T (visiting F T (15 - m)) e o ≡ goes (resumedBy F T) (visiting F T (15 - m)) t ws ts) (p : t.level.node ≡ e.node) where
-  pub up-due : t.due ≡ true → around F T (suc m) e r o ≡ around F T (suc m) t.level r (visiting F T (16 - suc m) t.level.child t.left ws ts)
-  up-due z = let k : 16 - suc m ≡ 15 - m = omega arith in rw (k, a, z, p)
+    (a : resumed_by F T (visiting F T (15 - m)) e o ≡ goes (resumed_by F T) (visiting F T (15 - m)) t ws ts) (p : t.level.node ≡ e.node) where
+  pub up_due : t.due ≡ true → around F T (suc m) e r o ≡ around F T (suc m) t.level r (visiting F T (16 - suc m) t.level.child t.left ws ts)
+  up_due z = let k : 16 - suc m ≡ 15 - m = omega arith in rw (k, a, z, p)
 
   pub up_done : t.due ≡ false → (ws₁ : List ℕ) → seen e.node (out t.seen t.left ws ts) ≡ out t.seen t.left ws₁ ts
       → around F T (suc m) e r o ≡ through F T m r (out t.seen t.left ws₁ ts)

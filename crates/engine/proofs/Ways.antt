@@ -9,23 +9,23 @@ use native.Mathlib.Omega.{arith}
 use lib.Ieee.{Float, Format}
 use lib.ListN.{length, get_or, set, length-set}
 use Rattle.rules.specs.declared.behavior.Kind.{Kind}
-use Rattle.rules.specs.Tree.{zeroTime}
+use Rattle.rules.specs.Tree.{zero_time}
 use Rattle.rules.specs.Levels.{Levels, entries, cleared}
 use Rattle.work.specs.declared.result.Seen.{Seen}
 use Rattle.work.specs.declared.result.Seen.TheVariants.{Stopped}
-use Rattle.work.specs.Word.{kindIn}
-use Rattle.work.specs.Array.{word_at, fuelOf}
-use Rattle.work.specs.Flat.{Out, out, Lent, lent, Visitor, seen, isLeaf, visitLeaf, by_kind, visit, tick, visiting}
+use Rattle.work.specs.Word.{kind_in}
+use Rattle.work.specs.Array.{word_at, fuel_of}
+use Rattle.work.specs.Flat.{Out, out, Lent, lent, Visitor, seen, is_leaf, visit_leaf, by_kind, visit, tick, visiting}
 use Rattle.work.proofs.Laws.{Among}
-use Rattle.work.proofs.VisitLaws.{Gave, gave-told, no-gave}
+use Rattle.work.proofs.VisitLaws.{Gave, gave_told, no_gave}
 use Rattle.turns.specs.declared.level.Level.{Level}
 use Rattle.turns.specs.declared.level.Turn.{Turn}
-use Rattle.turns.specs.Levels.{Sound, KeepsSound, goes, resumedBy, enteredLevel}
-use Rattle.turns.proofs.FuelLaws.{fuel-used, leaf-less}
-use Rattle.engine.specs.Stands.{nodeAs, levelAt, put_at, through, around, Held}
+use Rattle.turns.specs.Levels.{Sound, KeepsSound, goes, resumed_by, entered_level}
+use Rattle.turns.proofs.FuelLaws.{fuel_used, leaf_less}
+use Rattle.engine.specs.Stands.{node_as, level_at, put_at, through, around, Held}
 use Rattle.engine.specs.Climbs.{due_at, Downs, Closes, Ups}
-use Rattle.engine.proofs.StandLaws.{put-long, put_same, put_other, put-cleared, around-stopped, around-deeper, around-kept, around-put}
-use Rattle.engine.proofs.ClimbLaws.{visit-root, down-leaf, down-spent, down-deep, down-done, down-due, up-due, up_done}
+use Rattle.engine.proofs.StandLaws.{put_long, put_same, put_other, put_cleared, around_stopped, around_deeper, around_kept, around_put}
+use Rattle.engine.proofs.ClimbLaws.{visit_root, down_leaf, down_spent, down_deep, down_done, down_due, up_due, up_done}
 
 pub record WayDown
     (F : Format) (T : Lent)
@@ -33,19 +33,19 @@ pub record WayDown
   pub same : due_at F T n₀ e₀ x₀ r₀ ws₀ ts₀ ≡ due_at F T n e x r ws ts
   pub held : Held n e r
   pub behind : cleared r ≡ cleared r₀
-  pub fuel : fuelOf ws ≤ fuelOf ws₀
+  pub fuel : fuel_of ws ≤ fuel_of ws₀
   pub times_long : length ts ≡ length ts₀
-  pub opens-long : length r.opens ≡ length r₀.opens
-  pub counts-long : length r.counts ≡ length r₀.counts
-  pub wholes-long : length r.wholes ≡ length r₀.wholes
-  pub rests-long : length r.rests ≡ length r₀.rests
+  pub opens_long : length r.opens ≡ length r₀.opens
+  pub counts_long : length r.counts ≡ length r₀.counts
+  pub wholes_long : length r.wholes ≡ length r₀.wholes
+  pub rests_long : length r.rests ≡ length r₀.rests
 
 pub record WayUp
     (F : Format) (T : Lent)
     (n₀ : ℕ) (e₀ : Level) (s₀ : Seen) (l₀ : Float) (r : Levels) (ws₀ : List ℕ) (ts₀ : List Float) (n : ℕ) (e : Level) (s : Seen) (l : Float) (ws : List ℕ) (ts : List Float) : Type 0 where
   pub same : around F T n₀ e₀ r (out s₀ l₀ ws₀ ts₀) ≡ around F T n e r (out s l ws ts)
   pub held : Held n e r
-  pub fuel : fuelOf ws ≤ fuelOf ws₀
+  pub fuel : fuel_of ws ≤ fuel_of ws₀
   pub going : s₀ ≡ Stopped → s ≡ Stopped
   pub times_long : length ts ≡ length ts₀
 
@@ -55,65 +55,65 @@ pub record Deeper (n : ℕ) (e : Level) (r r' : Levels) : Type 0 where
   pub one : (m : ℕ) → n ≡ suc m → r' ≡ put_at r m e
 
 pub record Lengths (r r' : Levels) : Type 0 where
-  pub opens-same : length r'.opens ≡ length r.opens
+  pub opens_same : length r'.opens ≡ length r.opens
   pub counts_same : length r'.counts ≡ length r.counts
-  pub wholes-same : length r'.wholes ≡ length r.wholes
-  pub rests-same : length r'.rests ≡ length r.rests
+  pub wholes_same : length r'.wholes ≡ length r.wholes
+  pub rests_same : length r'.rests ≡ length r.rests
 
-put-lengths : (r : Levels) (l : ℕ) (e : Level) → Lengths r (put_at r l e)
+put_lengths : (r : Levels) (l : ℕ) (e : Level) → Lengths r (put_at r l e)
 unfolding put_at
-put-lengths r l e = record {
-  opens-same = length-set r.opens l _;
+put_lengths r l e = record {
+  opens_same = length-set r.opens l _;
   counts_same = length-set r.counts l _;
-  wholes-same = length-set r.wholes l _;
-  rests-same = length-set r.rests l _;
+  wholes_same = length-set r.wholes l _;
+  rests_same = length-set r.rests l _;
 }
 
-pub not-due : ◌≡◌ {A = Bool} false true → ⊥
-not-due e = let z : ◌≡◌ {A = ℕ} 0 1 = cc in omega arith
+pub not_due : ◌≡◌ {A = Bool} false true → ⊥
+not_due e = let z : ◌≡◌ {A = ℕ} 0 1 = cc in omega arith
 
 -- what a `match` tells of the arms other than the first
-pub going-told : (s : Seen) → Among (1 ∷ 2 ∷ 3 ∷ []) s → s ≡ Stopped → ⊥
-going-told s h z = no-gave (subst Gave z (gave-told s h))
+pub going_told : (s : Seen) → Among (1 ∷ 2 ∷ 3 ∷ []) s → s ≡ Stopped → ⊥
+going_told s h z = no_gave (subst Gave z (gave_told s h))
 
-around-none : (F : Format) (T : Lent) (n : ℕ) (e : Level) (r : Levels) (o : Out) → n ≤ 0 → around F T n e r o ≡ o
-around-none F T zero e r o h = refl
-around-none F T (suc n) e r o h = absurd (omega arith)
+around_none : (F : Format) (T : Lent) (n : ℕ) (e : Level) (r : Levels) (o : Out) → n ≤ 0 → around F T n e r o ≡ o
+around_none F T zero e r o h = refl
+around_none F T (suc n) e r o h = absurd (omega arith)
 
-pub deeper-none : {n : ℕ} {e : Level} {r r' : Levels} → n ≤ 0 → r' ≡ r → Deeper n e r r'
-deeper-none h z = record { none = λ _. z; one = λ m k. absurd (omega arith) }
+pub deeper_none : {n : ℕ} {e : Level} {r r' : Levels} → n ≤ 0 → r' ≡ r → Deeper n e r r'
+deeper_none h z = record { none = λ _. z; one = λ m k. absurd (omega arith) }
 
-pub deeper-one : {n : ℕ} {e : Level} {r r' : Levels} → 0 < n → r' ≡ put_at r (n - 1) e → Deeper n e r r'
-deeper-one {n} {e} {r} {r'} h p = record {
+pub deeper_one : {n : ℕ} {e : Level} {r r' : Levels} → 0 < n → r' ≡ put_at r (n - 1) e → Deeper n e r r'
+deeper_one {n} {e} {r} {r'} h p = record {
   none = λ z. absurd (omega arith);
   one = λ m k. let d : n - 1 ≡ m = omega arith in rw d at p;
 }
 
 module _ (n : ℕ) (e : Level) (r r' : Levels) (d : Deeper n e r r') (h : Held n e r) where
-  pub deeper-long : entries r' ≡ entries r
-  deeper-long = by n refl
+  pub deeper_long : entries r' ≡ entries r
+  deeper_long = by n refl
     where
       by : (k : ℕ) → n ≡ k → entries r' ≡ entries r
       by zero z = rw (d.none z)
-      by (suc m) z = rw (d.one m z) (put-long r m e (omega (arith, h.few, h.room)))
+      by (suc m) z = rw (d.one m z) (put_long r m e (omega (arith, h.few, h.room)))
 
-  pub deeper-behind : cleared r' ≡ cleared r
-  deeper-behind = by n refl
+  pub deeper_behind : cleared r' ≡ cleared r
+  deeper_behind = by n refl
     where
       by : (k : ℕ) → n ≡ k → cleared r' ≡ cleared r
       by zero z = rw (d.none z)
-      by (suc m) z = rw (d.one m z) (put-cleared r m e (omega (arith, h.few)))
+      by (suc m) z = rw (d.one m z) (put_cleared r m e (omega (arith, h.few)))
 
-  pub deeper-lengths : Lengths r r'
-  deeper-lengths = by n refl
+  pub deeper_lengths : Lengths r r'
+  deeper_lengths = by n refl
     where
       by : (k : ℕ) → n ≡ k → Lengths r r'
-      by zero z = rw (d.none z) (record { opens-same = refl; counts_same = refl; wholes-same = refl; rests-same = refl })
-      by (suc m) z = rw (d.one m z) (put-lengths r m e)
+      by zero z = rw (d.none z) (record { opens_same = refl; counts_same = refl; wholes_same = refl; rests_same = refl })
+      by (suc m) z = rw (d.one m z) (put_lengths r m e)
 
-  deeper-outer : (k : ℕ) → n ≡ k → (j : ℕ) → j < n → Sound (levelAt r' j)
-  deeper-outer zero z j l = absurd (omega arith)
-  deeper-outer (suc m) z j l =
+  deeper_outer : (k : ℕ) → n ≡ k → (j : ℕ) → j < n → Sound (level_at r' j)
+  deeper_outer zero z j l = absurd (omega arith)
+  deeper_outer (suc m) z j l =
       let room : m < entries r = omega (arith, h.few, h.room) in
       rw (d.one m z) (elim (dec_lt j m) [
         | yes g ↦ rw (put_other r m e room j g) (h.outer j (omega arith))
@@ -122,13 +122,13 @@ module _ (n : ℕ) (e : Level) (r r' : Levels) (d : Deeper n e r r') (h : Held n
             rw (k, put_same r m e room (h.inner (omega arith)).fine) (h.inner (omega arith))
       ])
 
-  pub held-deeper : (e' : Level) → n < 16 → Sound e' → Held (suc n) e' r'
-  held-deeper e' l s = record {
+  pub held_deeper : (e' : Level) → n < 16 → Sound e' → Held (suc n) e' r'
+  held_deeper e' l s = record {
     few = omega arith;
-    due_in = s.fine.child-in;
+    due_in = s.fine.child_in;
     inner = λ _. s;
-    outer = λ j g. deeper-outer n refl j (omega arith);
-    room = omega (arith, deeper-long, h.room);
+    outer = λ j g. deeper_outer n refl j (omega arith);
+    room = omega (arith, deeper_long, h.room);
   }
 
   pub held_kept : Held n e r'
@@ -136,94 +136,94 @@ module _ (n : ℕ) (e : Level) (r r' : Levels) (d : Deeper n e r r') (h : Held n
     few = h.few;
     due_in = h.due_in;
     inner = h.inner;
-    outer = λ j l. deeper-outer n refl j (omega arith);
-    room = omega (arith, deeper-long, h.room);
+    outer = λ j l. deeper_outer n refl j (omega arith);
+    room = omega (arith, deeper_long, h.room);
   }
 
-  pub around-same : (F : Format) (T : Lent) (o : Out) → around F T n e r' o ≡ around F T n e r o
-  around-same F T o = by n refl
+  pub around_same : (F : Format) (T : Lent) (o : Out) → around F T n e r' o ≡ around F T n e r o
+  around_same F T o = by n refl
     where
       by : (k : ℕ) → n ≡ k → around F T n e r' o ≡ around F T n e r o
       by zero z = rw (d.none z)
-      by (suc m) z = rw (d.one m z, z) (around-put F T m e r o (omega (arith, h.few, h.room)))
+      by (suc m) z = rw (d.one m z, z) (around_put F T m e r o (omega (arith, h.few, h.room)))
 
 -- ---- down
 -- the innermost node may stand in the room, too
-pub way-kept : {F : Format} {T : Lent} {n₀ : ℕ} {e₀ : Level} {x₀ : Float} {r₀ : Levels} {ws₀ : List ℕ} {ts₀ : List Float} {n : ℕ} {e : Level} {x : Float} {r : Levels} {ws : List ℕ} {ts : List Float}
+pub way_kept : {F : Format} {T : Lent} {n₀ : ℕ} {e₀ : Level} {x₀ : Float} {r₀ : Levels} {ws₀ : List ℕ} {ts₀ : List Float} {n : ℕ} {e : Level} {x : Float} {r : Levels} {ws : List ℕ} {ts : List Float}
     → WayDown F T n₀ e₀ x₀ r₀ ws₀ ts₀ n e x r ws ts → {r' : Levels} → Deeper n e r r' → WayDown F T n₀ e₀ x₀ r₀ ws₀ ts₀ n e x r' ws ts
-way-kept {F} {T} {n₀} {e₀} {x₀} {r₀} {ws₀} {ts₀} {n} {e} {x} {r} {ws} {ts} w {r'} deep =
-    let more = deeper-lengths n e r r' deep w.held in
+way_kept {F} {T} {n₀} {e₀} {x₀} {r₀} {ws₀} {ts₀} {n} {e} {x} {r} {ws} {ts} w {r'} deep =
+    let more = deeper_lengths n e r r' deep w.held in
     record {
-      same = w.same ∙ sym (around-same n e r r' deep w.held F T _);
+      same = w.same ∙ sym (around_same n e r r' deep w.held F T _);
       held = held_kept n e r r' deep w.held;
-      behind = deeper-behind n e r r' deep w.held ∙ w.behind;
+      behind = deeper_behind n e r r' deep w.held ∙ w.behind;
       fuel = w.fuel;
       times_long = w.times_long;
-      opens-long = more.opens-same ∙ w.opens-long;
-      counts-long = more.counts_same ∙ w.counts-long;
-      wholes-long = more.wholes-same ∙ w.wholes-long;
-      rests-long = more.rests-same ∙ w.rests-long;
+      opens_long = more.opens_same ∙ w.opens_long;
+      counts_long = more.counts_same ∙ w.counts_long;
+      wholes_long = more.wholes_same ∙ w.wholes_long;
+      rests_long = more.rests_same ∙ w.rests_long;
     }
 
 module _ {F : Format} {T : Lent} {n₀ : ℕ} {e₀ : Level} {x₀ : Float} {r₀ : Levels} {ws₀ : List ℕ} {ts₀ : List Float} {n : ℕ} {e : Level} {x : Float} {r : Levels} {ws : List ℕ} {ts : List Float}
-    (w : WayDown F T n₀ e₀ x₀ r₀ ws₀ ts₀ n e x r ws ts) {k : Kind} (c : k ≡ kindIn (word_at ws e.child)) where
+    (w : WayDown F T n₀ e₀ x₀ r₀ ws₀ ts₀ n e x r ws ts) {k : Kind} (c : k ≡ kind_in (word_at ws e.child)) where
   abbrev To : Seen → Float → List ℕ → List Float → Type 0
   To s l ws' ts' = Downs F T n₀ e₀ x₀ r₀ ws₀ ts₀ n e s l r ws' ts'
 
   -- a result of the child that is due
   gives : {s : Seen} {l : Float} {ws' : List ℕ} {ts' : List Float} → visiting F T (16 - n) e.child x ws ts ≡ out s l ws' ts'
-      → ((s ≡ Stopped → ⊥) → fuelOf ws' < fuelOf ws) → To s l ws' ts'
+      → ((s ≡ Stopped → ⊥) → fuel_of ws' < fuel_of ws) → To s l ws' ts'
   gives v f = record { same = w.same ∙ ap (around F T n e r) v; held = w.held; behind = w.behind; less = λ g. omega (arith, f g, w.fuel) }
 
-  pub way-leaf : isLeaf k ≡ true → {s : Seen} {l : Float} {ws' : List ℕ} {ts' : List Float} → visitLeaf F T k e.child x ws ts ≡ out s l ws' ts' → To s l ws' ts'
-  way-leaf h {s} {l} {ws'} {ts'} v =
-      gives (down-leaf F T n x e.child ws ts k c (out s l ws' ts') h v) (leaf-less F T k e.child x ws ts w.held.due_in s l ws' ts' v)
+  pub way_leaf : is_leaf k ≡ true → {s : Seen} {l : Float} {ws' : List ℕ} {ts' : List Float} → visit_leaf F T k e.child x ws ts ≡ out s l ws' ts' → To s l ws' ts'
+  way_leaf h {s} {l} {ws'} {ts'} v =
+      gives (down_leaf F T n x e.child ws ts k c (out s l ws' ts') h v) (leaf_less F T k e.child x ws ts w.held.due_in s l ws' ts' v)
 
-  module _ (h : isLeaf k ≡ false) where
-    pub way-spent : fuelOf ws ≡ 0 → To Stopped zeroTime ws ts
-    way-spent z = gives (down-spent F T n x e.child ws ts k c h z) (λ g. absurd (g refl))
+  module _ (h : is_leaf k ≡ false) where
+    pub way_spent : fuel_of ws ≡ 0 → To Stopped zero_time ws ts
+    way_spent z = gives (down_spent F T n x e.child ws ts k c h z) (λ g. absurd (g refl))
 
-    pub way_deep : 16 ≤ n → To Stopped zeroTime ws ts
-    way_deep z = gives (down-deep F T n x e.child ws ts k c h z) (λ g. absurd (g refl))
+    pub way_deep : 16 ≤ n → To Stopped zero_time ws ts
+    way_deep z = gives (down_deep F T n x e.child ws ts k c h z) (λ g. absurd (g refl))
 
-    module _ (d : n < 16) (f : fuelOf ws ≡ 0 → ⊥) (ws₁ : List ℕ) (a : ws₁ ≡ set ws 256 (fuelOf ws - 1)) (t : Turn) (ws₂ : List ℕ) (ts₂ : List Float)
-        (o : (T : Lent) (v : Visitor) → by_kind F T v k e.child x ws₁ ts ≡ goes (resumedBy F T) v t ws₂ ts₂) (g : fuelOf ws₂ ≡ fuelOf ws₁) where
-      abbrev opens-so : by_kind F T (visiting F T (15 - n)) k e.child x ws₁ ts ≡ goes (resumedBy F T) (visiting F T (15 - n)) t ws₂ ts₂
-      opens-so = o T (visiting F T (15 - n))
+    module _ (d : n < 16) (f : fuel_of ws ≡ 0 → ⊥) (ws₁ : List ℕ) (a : ws₁ ≡ set ws 256 (fuel_of ws - 1)) (t : Turn) (ws₂ : List ℕ) (ts₂ : List Float)
+        (o : (T : Lent) (v : Visitor) → by_kind F T v k e.child x ws₁ ts ≡ goes (resumed_by F T) v t ws₂ ts₂) (g : fuel_of ws₂ ≡ fuel_of ws₁) where
+      abbrev opens_so : by_kind F T (visiting F T (15 - n)) k e.child x ws₁ ts ≡ goes (resumed_by F T) (visiting F T (15 - n)) t ws₂ ts₂
+      opens_so = o T (visiting F T (15 - n))
 
-      used : fuelOf ws₂ < fuelOf ws
-      used = omega (arith, g, ap fuelOf a, fuel-used ws f)
+      used : fuel_of ws₂ < fuel_of ws
+      used = omega (arith, g, ap fuel_of a, fuel_used ws f)
 
-      pub way-done : t.due ≡ false → (ws₃ : List ℕ) → ((l : Float) (ts : List Float) → seen e.child (out t.seen l ws₂ ts) ≡ out t.seen l ws₃ ts) → fuelOf ws₃ ≡ fuelOf ws₂
+      pub way_done : t.due ≡ false → (ws₃ : List ℕ) → ((l : Float) (ts : List Float) → seen e.child (out t.seen l ws₂ ts) ≡ out t.seen l ws₃ ts) → fuel_of ws₃ ≡ fuel_of ws₂
           → To t.seen t.left ws₃ ts₂
-      way-done z ws₃ s same = gives (down-done F T n x e.child ws ts k c h d f ws₁ a t ws₂ ts₂ opens-so z ws₃ (s t.left ts₂)) (λ _. omega (arith, same, used))
+      way_done z ws₃ s same = gives (down_done F T n x e.child ws ts k c h d f ws₁ a t ws₂ ts₂ opens_so z ws₃ (s t.left ts₂)) (λ _. omega (arith, same, used))
 
-      pub way-deeper : t.due ≡ true → KeepsSound (enteredLevel k e.child x) t → {r' : Levels} → Deeper n e r r' → length ts₂ ≡ length ts
+      pub way_deeper : t.due ≡ true → KeepsSound (entered_level k e.child x) t → {r' : Levels} → Deeper n e r r' → length ts₂ ≡ length ts
           → WayDown F T n₀ e₀ x₀ r₀ ws₀ ts₀ (n + 1) t.level t.left r' ws₂ ts₂
-      way-deeper z keeps {r'} deep long =
-          let on = down-due F T n x e.child ws ts k c h d f ws₁ a t ws₂ ts₂ opens-so z keeps.node in
-          let more = deeper-lengths n e r r' deep w.held in
+      way_deeper z keeps {r'} deep long =
+          let on = down_due F T n x e.child ws ts k c h d f ws₁ a t ws₂ ts₂ opens_so z keeps.node in
+          let more = deeper_lengths n e r r' deep w.held in
           rw add-one (record {
             same = w.same ∙ ap (around F T n e r) on
-                ∙ around-deeper F T n e t.level r r' _ w.held.few w.held.room (λ l. (w.held.inner l).fine) deep.none deep.one;
-            held = held-deeper n e r r' deep w.held t.level d (keeps.sound z);
-            behind = deeper-behind n e r r' deep w.held ∙ w.behind;
+                ∙ around_deeper F T n e t.level r r' _ w.held.few w.held.room (λ l. (w.held.inner l).fine) deep.none deep.one;
+            held = held_deeper n e r r' deep w.held t.level d (keeps.sound z);
+            behind = deeper_behind n e r r' deep w.held ∙ w.behind;
             fuel = omega (arith, used, w.fuel);
             times_long = long ∙ w.times_long;
-            opens-long = more.opens-same ∙ w.opens-long;
-            counts-long = more.counts_same ∙ w.counts-long;
-            wholes-long = more.wholes-same ∙ w.wholes-long;
-            rests-long = more.rests-same ∙ w.rests-long;
+            opens_long = more.opens_same ∙ w.opens_long;
+            counts_long = more.counts_same ∙ w.counts_long;
+            wholes_long = more.wholes_same ∙ w.wholes_long;
+            rests_long = more.rests_same ∙ w.rests_long;
           })
 
 -- ---- up
 -- a node in an entry has a word
-pub held-placed : {n : ℕ} {e : Level} {r : Levels} → Held n e r → (j : ℕ) → j < n - 1 → nodeAs (get_or r.opens j 0) < 256
-unfolding levelAt
-held-placed h j l = let fine = (h.outer j l).fine in omega (arith, fine.node_in, fine.child-in)
+pub held_placed : {n : ℕ} {e : Level} {r : Levels} → Held n e r → (j : ℕ) → j < n - 1 → node_as (get_or r.opens j 0) < 256
+unfolding level_at
+held_placed h j l = let fine = (h.outer j l).fine in omega (arith, fine.node_in, fine.child_in)
 
 -- the innermost is done, and decorators around it
-pub held_out : (n m : ℕ) (e e' : Level) (r : Levels) → Held n e r → m < n → (0 < m → e' ≡ levelAt r (m - 1)) → (m ≤ 0 → e' ≡ e) → Held m e' r
+pub held_out : (n m : ℕ) (e e' : Level) (r : Levels) → Held n e r → m < n → (0 < m → e' ≡ level_at r (m - 1)) → (m ≤ 0 → e' ≡ e) → Held m e' r
 held_out n m e e' r h d p q = record {
   few = omega (arith, h.few);
   due_in = in_place;
@@ -234,7 +234,7 @@ held_out n m e e' r h d p q = record {
   where
     in_place : e'.child < 256
     in_place = elim (dec_lt 0 m) [
-      | yes l ↦ rw (p l) (h.outer (m - 1) (omega arith)).fine.child-in
+      | yes l ↦ rw (p l) (h.outer (m - 1) (omega arith)).fine.child_in
       | no l ↦ rw (q (omega arith)) h.due_in
     ]
 
@@ -242,44 +242,44 @@ module _ {F : Format} {T : Lent}
     {n₀ : ℕ} {e₀ : Level} {s₀ : Seen} {l₀ : Float} {r : Levels} {ws₀ : List ℕ} {ts₀ : List Float} {n : ℕ} {e : Level} {s : Seen} {l : Float} {ws : List ℕ} {ts : List Float}
     (w : WayUp F T n₀ e₀ s₀ l₀ r ws₀ ts₀ n e s l ws ts) where
   -- the walk has stopped, or no node is open
-  pub way-stopped : s ≡ Stopped → Ups F T r n₀ e₀ s₀ l₀ ws₀ ts₀ false n e s l ws ts
-  way-stopped z = record {
-    on = λ d. absurd (not-due d);
-    over = λ _. w.same ∙ around-stopped F T n e r s l ws ts z;
-    held = λ d. absurd (not-due d);
-    going = λ d. absurd (not-due d);
+  pub way_stopped : s ≡ Stopped → Ups F T r n₀ e₀ s₀ l₀ ws₀ ts₀ false n e s l ws ts
+  way_stopped z = record {
+    on = λ d. absurd (not_due d);
+    over = λ _. w.same ∙ around_stopped F T n e r s l ws ts z;
+    held = λ d. absurd (not_due d);
+    going = λ d. absurd (not_due d);
     fuel = w.fuel;
   }
 
-  pub way-over : n ≤ 0 → Ups F T r n₀ e₀ s₀ l₀ ws₀ ts₀ false n e s l ws ts
-  way-over z = record {
-    on = λ d. absurd (not-due d);
-    over = λ _. w.same ∙ around-none F T n e r (out s l ws ts) z;
-    held = λ d. absurd (not-due d);
-    going = λ d. absurd (not-due d);
+  pub way_over : n ≤ 0 → Ups F T r n₀ e₀ s₀ l₀ ws₀ ts₀ false n e s l ws ts
+  way_over z = record {
+    on = λ d. absurd (not_due d);
+    over = λ _. w.same ∙ around_none F T n e r (out s l ws ts) z;
+    held = λ d. absurd (not_due d);
+    going = λ d. absurd (not_due d);
     fuel = w.fuel;
   }
 
   module _ (some : 0 < n) (going : s ≡ Stopped → ⊥) (t : Turn) (ws₁ : List ℕ) (ts₁ : List Float)
       (o : (a : List ℕ) (b : List Float) (tk : Visitor) → let U = lent T.limits a b in let v = visit F U tk in
-      resumedBy F U v e (out s l ws ts) ≡ goes (resumedBy F U) v t ws₁ ts₁)
-      (keeps : KeepsSound e t) (g : fuelOf ws₁ ≤ fuelOf ws) where
+      resumed_by F U v e (out s l ws ts) ≡ goes (resumed_by F U) v t ws₁ ts₁)
+      (keeps : KeepsSound e t) (g : fuel_of ws₁ ≤ fuel_of ws) where
     abbrev m : ℕ
     m = n - 1
 
-    suc-m : n ≡ suc m
-    suc-m = omega arith
+    suc_m : n ≡ suc m
+    suc_m = omega arith
 
-    abbrev goes_so : resumedBy F T (visiting F T (15 - m)) e (out s l ws ts) ≡ goes (resumedBy F T) (visiting F T (15 - m)) t ws₁ ts₁
+    abbrev goes_so : resumed_by F T (visiting F T (15 - m)) e (out s l ws ts) ≡ goes (resumed_by F T) (visiting F T (15 - m)) t ws₁ ts₁
     goes_so = o T.statuses T.leftovers (tick F T (15 - m))
 
-    pub way-due : t.due ≡ true → Ups F T r n₀ e₀ s₀ l₀ ws₀ ts₀ true n t.level s t.left ws₁ ts₁
-    way-due z = record {
+    pub way_due : t.due ≡ true → Ups F T r n₀ e₀ s₀ l₀ ws₀ ts₀ true n t.level s t.left ws₁ ts₁
+    way_due z = record {
       on = λ _. w.same ∙ turned_up;
-      over = λ d. absurd (not-due (sym d));
+      over = λ d. absurd (not_due (sym d));
       held = λ _. record {
         few = w.held.few;
-        due_in = (keeps.sound z).fine.child-in;
+        due_in = (keeps.sound z).fine.child_in;
         inner = λ _. keeps.sound z;
         outer = w.held.outer;
         room = w.held.room;
@@ -289,56 +289,56 @@ module _ {F : Format} {T : Lent}
     }
       where
         turned_up : around F T n e r (out s l ws ts) ≡ around F T n t.level r (visiting F T (16 - n) t.level.child t.left ws₁ ts₁)
-        turned_up = rw suc-m (up-due F T m e r (out s l ws ts) t ws₁ ts₁ goes_so keeps.node z)
+        turned_up = rw suc_m (up_due F T m e r (out s l ws ts) t ws₁ ts₁ goes_so keeps.node z)
 
-    pub way_up : t.due ≡ false → (ws₂ : List ℕ) → ((l : Float) (ts : List Float) → seen e.node (out t.seen l ws₁ ts) ≡ out t.seen l ws₂ ts) → fuelOf ws₂ ≡ fuelOf ws₁
+    pub way_up : t.due ≡ false → (ws₂ : List ℕ) → ((l : Float) (ts : List Float) → seen e.node (out t.seen l ws₁ ts) ≡ out t.seen l ws₂ ts) → fuel_of ws₂ ≡ fuel_of ws₁
         → {n' : ℕ} {s' : Seen} {l' : Float} {ws₃ : List ℕ} {ts₃ : List Float} → Closes F T.limits r.opens r.wholes m t.seen t.left ws₂ ts₁ n' s' l' ws₃ ts₃
-        → length ts₃ ≡ length ts → {e' : Level} → (0 < n' → e' ≡ levelAt r (n' - 1)) → (n' ≤ 0 → e' ≡ e)
+        → length ts₃ ≡ length ts → {e' : Level} → (0 < n' → e' ≡ level_at r (n' - 1)) → (n' ≤ 0 → e' ≡ e)
         → WayUp F T n₀ e₀ s₀ l₀ r ws₀ ts₀ n' e' s' l' ws₃ ts₃
     way_up z ws₂ shown same {n'} {s'} {l'} {ws₃} {ts₃} closed long {e'} p q = record {
-      same = w.same ∙ turned_up ∙ closed.same T.statuses r.counts T.leftovers r.rests ∙ around-kept F T n' e' r (out s' l' ws₃ ts₃) inside;
+      same = w.same ∙ turned_up ∙ closed.same T.statuses r.counts T.leftovers r.rests ∙ around_kept F T n' e' r (out s' l' ws₃ ts₃) inside;
       held = held_out n n' e e' r w.held (omega (arith, closed.few)) p q;
       fuel = omega (arith, closed.fuel, same, g, w.fuel);
       going = λ d. absurd (going (w.going d));
       times_long = long ∙ w.times_long;
     }
       where
-        inside : (j : ℕ) → n' ≡ suc j → e' ≡ levelAt r j
+        inside : (j : ℕ) → n' ≡ suc j → e' ≡ level_at r j
         inside j d = let k : n' - 1 ≡ j = omega arith in rw k at (p (omega arith))
 
         turned_up : around F T n e r (out s l ws ts) ≡ through F T m r (out t.seen t.left ws₂ ts₁)
-        turned_up = subst (λ (k : ℕ). around F T k e r (out s l ws ts) ≡ through F T m r (out t.seen t.left ws₂ ts₁)) (sym suc-m)
+        turned_up = subst (λ (k : ℕ). around F T k e r (out s l ws ts) ≡ through F T m r (out t.seen t.left ws₂ ts₁)) (sym suc_m)
             (up_done F T m e r (out s l ws ts) t ws₁ ts₁ goes_so keeps.node z ws₂ (shown t.left ts₁))
 
 -- ---- round: down to a result, and up to where a child is due or to the end
 module _ {F : Format} {T : Lent} {n₀ : ℕ} {e₀ : Level} {x₀ : Float} {r₀ : Levels} {ws₀ : List ℕ} {ts₀ : List Float} {n : ℕ} {e : Level} {x : Float} {r : Levels} {ws : List ℕ} {ts : List Float}
     {n₁ : ℕ} {e₁ : Level} {s₁ : Seen} {l₁ : Float} {r₁ : Levels} {ws₁ : List ℕ} {ts₁ : List Float} {due : Bool} {n₂ : ℕ} {e₂ : Level} {s₂ : Seen} {l₂ : Float} {ws₂ : List ℕ} {ts₂ : List Float}
     (w : WayDown F T n₀ e₀ x₀ r₀ ws₀ ts₀ n e x r ws ts) (d : Downs F T n e x r ws ts n₁ e₁ s₁ l₁ r₁ ws₁ ts₁) (u : Ups F T r₁ n₁ e₁ s₁ l₁ ws₁ ts₁ due n₂ e₂ s₂ l₂ ws₂ ts₂) where
-  pub round-over : due ≡ false → due_at F T n₀ e₀ x₀ r₀ ws₀ ts₀ ≡ out s₂ l₂ ws₂ ts₂
-  round-over z = w.same ∙ d.same ∙ u.over z
+  pub round_over : due ≡ false → due_at F T n₀ e₀ x₀ r₀ ws₀ ts₀ ≡ out s₂ l₂ ws₂ ts₂
+  round_over z = w.same ∙ d.same ∙ u.over z
 
-  pub round-behind : cleared r₁ ≡ cleared r₀
-  round-behind = d.behind ∙ w.behind
+  pub round_behind : cleared r₁ ≡ cleared r₀
+  round_behind = d.behind ∙ w.behind
 
-  pub round-less : due ≡ true → fuelOf ws₂ < fuelOf ws
-  round-less z = omega (arith, u.fuel, d.less (u.going z))
+  pub round_less : due ≡ true → fuel_of ws₂ < fuel_of ws
+  round_less z = omega (arith, u.fuel, d.less (u.going z))
 
-  pub round-on : due ≡ true → length ts₂ ≡ length ts → Lengths r r₁ → WayDown F T n₀ e₀ x₀ r₀ ws₀ ts₀ n₂ e₂ l₂ r₁ ws₂ ts₂
-  round-on z long same = record {
+  pub round_on : due ≡ true → length ts₂ ≡ length ts → Lengths r r₁ → WayDown F T n₀ e₀ x₀ r₀ ws₀ ts₀ n₂ e₂ l₂ r₁ ws₂ ts₂
+  round_on z long same = record {
     same = w.same ∙ d.same ∙ u.on z;
     held = u.held z;
-    behind = round-behind;
-    fuel = omega (arith, round-less z, w.fuel);
+    behind = round_behind;
+    fuel = omega (arith, round_less z, w.fuel);
     times_long = long ∙ w.times_long;
-    opens-long = same.opens-same ∙ w.opens-long;
-    counts-long = same.counts_same ∙ w.counts-long;
-    wholes-long = same.wholes-same ∙ w.wholes-long;
-    rests-long = same.rests-same ∙ w.rests-long;
+    opens_long = same.opens_same ∙ w.opens_long;
+    counts_long = same.counts_same ∙ w.counts_long;
+    wholes_long = same.wholes_same ∙ w.wholes_long;
+    rests_long = same.rests_same ∙ w.rests_long;
   }
 
 -- the root is due, with no node open
-pub root-due : (F : Format) (T : Lent) (e : Level) (x : Float) (r : Levels) (ws : List ℕ) (ts : List Float) → e.child ≡ 0 → tick F T 16 0 x ws ts ≡ due_at F T 0 e x r ws ts
-root-due F T e x r ws ts z = rw z (visit-root F T x ws ts)
+pub root_due : (F : Format) (T : Lent) (e : Level) (x : Float) (r : Levels) (ws : List ℕ) (ts : List Float) → e.child ≡ 0 → tick F T 16 0 x ws ts ≡ due_at F T 0 e x r ws ts
+root_due F T e x r ws ts z = rw z (visit_root F T x ws ts)
 
-pub root-held : (e : Level) (r : Levels) → e.child ≡ 0 → 16 ≤ entries r → Held 0 e r
-root-held e r z long = record { few = omega arith; due_in = omega arith; inner = λ h. absurd (omega arith); outer = λ j h. absurd (omega arith); room = long }
+pub root_held : (e : Level) (r : Levels) → e.child ≡ 0 → 16 ≤ entries r → Held 0 e r
+root_held e r z long = record { few = omega arith; due_in = omega arith; inner = λ h. absurd (omega arith); outer = λ j h. absurd (omega arith); room = long }

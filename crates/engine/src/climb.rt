@@ -2,11 +2,11 @@
 ghost use Rattle.std.specs.Prelude.{◌≡◌, List, ◌<◌, ◌≤◌, Float};
 ghost use Rattle.std.specs.Float.{binary64};
 ghost use Rattle.rules.specs.Levels.{levels, entries, cleared};
-ghost use Rattle.work.specs.Array.{fuelOf};
+ghost use Rattle.work.specs.Array.{fuel_of};
 ghost use Rattle.work.specs.Flat.{out, lent, tick};
 ghost use Rattle.work.specs.Flat as flat;
 ghost use Rattle.engine.specs.Stands.{Held};
-ghost use Rattle.engine.specs.Climbs.{Downs, Ups, stoppedAt};
+ghost use Rattle.engine.specs.Climbs.{Downs, Ups, stopped_at};
 
 use crate::decorators::{close_decorators, decorating, open_decorators};
 use crate::room::{keep, kept};
@@ -27,7 +27,7 @@ pub struct Stand {
 }
 
 fn stopped_at(deep: usize, level: Level) -> Stand
-    ensures { result ≡ stoppedAt deep level }
+    ensures { result ≡ stopped_at deep level }
 {
     Stand {
         due: false,
@@ -42,7 +42,7 @@ fn stopped_at(deep: usize, level: Level) -> Stand
 pub fn show(work: &mut [u32; 260], p: usize, seen: Seen)
     requires { p < 256 }
     ensures ts_value { (l : Float) (ts : List Float) → flat.seen p (out seen l work.old ts) ≡ out seen l work.new ts }
-    ensures work_unchanged { fuelOf work.new ≡ fuelOf work.old }
+    ensures work_unchanged { fuel_of work.new ≡ fuel_of work.old }
 {
     if let Seen::Stopped = seen {
         return;

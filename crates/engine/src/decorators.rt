@@ -3,8 +3,8 @@
 ghost use Rattle.std.specs.Prelude.{◌≡◌, true, ℕ, ◌<◌, ◌≤◌, length, get_or};
 ghost use Rattle.std.specs.Float.{binary64};
 ghost use Rattle.rules.specs.Levels.{levels};
-ghost use Rattle.engine.specs.Stands.{nodeAs, decoratorLevel, Held};
-ghost use Rattle.engine.specs.Climbs.{Next, decoratorAt, Opens, Closes};
+ghost use Rattle.engine.specs.Stands.{node_as, decorator_level, Held};
+ghost use Rattle.engine.specs.Climbs.{Next, decorator_at, Opens, Closes};
 
 use crate::climb::show;
 use crate::room::{keep, kind_in, node_in};
@@ -16,7 +16,7 @@ use work::{FUEL, Result, Seen, decorates, kind_of};
 // A decorator that is open: its only child is due.
 pub fn decorating(kind: Kind, p: usize, dt: f64) -> Level
     requires { p < 255 }
-    ensures { result ≡ decoratorLevel kind p dt }
+    ensures { result ≡ decorator_level kind p dt }
 {
     let mut level = entered(kind, p, dt);
     level.child = p + 1;
@@ -53,7 +53,7 @@ pub fn open_decorators(
 ) -> usize
     requires p_bound { p < 255 }
     requires deep_nonzero { 0 < deep }
-    requires held { Held deep (decoratorAt work.old p dt) (levels opens.old counts.old wholes.old rests.old) }
+    requires held { Held deep (decorator_at work.old p dt) (levels opens.old counts.old wholes.old rests.old) }
     ensures { Opens binary64 deep p dt (levels opens.old counts.old wholes.old rests.old) work.old
         result (levels opens.new counts.new wholes.new rests.new) work.new }
 {
@@ -91,7 +91,7 @@ pub fn close_decorators(
     res: Result,
 ) -> Closed
     requires deep_bound { (deep ≤ 16) × (deep ≤ length opens.now) × (deep ≤ length wholes.now) }
-    requires by_index { (j : ℕ) → j < deep → nodeAs (get_or opens.now j 0) < 256 }
+    requires by_index { (j : ℕ) → j < deep → node_as (get_or opens.now j 0) < 256 }
     ensures { Closes binary64 limits.now.now opens.now wholes.now
         deep res.seen res.left work.old times.old
         result.deep result.seen result.left work.new times.new }

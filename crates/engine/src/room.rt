@@ -3,7 +3,7 @@
 ghost use Rattle.std.specs.Prelude.{◌≡◌, ◌≤◌, ◌<◌};
 ghost use Rattle.rules.specs.Levels.{levels, entries, cleared};
 ghost use Rattle.turns.specs.Levels.{Fine};
-ghost use Rattle.engine.specs.Stands.{packedIn, kindAs, nodeAs, unpackedFrom, levelAt, put_at};
+ghost use Rattle.engine.specs.Stands.{packed_in, kind_as, node_as, unpacked_from, level_at, put_at};
 
 use cells::{clear_counts, clear_opens, clear_times};
 use rules::Kind;
@@ -29,7 +29,7 @@ fn wide(x: usize) -> u64
 
 fn packed(level: Level) -> u64
     requires { Fine level }
-    ensures { result ≡ packedIn level }
+    ensures { result ≡ packed_in level }
 {
     let kind = level.kind;
     let stop = wide(level.stop) + 512 * level.index as u64;
@@ -40,20 +40,20 @@ fn packed(level: Level) -> u64
 }
 
 pub fn kind_in(x: u64) -> Kind
-    ensures { result ≡ kindAs x }
+    ensures { result ≡ kind_as x }
 {
     Kind::of((x % 256) as u8)
 }
 
 pub fn node_in(x: u64) -> usize
-    ensures { result ≡ nodeAs x }
+    ensures { result ≡ node_as x }
 {
     (x / 256 % 512) as usize
 }
 
 // The level that was packed into x, with its count and times.
 fn unpacked(x: u64, count: u32, whole: f64, rest: f64) -> Level
-    ensures { result ≡ unpackedFrom x count whole rest }
+    ensures { result ≡ unpacked_from x count whole rest }
 {
     let child = x / 256 / 512;
     let next = child / 512;
@@ -93,7 +93,7 @@ pub fn keep(
 
 pub fn kept(opens: &[u64], counts: &[u32], wholes: &[f64], rests: &[f64], at: usize) -> Level
     requires { at < entries (levels opens.now counts.now wholes.now rests.now) }
-    ensures { result ≡ levelAt (levels opens.now counts.now wholes.now rests.now) at }
+    ensures { result ≡ level_at (levels opens.now counts.now wholes.now rests.now) at }
 {
     unpacked(opens[at], counts[at], wholes[at], rests[at])
 }

@@ -1,7 +1,7 @@
 // The refusals of an exchange, in document 02's order.
 ghost use Rattle.std.specs.Prelude.{◌≡◌, length};
 ghost use Rattle.rules.specs.Call.{run};
-ghost use Rattle.rules.specs.Exchange.{Room, roomLength, givenExchange};
+ghost use Rattle.rules.specs.Exchange.{Room, room_length, given_exchange};
 ghost use Rattle.exchange.specs.Due.{Due, Passed, Planned};
 
 use branch::write::Cut;
@@ -42,7 +42,7 @@ fn checks(
     new_ends: &mut [u16; 256],
 ) -> Gate
     requires { (length ends.old ≡ 256) × (length new_ends.old ≡ 256) }
-    ensures { (to : Room) → Passed (givenExchange «record» kinds.now ns.now limits.now
+    ensures { (to : Room) → Passed (given_exchange «record» kinds.now ns.now limits.now
         (run times.now places.now marks.now sinces.now) at
         new_kinds.now new_ns.now new_limits.now to) ends.new new_ends.new result }
 {
@@ -85,7 +85,7 @@ pub fn planned(
     new_limits: &[f64],
     room: usize,
 ) -> Plan
-    ensures { (to : Room) → roomLength to ≡ room → Planned (givenExchange «record» kinds.now ns.now limits.now
+    ensures { (to : Room) → room_length to ≡ room → Planned (given_exchange «record» kinds.now ns.now limits.now
         (run times.now places.now marks.now sinces.now) at
         new_kinds.now new_ns.now new_limits.now to) result }
 {

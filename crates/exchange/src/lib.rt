@@ -3,7 +3,7 @@ mod gate;
 
 ghost use Rattle.std.specs.Prelude.{◌≡◌};
 ghost use Rattle.rules.specs.Call.{run};
-ghost use Rattle.rules.specs.Exchange.{room, givenExchange, leftExchange, exchangeCall};
+ghost use Rattle.rules.specs.Exchange.{room, given_exchange, left_exchange, exchange_call};
 
 use branch::write::write;
 use gate::{Plan, planned};
@@ -32,12 +32,12 @@ pub fn exchange(
     room_marks: &mut [u8],
     room_sinces: &mut [u64],
 ) -> Exchanged
-    ensures { exchangeCall (givenExchange «record» kinds.now ns.now limits.now
+    ensures { exchange_call (given_exchange «record» kinds.now ns.now limits.now
         (run times.now places.now marks.now sinces.now) at
         new_kinds.now new_ns.now new_limits.now
         (room room_kinds.old room_ns.old room_limits.old room_times.old room_places.old
         room_marks.old room_sinces.old))
-        ≡ leftExchange result (room room_kinds.new room_ns.new room_limits.new room_times.new
+        ≡ left_exchange result (room room_kinds.new room_ns.new room_limits.new room_times.new
         room_places.new room_marks.new room_sinces.new) }
 {
     let cells = least(

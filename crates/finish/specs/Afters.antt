@@ -7,17 +7,17 @@ use Rattle.std.specs.Float.{Format}
 use Rattle.std.specs.Float.Ieee.{lt}
 use Rattle.rules.specs.declared.status.Status.TheVariants.{Running, Success, Failure}
 use Rattle.rules.specs.declared.event.Event.{Event}
-use Rattle.rules.specs.Tree.{zeroTime, Tree, Forest, [], ◌∷◌}
+use Rattle.rules.specs.Tree.{zero_time, Tree, Forest, [], ◌∷◌}
 use Rattle.rules.specs.Outcome.{dt, World, Out, done, Ticker, ◌▸◌, largest}
-use Rattle.rules.specs.WhenAll.{afterFrom, after_at}
+use Rattle.rules.specs.WhenAll.{after_from, after_at}
 use Rattle.rules.specs.Bound.{num}
-use Rattle.floats.specs.Times.{W, smaller-W, zero-W}
+use Rattle.floats.specs.Times.{W, smaller_W, zero_W}
 use Rattle.laws.specs.Shape.{shapes}
 use Rattle.finish.specs.Shaped.{Shapeds}
 use Rattle.laws.specs.Pair.{Pairing, stay, after, either}
 use Rattle.finish.specs.Enough.{Still, StillAll, StillFrom}
 use Rattle.finish.specs.Valid.{ValidAll, ValidFrom}
-use Rattle.finish.specs.Post.{WEvent, Claim, ticking, TickQ, Holds, claim-map, Good}
+use Rattle.finish.specs.Post.{WEvent, Claim, ticking, TickQ, Holds, claim_map, Good}
 use Rattle.finish.specs.Whens.{pos_of}
 
 module _ (F : Format) (d : ℕ) where
@@ -38,14 +38,14 @@ module _ (F : Format) (d : ℕ) where
   LeastAt true least (t ∷ ts) = W F least ⊎ (least ≡ (largest F))
   LeastAt false least (t ∷ ts) = W F least
 
-  least-W : (nx : Bool) (least : Float) (ts : Forest) → W F least → LeastAt nx least ts
-  least-W nx least [] h = h
-  least-W true least (t ∷ ts) h = inl h
-  least-W false least (t ∷ ts) h = h
+  least_W : (nx : Bool) (least : Float) (ts : Forest) → W F least → LeastAt nx least ts
+  least_W nx least [] h = h
+  least_W true least (t ∷ ts) h = inl h
+  least_W false least (t ∷ ts) h = h
 
-  least-or : (nx : Bool) (least : Float) (t : Tree) (ts : Forest) → LeastAt nx least (t ∷ ts) → W F least ⊎ (least ≡ (largest F))
-  least-or true least t ts h = h
-  least-or false least t ts h = inl h
+  least_or : (nx : Bool) (least : Float) (t : Tree) (ts : Forest) → LeastAt nx least (t ∷ ts) → W F least ⊎ (least ≡ (largest F))
+  least_or true least t ts h = h
+  least_or false least t ts h = inl h
 
   abbrev pub FromC : Event → ℕ × Forest → Claim (ℕ × Forest)
   FromC e x = ticking F d (λ (y : ℕ × Forest). (ValidFrom F) y.1 y.0) (λ (y : ℕ × Forest). StillFrom d y.1 y.0) e x
@@ -53,33 +53,33 @@ module _ (F : Format) (d : ℕ) where
   module _ (R : Pairing F) (child : Ticker) (g : Good R d child) where
     after_run : {p : R.Worlds} {o : World → Out (ℕ × Forest)} (e : Event) (nx : Bool) (t t' : Tree) (ts : Forest) (r : Float) → TickQ F d e t Running r t' → Holds R (AfterC e false ts) p o
         → Holds R (AfterC e nx (t ∷ ts)) p (λ w. o w ▸ λ s'' r'' x w''. done s'' r'' (0, t' ∷ x.1) w'')
-    after_run e true t t' ts r q h = claim-map R (λ x. (0, t' ∷ x.1))
+    after_run e true t t' ts r q h = claim_map R (λ x. (0, t' ∷ x.1))
         (λ x v dn. ((q.1.0, v), λ full j y. let z : Still d t' j = q.1.1 full j y.0 in (z, dn full j (pos_of F d t' j z) y.1))) h
     after_run e false t t' ts r q h =
-        claim-map R (λ x. (0, t' ∷ x.1)) (λ x v dn. ((q.1.0, v), λ full j k y. (q.1.1 full j y.0, dn full j k y.1))) h
+        claim_map R (λ x. (0, t' ∷ x.1)) (λ x v dn. ((q.1.0, v), λ full j k y. (q.1.1 full j y.0, dn full j k y.1))) h
 
-    after-from : (e : Event) (nx : Bool) (least : Float) (ts : Forest) (p : R.Worlds) → Shapeds F (shapes ts) → ValidAll F ts → LeastAt nx least ts → WEvent F e
-        → Holds R (AfterC e nx ts) p (λ w. afterFrom child e nx least ts w)
-    unfolding afterFrom
-    after-from e true least [] p s v lo ev = stay R lo
-    after-from e false least [] p s v lo ev = stay R (tt, λ full j k y. k)
-    after-from e true least (t ∷ ts) p s v lo ev = after R (g t e p s.0 v.0 ev) λ s'. elim s' [
-      | Running ↦ λ r t' p' q. after_run e true t t' ts r q (after-from e false zeroTime ts p' s.1 v.1 (least-W false zeroTime ts (zero-W F)) ev)
+    after_from_lem : (e : Event) (nx : Bool) (least : Float) (ts : Forest) (p : R.Worlds) → Shapeds F (shapes ts) → ValidAll F ts → LeastAt nx least ts → WEvent F e
+        → Holds R (AfterC e nx ts) p (λ w. after_from child e nx least ts w)
+    unfolding after_from
+    after_from_lem e true least [] p s v lo ev = stay R lo
+    after_from_lem e false least [] p s v lo ev = stay R (tt, λ full j k y. k)
+    after_from_lem e true least (t ∷ ts) p s v lo ev = after R (g t e p s.0 v.0 ev) λ s'. elim s' [
+      | Running ↦ λ r t' p' q. after_run e true t t' ts r q (after_from_lem e false zero_time ts p' s.1 v.1 (least_W false zero_time ts (zero_W F)) ev)
       | Success ↦ λ r t' p' q. either R (lt r least)
-          (λ u. claim-map R (λ x. (suc x.0, t' ∷ x.1)) (λ x v dn. (v, λ full j y. dn full j y.1))
-          (after-from e true r ts p' s.1 v.1 (least-W true r ts q.1) ev))
-          (λ u. stay R (smaller-W F least r q.1 lo))
+          (λ u. claim_map R (λ x. (suc x.0, t' ∷ x.1)) (λ x v dn. (v, λ full j y. dn full j y.1))
+          (after_from_lem e true r ts p' s.1 v.1 (least_W true r ts q.1) ev))
+          (λ u. stay R (smaller_W F least r q.1 lo))
       | Failure ↦ λ r t' p' q. stay R q.1
     ]
-    after-from e false least (t ∷ ts) p s v lo ev = after R (g t e p s.0 v.0 ev) λ s'. elim s' [
-      | Running ↦ λ r t' p' q. after_run e false t t' ts r q (after-from e false zeroTime ts p' s.1 v.1 (least-W false zeroTime ts (zero-W F)) ev)
-      | Success ↦ λ r t' p' q. stay R (smaller-W F least r q.1 (inl lo))
+    after_from_lem e false least (t ∷ ts) p s v lo ev = after R (g t e p s.0 v.0 ev) λ s'. elim s' [
+      | Running ↦ λ r t' p' q. after_run e false t t' ts r q (after_from_lem e false zero_time ts p' s.1 v.1 (least_W false zero_time ts (zero_W F)) ev)
+      | Success ↦ λ r t' p' q. stay R (smaller_W F least r q.1 (inl lo))
       | Failure ↦ λ r t' p' q. stay R q.1
     ]
 
-    pub after-good : (e : Event) (ts : Forest) (n : ℕ) (p : R.Worlds) → Shapeds F (shapes ts) → ValidFrom F ts n → WEvent F e
+    pub after_good : (e : Event) (ts : Forest) (n : ℕ) (p : R.Worlds) → Shapeds F (shapes ts) → ValidFrom F ts n → WEvent F e
         → Holds R (FromC e (n, ts)) p (λ w. after_at child (largest F) n e ts w)
     unfolding after_at
-    after-good e [] n p s v ev = absurd v
-    after-good e (t ∷ ts) zero p s v ev = after-from e true (largest F) (t ∷ ts) p s v (inr refl) ev
-    after-good e (t ∷ ts) (suc n) p s v ev = claim-map R (λ x. (suc x.0, t ∷ x.1)) (λ x u dn. (u, dn)) (after-good e ts n p s.1 v ev)
+    after_good e [] n p s v ev = absurd v
+    after_good e (t ∷ ts) zero p s v ev = after_from_lem e true (largest F) (t ∷ ts) p s v (inr refl) ev
+    after_good e (t ∷ ts) (suc n) p s v ev = claim_map R (λ x. (suc x.0, t ∷ x.1)) (λ x u dn. (u, dn)) (after_good e ts n p s.1 v ev)

@@ -9,28 +9,28 @@ use Rattle.rules.specs.declared.answer.BoundAnswer.{BoundAnswer}
 use Rattle.rules.specs.declared.answer.BoundAnswer.TheVariants as says
 use Rattle.rules.specs.Tree.{Tree}
 use Rattle.rules.specs.Table.{Table, good, bad, table}
-use Rattle.rules.specs.Bound.{num, Lim, never, within, bound, boundable, stepAllowed, mostTicks, told, boundCall}
+use Rattle.rules.specs.Bound.{num, Lim, never, within, bound, boundable, step_allowed, most_ticks, told, bound_call}
 
 module _ (F : Format) (kinds ns : List ℕ) (limits : List Float) (t : Tree) (step : Float) where
   -- N is told; or "above" is told, and N is the number that the rule of the bound gives
   pub data FinishBound (N : ℕ) : Type 0 where
-    is-told : boundCall F kinds ns limits step ≡ says.Within N → FinishBound N
-    is-above : boundCall F kinds ns limits step ≡ says.Above → bound (num step) t ≡ within N → FinishBound N
+    is_told : bound_call F kinds ns limits step ≡ says.Within N → FinishBound N
+    is_above : bound_call F kinds ns limits step ≡ says.Above → bound (num step) t ≡ within N → FinishBound N
 
 -- ---- what an answer says of the bound
-told-within : (l : Lim) (N : ℕ) → told l ≡ says.Within N → l ≡ within N
-told-within never N q = cc
-told-within (within n) N q = on (leb n mostTicks) q
+told_within : (l : Lim) (N : ℕ) → told l ≡ says.Within N → l ≡ within N
+told_within never N q = cc
+told_within (within n) N q = on (leb n most_ticks) q
   where
     on : (b : Bool) → cond b (says.Within n) says.Above ≡ says.Within N → within n ≡ within N
     on true p = cc
     on false p = cc
 
-told-above : (l : Lim) → told l ≡ says.Above → (N : ℕ) × (mostTicks < N) × (l ≡ within N)
-told-above never q = let z : ◌≡◌ {A = ℕ} 0 1 = cc in absurd (omega arith)
-told-above (within n) q = on (leb n mostTicks) (leb-false n mostTicks) q
+told_above : (l : Lim) → told l ≡ says.Above → (N : ℕ) × (most_ticks < N) × (l ≡ within N)
+told_above never q = let z : ◌≡◌ {A = ℕ} 0 1 = cc in absurd (omega arith)
+told_above (within n) q = on (leb n most_ticks) (leb-false n most_ticks) q
   where
-    on : (b : Bool) → (b ≡ false → mostTicks < n) → cond b (says.Within n) says.Above ≡ says.Above → (N : ℕ) × (mostTicks < N) × (within n ≡ within N)
+    on : (b : Bool) → (b ≡ false → most_ticks < n) → cond b (says.Within n) says.Above ≡ says.Above → (N : ℕ) × (most_ticks < N) × (within n ≡ within N)
     on true f p = let z : ◌≡◌ {A = ℕ} 0 1 = cc in absurd (omega arith)
     on false f p = (n, f refl, refl)
 
@@ -38,35 +38,35 @@ module _ (F : Format) (kinds ns : List ℕ) (limits : List Float) (t : Tree) (e 
   -- the call refuses the step or a limit; or it tells the bound
   data BoundView : BoundAnswer → Type 0 where
     refusing : BoundView says.NoBound
-    telling : T (stepAllowed F step) → T (boundable F t) → BoundView (told (bound (num step) t))
+    telling : T (step_allowed F step) → T (boundable F t) → BoundView (told (bound (num step) t))
 
-  by-test : (b : Bool) → (T b → T (stepAllowed F step && boundable F t)) → BoundView (cond b (told (bound (num step) t)) says.NoBound)
-  by-test true f = telling (and_l (stepAllowed F step) (boundable F t) (f tt)) (and_r (stepAllowed F step) (boundable F t) (f tt))
-  by-test false f = refusing
+  by_test : (b : Bool) → (T b → T (step_allowed F step && boundable F t)) → BoundView (cond b (told (bound (num step) t)) says.NoBound)
+  by_test true f = telling (and_l (step_allowed F step) (boundable F t) (f tt)) (and_r (step_allowed F step) (boundable F t) (f tt))
+  by_test false f = refusing
 
-  bound-view : BoundView (boundCall F kinds ns limits step)
-  unfolding boundCall
-  bound-view = subst (λ (o : Table). BoundView (elim o [
+  bound_view : BoundView (bound_call F kinds ns limits step)
+  unfolding bound_call
+  bound_view = subst (λ (o : Table). BoundView (elim o [
     | bad p ↦ says.BadTable p
-    | good u ↦ cond (stepAllowed F step && boundable F u) (told (bound (num step) u)) says.NoBound
-  ])) (sym e) (by-test (stepAllowed F step && boundable F t) (λ h. h))
+    | good u ↦ cond (step_allowed F step && boundable F u) (told (bound (num step) u)) says.NoBound
+  ])) (sym e) (by_test (step_allowed F step && boundable F t) (λ h. h))
 
-  pub bounded : (N : ℕ) → FinishBound F kinds ns limits t step N → T (stepAllowed F step) × T (boundable F t) × (bound (num step) t ≡ within N)
-  bounded N (is-told q) = on (boundCall F kinds ns limits step) bound-view q
+  pub bounded : (N : ℕ) → FinishBound F kinds ns limits t step N → T (step_allowed F step) × T (boundable F t) × (bound (num step) t ≡ within N)
+  bounded N (is_told q) = on (bound_call F kinds ns limits step) bound_view q
     where
-      on : (a : BoundAnswer) → BoundView a → a ≡ says.Within N → T (stepAllowed F step) × T (boundable F t) × (bound (num step) t ≡ within N)
+      on : (a : BoundAnswer) → BoundView a → a ≡ says.Within N → T (step_allowed F step) × T (boundable F t) × (bound (num step) t ≡ within N)
       on a refusing p = let z : ◌≡◌ {A = ℕ} 0 1 = cc in absurd (omega arith)
-      on a (telling s b) p = (s, b, told-within (bound (num step) t) N p)
-  bounded N (is-above q p) = on (boundCall F kinds ns limits step) bound-view q
+      on a (telling s b) p = (s, b, told_within (bound (num step) t) N p)
+  bounded N (is_above q p) = on (bound_call F kinds ns limits step) bound_view q
     where
-      on : (a : BoundAnswer) → BoundView a → a ≡ says.Above → T (stepAllowed F step) × T (boundable F t) × (bound (num step) t ≡ within N)
+      on : (a : BoundAnswer) → BoundView a → a ≡ says.Above → T (step_allowed F step) × T (boundable F t) × (bound (num step) t ≡ within N)
       on a refusing r = let z : ◌≡◌ {A = ℕ} 0 1 = cc in absurd (omega arith)
       on a (telling s b) r = (s, b, p)
 
   -- where "above" is told there is such a number, and it is above 2 ^ 53
-  pub above-number : boundCall F kinds ns limits step ≡ says.Above → (N : ℕ) × (2 ^ 53 < N) × FinishBound F kinds ns limits t step N
-  above-number q = on (boundCall F kinds ns limits step) bound-view q
+  pub above_number : bound_call F kinds ns limits step ≡ says.Above → (N : ℕ) × (2 ^ 53 < N) × FinishBound F kinds ns limits t step N
+  above_number q = on (bound_call F kinds ns limits step) bound_view q
     where
       on : (a : BoundAnswer) → BoundView a → a ≡ says.Above → (N : ℕ) × (2 ^ 53 < N) × FinishBound F kinds ns limits t step N
       on a refusing r = let z : ◌≡◌ {A = ℕ} 0 1 = cc in absurd (omega arith)
-      on a (telling s b) r = let x = told-above (bound (num step) t) r in (x.0, x.1, is-above q x.2)
+      on a (telling s b) r = let x = told_above (bound (num step) t) r in (x.0, x.1, is_above q x.2)

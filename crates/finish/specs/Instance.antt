@@ -8,17 +8,17 @@ use Rattle.rules.specs.declared.event.Event.TheVariants.{Update}
 use Rattle.rules.specs.declared.answer.Record.{Record}
 use Rattle.rules.specs.declared.behavior.Kind.TheVariants.{Action, Timeout}
 use Rattle.rules.specs.Kinds.{kind_of}
-use Rattle.rules.specs.Tree.{zeroTime, newCell, Tree, node, size}
+use Rattle.rules.specs.Tree.{zero_time, new_cell, Tree, node, size}
 use Rattle.rules.specs.Tree
 use Rattle.rules.specs.Table.{table}
 use Rattle.rules.specs.Cells.{cells, column}
-use Rattle.rules.specs.Call.{Run, run, Given, given, tickCall}
-use Rattle.rules.specs.Bound.{num, wholeTime, boundCall}
-use Rattle.laws.specs.Tables.{one-tree}
+use Rattle.rules.specs.Call.{Run, run, Given, given, tick_call}
+use Rattle.rules.specs.Bound.{num, whole_time, bound_call}
+use Rattle.laws.specs.Tables.{one_tree}
 use Rattle.laws.specs.View.{Call, ticks}
-use Rattle.laws.specs.History.{stands, afterAll}
+use Rattle.laws.specs.History.{stands, after_all}
 use Rattle.finish.specs.WholeTicks.{WholeHistory}
-use Rattle.finish.specs.Answered.{is-told}
+use Rattle.finish.specs.Answered.{is_told}
 use Rattle.finish.specs.Public.{FinishesBy, finishes}
 
 abbrev one : Float
@@ -37,54 +37,54 @@ abbrev ns : List ℕ
 ns = 1 ∷ 0 ∷ []
 
 abbrev limits : List Float
-limits = two ∷ zeroTime ∷ []
+limits = two ∷ zero_time ∷ []
 
 abbrev tree : Tree
-tree = node Timeout 1 two newCell 0 (Tree.◌∷◌ (node Action 0 zeroTime newCell 0 Tree.[]) Tree.[])
+tree = node Timeout 1 two new_cell 0 (Tree.◌∷◌ (node Action 0 zero_time new_cell 0 Tree.[]) Tree.[])
 
 abbrev zeros : Run
-zeros = run (zeroTime ∷ zeroTime ∷ []) (0 ∷ 0 ∷ []) (0 ∷ 0 ∷ []) (0 ∷ 0 ∷ [])
+zeros = run (zero_time ∷ zero_time ∷ []) (0 ∷ 0 ∷ []) (0 ∷ 0 ∷ []) (0 ∷ 0 ∷ [])
 
 abbrev fresh : Record
 fresh = record { finished = false; ticks = 0 }
 
 -- a tick of 1 with fuel 2 and the two answers
-abbrev tickOf : Record → Run → Given
-tickOf r c = given r kinds ns limits c zeros (0 ∷ 0 ∷ []) (Update one) 2 (1 ∷ 1 ∷ []) (zeroTime ∷ half ∷ [])
+abbrev tick_of : Record → Run → Given
+tick_of r c = given r kinds ns limits c zeros (0 ∷ 0 ∷ []) (Update one) 2 (1 ∷ 1 ∷ []) (zero_time ∷ half ∷ [])
 
 abbrev first : Given
-first = tickOf fresh zeros
+first = tick_of fresh zeros
 
 abbrev second : Given
-second = tickOf (tickCall binary64 first).record' (tickCall binary64 first).cells'
+second = tick_of (tick_call binary64 first).record' (tick_call binary64 first).cells'
 
 abbrev both : List Call
 both = ticks first ∷ ticks second ∷ []
 
 -- a tick takes up what stands, and is whole as far as its answers are used
 covered : WholeHistory binary64 tree 1 (stands fresh zeros 0) both
-unfolding tickCall afterAll wholeTime num to_unsigned whole kind_of size column
+unfolding tick_call after_all whole_time num to_unsigned whole kind_of size column
 covered = (
   record {
-    takes-up = record { the-table = λ u e. one-tree (table kinds ns limits) tree u refl e; the-record = λ e. refl; the-cells = λ e h. refl };
-    whole-time = (tt, omega arith);
-    whole-leftovers = (tt, tt);
+    takes_up = record { the_table = λ u e. one_tree (table kinds ns limits) tree u refl e; the_record = λ e. refl; the_cells = λ e h. refl };
+    whole_time = (tt, omega arith);
+    whole_leftovers = (tt, tt);
   },
   (
     record {
-      takes-up = record { the-table = λ u e. one-tree (table kinds ns limits) tree u refl e; the-record = λ e. refl; the-cells = λ e h. refl };
-      whole-time = (tt, omega arith);
-      whole-leftovers = (tt, tt);
+      takes_up = record { the_table = λ u e. one_tree (table kinds ns limits) tree u refl e; the_record = λ e. refl; the_cells = λ e h. refl };
+      whole_time = (tt, omega arith);
+      whole_leftovers = (tt, tt);
     },
     tt,
   ),
 )
 
-pub gives_up : FinishesBy 2 (afterAll binary64 (stands fresh zeros 0) both)
-unfolding boundCall num to_unsigned whole kind_of size cells
-gives_up = finishes binary64 kinds ns limits tree refl one 2 (is-told refl) fresh refl zeros (refl, (refl, tt)) both covered
+pub gives_up : FinishesBy 2 (after_all binary64 (stands fresh zeros 0) both)
+unfolding bound_call num to_unsigned whole kind_of size cells
+gives_up = finishes binary64 kinds ns limits tree refl one 2 (is_told refl) fresh refl zeros (refl, (refl, tt)) both covered
 
 -- and it takes both ticks
-pub at-the-second : ((afterAll binary64 (stands fresh zeros 0) both).record'.finished ≡ true) × ((afterAll binary64 (stands fresh zeros 0) both).carried ≡ 2)
-unfolding tickCall afterAll kind_of size column
-at-the-second = (refl, refl)
+pub at_the_second : ((after_all binary64 (stands fresh zeros 0) both).record'.finished ≡ true) × ((after_all binary64 (stands fresh zeros 0) both).carried ≡ 2)
+unfolding tick_call after_all kind_of size column
+at_the_second = (refl, refl)

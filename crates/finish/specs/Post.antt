@@ -16,7 +16,7 @@ use Rattle.floats.specs.Times.{W}
 use Rattle.laws.specs.Shape.{shape}
 use Rattle.laws.specs.PairDrivers.{Same}
 use Rattle.laws.specs.Pair.{Pairing, Both, weak, stay, after}
-use Rattle.laws.specs.PairRules.{exchange-pair}
+use Rattle.laws.specs.PairRules.{exchange_pair}
 use Rattle.finish.specs.Shaped.{Shaped}
 use Rattle.finish.specs.Enough.{Still}
 use Rattle.finish.specs.Valid.{Valid}
@@ -73,23 +73,23 @@ module _ {F : Format} (R : Pairing F) where
   Holds c p o = Both R 0 p (λ s r a q. Q F c s r a) o o
 
   -- what is done with an outcome, with no more visits
-  pub claim-map : {A B : Type 0} {c : Claim A} {c' : Claim B} {p : R.Worlds} {o : World → Out A} (f : A → B) → ((a : A) → c.valid a → c.down a → c'.valid (f a) × c'.down (f a))
+  pub claim_map : {A B : Type 0} {c : Claim A} {c' : Claim B} {p : R.Worlds} {o : World → Out A} (f : A → B) → ((a : A) → c.valid a → c.down a → c'.valid (f a) × c'.down (f a))
       → Holds c p o → Holds c' p (λ w. o w ▸ λ s r a w'. done s r (f a) w')
-  claim-map f k h = after R h λ s. elim s [
+  claim_map f k h = after R h λ s. elim s [
     | Running ↦ λ r a q x. stay R (k a x.0 x.1)
     | Success ↦ λ r a q x. stay R x
     | Failure ↦ λ r a q x. stay R x
   ]
 
-  pub claim-weak : {A : Type 0} {c c' : Claim A} {p : R.Worlds} {o : World → Out A} → ((a : A) → c.valid a → c.down a → c'.valid a × c'.down a) → Holds c p o → Holds c' p o
-  claim-weak k h = weak R h λ s. elim s [
+  pub claim_weak : {A : Type 0} {c c' : Claim A} {p : R.Worlds} {o : World → Out A} → ((a : A) → c.valid a → c.down a → c'.valid a × c'.down a) → Holds c p o → Holds c' p o
+  claim_weak k h = weak R h λ s. elim s [
     | Running ↦ λ r a q x. k a x.0 x.1
     | Success ↦ λ r a q x. x
     | Failure ↦ λ r a q x. x
   ]
 
-  pub exchange-holds : {A : Type 0} {c : Claim A} {p : R.Worlds} {o : World → Out A} → Holds c p o → Holds c p (λ w. exchange (o w))
-  exchange-holds h = exchange-pair R h λ s. elim s [
+  pub exchange_holds : {A : Type 0} {c : Claim A} {p : R.Worlds} {o : World → Out A} → Holds c p o → Holds c p (λ w. exchange (o w))
+  exchange_holds h = exchange_pair R h λ s. elim s [
     | Running ↦ λ r a q x. x
     | Success ↦ λ r a q x. x
     | Failure ↦ λ r a q x. x
@@ -99,8 +99,8 @@ module _ {F : Format} (R : Pairing F) where
     abbrev pub Good : Ticker → Type 0
     Good child = (t : Tree) (e : Event) (p : R.Worlds) → Shaped F (shape t) → Valid F t → WEvent F e → Both R 0 p (λ s r t' q. TickQ F d e t s r t') (λ w. child t e w) (λ w. child t e w)
 
-    pub exchanging-good : (child : Ticker) → Good child → Good (exchanging child)
-    exchanging-good child g t e p s v ev = exchange-pair R (g t e p s v ev) λ s'. elim s' [
+    pub exchanging_good : (child : Ticker) → Good child → Good (exchanging child)
+    exchanging_good child g t e p s v ev = exchange_pair R (g t e p s v ev) λ s'. elim s' [
       | Running ↦ λ r t' q x. x
       | Success ↦ λ r t' q x. x
       | Failure ↦ λ r t' q x. x

@@ -7,41 +7,41 @@ use Rattle.rules.specs.declared.event.Event.TheVariants.{Update, Other}
 use Rattle.rules.specs.Tree.{Tree, fresh}
 use Rattle.rules.specs.Outcome.{world, done, asks, short}
 use Rattle.rules.specs.State.{tick}
-use Rattle.rules.specs.Table.{mostDeep, good, table}
-use Rattle.rules.specs.Call.{Run, Given, answers, cleanedEvent, restartCall}
+use Rattle.rules.specs.Table.{most_deep, good, table}
+use Rattle.rules.specs.Call.{Run, Given, answers, cleaned_event, restart_call}
 use Rattle.rules.specs.Bound.{boundable, num}
 use Rattle.laws.specs.Shape.{shape}
 use Rattle.laws.specs.Memory.{held}
-use Rattle.laws.specs.Tables.{tabled, tabled-fresh}
+use Rattle.laws.specs.Tables.{tabled, tabled_fresh}
 use Rattle.laws.specs.View.{Call, restarts}
-use Rattle.laws.specs.History.{Standing, isTicked, after, afterAll}
-use Rattle.laws.specs.Invariant.{After, Asked, Steps, calls-keep, restart-keeps}
-use Rattle.floats.specs.Times.{whole-W}
+use Rattle.laws.specs.History.{Standing, is_ticked, after, after_all}
+use Rattle.laws.specs.Invariant.{After, Asked, Steps, calls_keep, restart_keeps}
+use Rattle.floats.specs.Times.{whole_W}
 use Rattle.finish.specs.Shaped.{Shaped}
 use Rattle.finish.specs.Accepted.{accepted}
 use Rattle.finish.specs.Post.{TickQ}
-use Rattle.finish.specs.WholeTicks.{WholeEvent, WholeAnswers, WholeTick, WholeHistory, whole-all}
-use Rattle.finish.specs.Finishes.{State, fresh-state, clear-state, whole-tick, Is, Ended, after-state}
+use Rattle.finish.specs.WholeTicks.{WholeEvent, WholeAnswers, WholeTick, WholeHistory, whole_all}
+use Rattle.finish.specs.Finishes.{State, fresh_state, clear_state, whole_tick, Is, Ended, after_state}
 
 -- ---- the walk of a whole tick
 module _ (F : Format) (t : Tree) (s : Shaped F (shape t)) (d : ℕ) (P : Tree → ℕ → Type 0) (E : ℕ → Type 0)
     (state : (t' : Tree) (k : ℕ) → P t' k → State F t t')
     (keeps : (t' : Tree) (k : ℕ) (x : Float) (s' : Status) (r : Float) (t'' : Tree) (f : ℕ) (left : List (Status × Float))
     → P t' k → d ≤ num x → TickQ F d (Update x) t' s' r t'' → After t P E k (done s' r t'' (world f left))) where
-  on-event : (t' : Tree) (k : ℕ) (e : Event) (fuel : ℕ) (ans left : List (Status × Float)) (s' : Status) (r : Float) (t'' : Tree) (f : ℕ) → P t' k → WholeEvent F d e
+  on_event : (t' : Tree) (k : ℕ) (e : Event) (fuel : ℕ) (ans left : List (Status × Float)) (s' : Status) (r : Float) (t'' : Tree) (f : ℕ) → P t' k → WholeEvent F d e
       → WholeAnswers F (take (length ans - length left) ans)
-      → tick F mostDeep t' e (world fuel ans) ≡ done s' r t'' (world f left) → After t P E k (done s' r t'' (world f left))
-  on-event t' k Other fuel ans left s' r t'' f v h a q = absurd h
-  on-event t' k (Update x) fuel ans left s' r t'' f v h a q =
-      keeps t' k x s' r t'' f left v h.1 (whole-tick F t s d mostDeep t' x fuel ans left s' r t'' f (state t' k v) (whole-W F x h.0)
-      (whole-all F (take (length ans - length left) ans) a) q)
+      → tick F most_deep t' e (world fuel ans) ≡ done s' r t'' (world f left) → After t P E k (done s' r t'' (world f left))
+  on_event t' k Other fuel ans left s' r t'' f v h a q = absurd h
+  on_event t' k (Update x) fuel ans left s' r t'' f v h a q =
+      keeps t' k x s' r t'' f left v h.1 (whole_tick F t s d most_deep t' x fuel ans left s' r t'' f (state t' k v) (whole_W F x h.0)
+      (whole_all F (take (length ans - length left) ans) a) q)
 
-  pub whole-step : Steps F (WholeTick F t d) t P E
-  whole-step st a t' k (asks n x) q v h = tt
-  whole-step st a t' k short q v h = tt
-  whole-step st a t' k (done s' r t'' (world f left)) q v h =
+  pub whole_step : Steps F (WholeTick F t d) t P E
+  whole_step st a t' k (asks n x) q v h = tt
+  whole_step st a t' k short q v h = tt
+  whole_step st a t' k (done s' r t'' (world f left)) q v h =
       let g = a.given' in
-      on-event t' k (cleanedEvent g.event) g.fuel (answers g.statuses g.leftovers) left s' r t'' f v h.whole-time h.whole-leftovers q
+      on_event t' k (cleaned_event g.event) g.fuel (answers g.statuses g.leftovers) left s' r t'' f v h.whole_time h.whole_leftovers q
 
 -- ---- the cells hold a state of the table's tree
 abbrev pub StateIn : Format → Tree → Run → Type 0
@@ -52,23 +52,23 @@ module _ (F : Format) (kinds ns : List ℕ) (limits : List Float) (t : Tree) (e 
   shaped = accepted F t (tabled kinds ns limits t e).0 b
 
   -- made fresh; and between two ticks, which is the table's tree
-  pub first-state : State F t (fresh t)
-  first-state = fresh-state F t shaped
+  pub first_state : State F t (fresh t)
+  first_state = fresh_state F t shaped
 
-  pub new-state : State F t t
-  new-state = rw (tabled-fresh t (tabled kinds ns limits t e).0) at (clear-state F t (fresh t) first-state)
+  pub new_state : State F t t
+  new_state = rw (tabled_fresh t (tabled kinds ns limits t e).0) at (clear_state F t (fresh t) first_state)
 
   step : Steps F (WholeTick F t 0) t (Is F t shaped 0) (Ended F t shaped 0)
-  step = whole-step F t shaped 0 (Is F t shaped 0) (Ended F t shaped 0) (λ t' k p. p)
-      (λ t' k x s' r t'' f left p full q. after-state F t shaped 0 t' k x s' r t'' (world f left) p q)
+  step = whole_step F t shaped 0 (Is F t shaped 0) (Ended F t shaped 0) (λ t' k p. p)
+      (λ t' k x s' r t'' f left p full q. after_state F t shaped 0 t' k x s' r t'' (world f left) p q)
 
   pub states : (st : Standing) → st.record'.finished ≡ false → StateIn F t st.cells' → (cs : List Call) → WholeHistory F t 0 st cs
-      → (afterAll F st cs).record'.finished ≡ false → StateIn F t (afterAll F st cs).cells'
+      → (after_all F st cs).record'.finished ≡ false → StateIn F t (after_all F st cs).cells'
   states st o v cs h u =
-      rw u at (calls-keep F (WholeTick F t 0) t (Is F t shaped 0) (Ended F t shaped 0) (λ st' g n ok. ok.takes-up) step first-state st cs h (rw o v))
+      rw u at (calls_keep F (WholeTick F t 0) t (Is F t shaped 0) (Ended F t shaped 0) (λ st' g n ok. ok.takes_up) step first_state st cs h (rw o v))
 
   -- behind a restart, whatever stood before it
-  pub state-restarted : (st : Standing) (g : Given) → T (isTicked (restartCall F g).answer) → Asked F (WholeTick F t 0) st (restarts g)
+  pub state_restarted : (st : Standing) (g : Given) → T (is_ticked (restart_call F g).answer) → Asked F (WholeTick F t 0) st (restarts g)
       → (after F st (restarts g)).record'.finished ≡ false → StateIn F t (after F st (restarts g)).cells'
-  state-restarted st g y h u =
-      rw u at (restart-keeps F (WholeTick F t 0) t (Is F t shaped 0) (Ended F t shaped 0) (λ st' g n ok. ok.takes-up) step first-state st g y h)
+  state_restarted st g y h u =
+      rw u at (restart_keeps F (WholeTick F t 0) t (Is F t shaped 0) (Ended F t shaped 0) (λ st' g n ok. ok.takes_up) step first_state st g y h)

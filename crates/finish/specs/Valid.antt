@@ -9,13 +9,13 @@ use Rattle.floats.specs.Times.{W}
 use Rattle.finish.specs.Enough.{unless}
 
 -- one at least has no mark; or there is none
-abbrev pub someOpen : Forest → Bool
-someOpen [] = false
-someOpen (t ∷ ts) = not (marked t) || someOpen ts
+abbrev pub some_open : Forest → Bool
+some_open [] = false
+some_open (t ∷ ts) = not (marked t) || some_open ts
 
-abbrev pub openOrNone : Forest → Bool
-openOrNone [] = true
-openOrNone (t ∷ ts) = someOpen (t ∷ ts)
+abbrev pub open_or_none : Forest → Bool
+open_or_none [] = true
+open_or_none (t ∷ ts) = some_open (t ∷ ts)
 
 -- the body child in progress, by WhileAll's place: while the condition is due, the first
 abbrev pub in_body : ℕ → ℕ
@@ -39,8 +39,8 @@ module _ (F : Format) where
     Valid (node MemorylessSelector n l c b ts) = Unit {0}
     Valid (node While n l c b ts) = ValidLoop ts c.place
     Valid (node WhileAll n l c b ts) = ValidLoop ts (in_body c.place)
-    Valid (node WhenAll n l c b ts) = ValidMarks ts × T (openOrNone ts)
-    Valid (node WhenAny n l c b ts) = ValidMarks ts × T (openOrNone ts)
+    Valid (node WhenAll n l c b ts) = ValidMarks ts × T (open_or_none ts)
+    Valid (node WhenAny n l c b ts) = ValidMarks ts × T (open_or_none ts)
     Valid (node After n l c b ts) = ValidFrom ts c.place
     Valid (node Race n l c b ts) = ValidAll ts
 

@@ -12,18 +12,18 @@ use Rattle.std.specs.Float.Ieee.Fits.{down_pos, and_l, and_r}
 use Rattle.std.specs.Float.Ieee.Casts.{to_unsigned_cut}
 use Rattle.std.specs.Float.Ieee.Exact.{HasValue}
 use Rattle.std.specs.Float.Ieee.Back.{round_whole}
-use Rattle.rules.specs.Tree.{zeroTime}
+use Rattle.rules.specs.Tree.{zero_time}
 use Rattle.rules.specs.Outcome.{smaller, largest}
-use Rattle.rules.specs.Bound.{cap, num, wholeTime}
-use Rattle.floats.specs.Values.{add-val, sub_val, order-val}
+use Rattle.rules.specs.Bound.{cap, num, whole_time}
+use Rattle.floats.specs.Values.{add_val, sub_val, order_val}
 
-pub cap-fits : (F : Format) → cap F + cap F ≤ 2 ^ prec F
-cap-fits binary32 = lit≤ tt
-cap-fits binary64 = lit≤ tt
+pub cap_fits : (F : Format) → cap F + cap F ≤ 2 ^ prec F
+cap_fits binary32 = lit≤ tt
+cap_fits binary64 = lit≤ tt
 
-prec-64 : (F : Format) → 2 ^ prec F < 2 ^ 64
-prec-64 binary32 = lit< tt
-prec-64 binary64 = lit< tt
+prec_64 : (F : Format) → 2 ^ prec F < 2 ^ 64
+prec_64 binary32 = lit< tt
+prec_64 binary64 = lit< tt
 
 -- the largest number of a format, as a whole number
 abbrev top : Format → ℕ
@@ -34,70 +34,70 @@ top_val : (F : Format) → HasValue (largest F) false (top F) 1
 top_val binary32 = (refl, refl)
 top_val binary64 = (refl, refl)
 
-cap-top : (F : Format) → suc (cap F) ≤ top F
-cap-top binary32 = lit≤ tt
-cap-top binary64 = lit≤ tt
+cap_top : (F : Format) → suc (cap F) ≤ top F
+cap_top binary32 = lit≤ tt
+cap_top binary64 = lit≤ tt
 
 module _ (F : Format) where
   -- the time is whole, and at most the cap
   abbrev pub W : Float → Type 0
   W x = HasValue x false (num x) 1 × (num x ≤ cap F)
 
-  exact-cut : (n d : ℕ) → n % d ≡ 0 → n * 1 ≡ n / d * d
-  exact-cut n d h = mul-one n ∙ sym (div-add-mod' n d) ∙ ap (λ (z : ℕ). n / d * d + z) h ∙ add-zero (n / d * d)
+  exact_cut : (n d : ℕ) → n % d ≡ 0 → n * 1 ≡ n / d * d
+  exact_cut n d h = mul-one n ∙ sym (div-add-mod' n d) ∙ ap (λ (z : ℕ). n / d * d + z) h ∙ add-zero (n / d * d)
 
-  fin-value : (s : Bool) (m : ℕ) (e : ℤ) → T (in_unsigned F 64 (fin s m e)) → HasValue (fin s m e) false (num (fin s m e)) 1
+  fin_value : (s : Bool) (m : ℕ) (e : ℤ) → T (in_unsigned F 64 (fin s m e)) → HasValue (fin s m e) false (num (fin s m e)) 1
   unfolding in_unsigned num whole
-  fin-value true m e u = absurd (and_r (whole F (fin true m e)) false u)
-  fin-value false m e u =
+  fin_value true m e u = absurd (and_r (whole F (fin true m e)) false u)
+  fin_value false m e u =
       let t : T (whole F (fin false m e)) = and_l (whole F (fin false m e)) (ltb (m * up e / down e) (2 ^ 64)) u in
       let c : T (eqb (m * up e % down e) 0 && leb (m * up e / down e) (2 ^ prec F)) = and_l (eqb (m * up e % down e) 0 && leb (m * up e / down e) (2 ^ prec F)) true t in
       let z : m * up e % down e ≡ 0 = eqb→eq (m * up e % down e) 0 (and_l (eqb (m * up e % down e) 0) (leb (m * up e / down e) (2 ^ prec F)) c) in
-      (refl, exact-cut (m * up e) (down e) z ∙ ap (λ (q : ℕ). q * down e) (sym (to_unsigned_cut F 64 false m e u)))
+      (refl, exact_cut (m * up e) (down e) z ∙ ap (λ (q : ℕ). q * down e) (sym (to_unsigned_cut F 64 false m e u)))
 
   -- the test of a limit, a step or a leftover
-  pub whole-W : (x : Float) → T (wholeTime F x) → W x
-  unfolding wholeTime
-  whole-W nan t = absurd t
-  whole-W (inf s) t = absurd t
-  whole-W (fin s m e) t =
+  pub whole_W : (x : Float) → T (whole_time F x) → W x
+  unfolding whole_time
+  whole_W nan t = absurd t
+  whole_W (inf s) t = absurd t
+  whole_W (fin s m e) t =
       let u : T (in_unsigned F 64 (fin s m e)) = and_l (in_unsigned F 64 (fin s m e)) (leb (num (fin s m e)) (cap F)) t in
-      (fin-value s m e u, leb→le (num (fin s m e)) (cap F) (and_r (in_unsigned F 64 (fin s m e)) (leb (num (fin s m e)) (cap F)) t))
+      (fin_value s m e u, leb→le (num (fin s m e)) (cap F) (and_r (in_unsigned F 64 (fin s m e)) (leb (num (fin s m e)) (cap F)) t))
 
-  pub zero-num : num zeroTime ≡ 0
+  pub zero_num : num zero_time ≡ 0
   unfolding num to_unsigned
-  zero-num = refl
+  zero_num = refl
 
-  pub zero-W : W zeroTime
+  pub zero_W : W zero_time
   unfolding num to_unsigned
-  zero-W = ((refl, refl), omega arith)
+  zero_W = ((refl, refl), omega arith)
 
-  under-min : (a : ℕ) → a ≤ 2 ^ prec F → min a (2 ^ 64 - 1) ≡ a
-  under-min a h = omega (arith, prec-64 F)
+  under_min : (a : ℕ) → a ≤ 2 ^ prec F → min a (2 ^ 64 - 1) ≡ a
+  under_min a h = omega (arith, prec_64 F)
 
-  pub val-num : (x : Float) (a : ℕ) → HasValue x false a 1 → a ≤ 2 ^ prec F → num x ≡ a
+  pub val_num : (x : Float) (a : ℕ) → HasValue x false a 1 → a ≤ 2 ^ prec F → num x ≡ a
   unfolding num to_unsigned
-  val-num nan a v h = absurd v
-  val-num (inf s) a v h = absurd v
-  val-num (fin true m e) a v h = absurd (true≢false v.0)
-  val-num (fin false m e) a v h =
+  val_num nan a v h = absurd v
+  val_num (inf s) a v h = absurd v
+  val_num (fin true m e) a v h = absurd (true≢false v.0)
+  val_num (fin false m e) a v h =
       let q : m * up e / down e ≡ a = ap (λ (z : ℕ). z / down e) (sym (mul-one (m * up e)) ∙ v.1) ∙ mul-div_cancel a (down_pos e) in
-      ap (λ (z : ℕ). min z (2 ^ 64 - 1)) q ∙ under-min a h
+      ap (λ (z : ℕ). min z (2 ^ 64 - 1)) q ∙ under_min a h
 
   W-val : (x : Float) (a : ℕ) → HasValue x false a 1 → a ≤ cap F → W x × (num x ≡ a)
   W-val x a v h =
-      let n : num x ≡ a = val-num x a v (omega (arith, cap-fits F)) in
+      let n : num x ≡ a = val_num x a v (omega (arith, cap_fits F)) in
       ((rw n v, omega arith), n)
 
   -- sums, differences and order of whole times
-  pub add-W : (x y : Float) → W x → W y → HasValue (add F x y) false (num x + num y) 1
-  add-W x y p q = rw (add-val F x y (num x) (num y) p.0 q.0) (round_whole F false (num x + num y) (omega (arith, cap-fits F)))
+  pub add_W : (x y : Float) → W x → W y → HasValue (add F x y) false (num x + num y) 1
+  add_W x y p q = rw (add_val F x y (num x) (num y) p.0 q.0) (round_whole F false (num x + num y) (omega (arith, cap_fits F)))
 
-  pub sub-W : (z l : Float) (a : ℕ) → HasValue z false a 1 → W l → a ≤ 2 ^ prec F → num l ≤ a → HasValue (sub F z l) false (a - num l) 1
-  sub-W z l a v p h k = rw (sub_val F z l a (num l) v p.0 k) (round_whole F false (a - num l) (omega arith))
+  pub sub_W : (z l : Float) (a : ℕ) → HasValue z false a 1 → W l → a ≤ 2 ^ prec F → num l ≤ a → HasValue (sub F z l) false (a - num l) 1
+  sub_W z l a v p h k = rw (sub_val F z l a (num l) v p.0 k) (round_whole F false (a - num l) (omega arith))
 
-  pub le-W : (l z : Float) (a : ℕ) → W l → HasValue z false a 1 → le l z ≡ leb (num l) a
-  le-W l z a p v = (order-val l z (num l) a p.0 v).1
+  pub le_W : (l z : Float) (a : ℕ) → W l → HasValue z false a 1 → le l z ≡ leb (num l) a
+  le_W l z a p v = (order_val l z (num l) a p.0 v).1
 
   -- time y passes from x towards the limit l: either the limit is reached, and the leftover is whole, or the new time is
   pub data Passed (x y l : Float) : Bool → Type 0 where
@@ -105,26 +105,26 @@ module _ (F : Format) where
     passing : num x + num y < num l → W (add F x y) → num (add F x y) ≡ num x + num y → Passed x y l false
 
   pub passed : (x y l : Float) → W x → W y → W l → num x ≤ num l → Passed x y l (le l (add F x y))
-  passed x y l p q r h = go (le l (add F x y)) (sym (le-W l (add F x y) (num x + num y) r (add-W x y p q)))
+  passed x y l p q r h = go (le l (add F x y)) (sym (le_W l (add F x y) (num x + num y) r (add_W x y p q)))
     where
       go : (b : Bool) → leb (num l) (num x + num y) ≡ b → Passed x y l b
       go true e =
           let g : num l ≤ num x + num y = leb-true (num l) (num x + num y) e in
-          reached g (W-val (sub F (add F x y) l) (num x + num y - num l) (sub-W (add F x y) l (num x + num y) (add-W x y p q) r (omega (arith, cap-fits F)) g) (omega arith)).0
+          reached g (W-val (sub F (add F x y) l) (num x + num y - num l) (sub_W (add F x y) l (num x + num y) (add_W x y p q) r (omega (arith, cap_fits F)) g) (omega arith)).0
       go false e =
           let g : num x + num y < num l = leb-false (num l) (num x + num y) e in
-          let k = W-val (add F x y) (num x + num y) (add-W x y p q) (omega arith) in
+          let k = W-val (add F x y) (num x + num y) (add_W x y p q) (omega arith) in
           passing g k.0 k.1
 
   -- ---- the least leftover
-  lt-largest : (r : Float) → W r → lt r (largest F) ≡ true
-  lt-largest r w = (order-val r (largest F) (num r) (top F) w.0 (top_val F)).0 ∙ lt-ltb (num r) (top F) (le_trans (suc-le-suc w.1) (cap-top F))
+  lt_largest : (r : Float) → W r → lt r (largest F) ≡ true
+  lt_largest r w = (order_val r (largest F) (num r) (top F) w.0 (top_val F)).0 ∙ lt-ltb (num r) (top F) (le_trans (suc-le-suc w.1) (cap_top F))
 
   -- the least so far is a whole time, or still the largest number
-  pub smaller-W : (x r : Float) → W r → W x ⊎ (x ≡ largest F) → W (smaller x r)
-  smaller-W x r w (inl v) = pick (lt r x)
+  pub smaller_W : (x r : Float) → W r → W x ⊎ (x ≡ largest F) → W (smaller x r)
+  smaller_W x r w (inl v) = pick (lt r x)
     where
       pick : (b : Bool) → W (cond b r x)
       pick true = w
       pick false = v
-  smaller-W x r w (inr e) = rw (ap (λ (z : Float). lt r z) e ∙ lt-largest r w) w
+  smaller_W x r w (inr e) = rw (ap (λ (z : Float). lt r z) e ∙ lt_largest r w) w

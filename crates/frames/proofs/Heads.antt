@@ -7,8 +7,8 @@ use lib.ListN.{length, drop, length-drop}
 use lib.Seq.{drop_at, drop-drop}
 use Rattle.frames.specs.Hex.{digits}
 use Rattle.frames.specs.Digits.{length_digits}
-use Rattle.frames.specs.Line.{Field, Good, Reads, askedNo, fields, kind_of, front, body, answers, answersOf, line, eventNo, eventTime}
-use Rattle.frames.specs.Back.{kind-small}
+use Rattle.frames.specs.Line.{Field, Good, Reads, asked_no, fields, kind_of, front, body, answers, answers_of, line, event_no, event_time}
+use Rattle.frames.specs.Back.{kind_small}
 use Rattle.frames.specs.Parts.{Number, Body, Whole, Filled}
 use Rattle.frames.specs.declared.Call.{Call}
 use Rattle.frames.specs.declared.Call.TheVariants.{Tick, Restart}
@@ -18,7 +18,7 @@ use Rattle.frames.specs.declared.Frame.TheVariants.{Node, Asked, Said, Malformed
 use Rattle.frames.specs.declared.Reading.{Reading}
 use Rattle.frames.specs.declared.hex.Part.{Part}
 use Rattle.frames.specs.declared.reader.Found.{Found}
-use Rattle.frames.proofs.Bodies.{fields-some}
+use Rattle.frames.proofs.Bodies.{fields_some}
 
 pub by_kind : {l : List ℕ} {p : Part} {k : ℕ} (r : Found) → Number l 0 2 p → p.value ≡ k → Body k (drop p.next l) r → Whole l r
 by_kind {l} {p} (Found.Is f) n e b =
@@ -30,10 +30,10 @@ by_kind {l} {p} (Found.Is f) n e b =
       b.1.2,
       ap (λ (t : List ℕ). digits 2 (kind_of f) ++ t) q
           ∙ ap (λ (j : ℕ). digits 2 j ++ drop p.next l) (b.0 ∙ sym e)
-          ∙ sym (n.sound (omega (arith, fields-some (body f xs ys), simp length-drop at (ap length q)))),
+          ∙ sym (n.sound (omega (arith, fields_some (body f xs ys), simp length-drop at (ap length q)))),
     )
 by_kind Found.Not n e b = λ f xs ys g q.
-    let r = n.whole (kind_of f) (fields (body f xs ys)) (kind-small f) (sym q) in
+    let r = n.whole (kind_of f) (fields (body f xs ys)) (kind_small f) (sym q) in
     b f xs ys (sym r.0 ∙ e) g (sym r.1)
 
 -- no frame has any other kind
@@ -49,40 +49,40 @@ other v a b c d e g (Malformed number) q = g q
 pub no_kind : {l : List ℕ} {p : Part} → Number l 0 2 p → (p.value ≡ 0x01 → ⊥) → (p.value ≡ 0x02 → ⊥) → (p.value ≡ 0x03 → ⊥)
     → (p.value ≡ 0x82 → ⊥) → (p.value ≡ 0x83 → ⊥) → (p.value ≡ 0x8f → ⊥) → Whole l Found.Not
 no_kind {p = p} n a b c d e g = λ f xs ys h q.
-    other p.value a b c d e g f (n.whole (kind_of f) (fields (body f xs ys)) (kind-small f) (sym q)).0
+    other p.value a b c d e g f (n.whole (kind_of f) (fields (body f xs ys)) (kind_small f) (sym q)).0
 
-drop-field : (w v : ℕ) (t : List ℕ) → drop (suc w) ((32 ∷ digits w v) ++ t) ≡ t
-drop-field w v t = drop_at (32 ∷ digits w v) t (suc w) (ap suc (length_digits w v))
+drop_field : (w v : ℕ) (t : List ℕ) → drop (suc w) ((32 ∷ digits w v) ++ t) ≡ t
+drop_field w v t = drop_at (32 ∷ digits w v) t (suc w) (ap suc (length_digits w v))
 
 -- a call's answers stand from byte 36 on
-call-answers : (call : Call) (e : Event) (fuel count : ℕ) (xs ys : List ℕ) → drop 36 (line (Asked call e fuel count) xs ys) ≡ fields (answers count 0 xs ys)
-call-answers call e fuel count xs ys =
+call_answers : (call : Call) (e : Event) (fuel count : ℕ) (xs ys : List ℕ) → drop 36 (line (Asked call e fuel count) xs ys) ≡ fields (answers count 0 xs ys)
+call_answers call e fuel count xs ys =
     let t₄ = fields (answers count 0 xs ys) in
     let t₃ = (32 ∷ digits 4 count) ++ t₄ in
     let t₂ = (32 ∷ digits 8 fuel) ++ t₃ in
-    let t₁ = (32 ∷ digits 16 (eventTime e)) ++ t₂ in
-    let t₀ = (32 ∷ digits 2 (eventNo e)) ++ t₁ in
-    sym (drop-drop 34 2 (digits 2 (askedNo call) ++ t₀)) ∙ ap (drop 34) (drop_at (digits 2 (askedNo call)) t₀ 2 (length_digits 2 (askedNo call)))
-    ∙ sym (drop-drop 31 3 t₀) ∙ ap (drop 31) (drop-field 2 (eventNo e) t₁)
-    ∙ sym (drop-drop 14 17 t₁) ∙ ap (drop 14) (drop-field 16 (eventTime e) t₂)
-    ∙ sym (drop-drop 5 9 t₂) ∙ ap (drop 5) (drop-field 8 fuel t₃)
-    ∙ drop-field 4 count t₄
+    let t₁ = (32 ∷ digits 16 (event_time e)) ++ t₂ in
+    let t₀ = (32 ∷ digits 2 (event_no e)) ++ t₁ in
+    sym (drop-drop 34 2 (digits 2 (asked_no call) ++ t₀)) ∙ ap (drop 34) (drop_at (digits 2 (asked_no call)) t₀ 2 (length_digits 2 (asked_no call)))
+    ∙ sym (drop-drop 31 3 t₀) ∙ ap (drop 31) (drop_field 2 (event_no e) t₁)
+    ∙ sym (drop-drop 14 17 t₁) ∙ ap (drop 14) (drop_field 16 (event_time e) t₂)
+    ∙ sym (drop-drop 5 9 t₂) ∙ ap (drop 5) (drop_field 8 fuel t₃)
+    ∙ drop_field 4 count t₄
 
 -- with its answers taken, a frame's fields are those of its line
-same_body : (l : List ℕ) (f : Frame) (xs ys ss ss' ls ls' : List ℕ) → Good f xs ys → line f xs ys ≡ l → Filled l (answersOf f) ss ss' ls ls'
+same_body : (l : List ℕ) (f : Frame) (xs ys ss ss' ls ls' : List ℕ) → Good f xs ys → line f xs ys ≡ l → Filled l (answers_of f) ss ss' ls ls'
     → body f ss' ls' ≡ body f xs ys
 same_body l (Node kind n limit) xs ys ss ss' ls ls' g e h = refl
 same_body l (Asked call event fuel count) xs ys ss ss' ls ls' g e h =
     ap (λ (fs : List Field). front (Asked call event fuel count) ++ fs)
-    (h.same xs ys g.fit.1.1.1.1 (ap (drop 36) (sym e) ∙ call-answers call event fuel count xs ys))
+    (h.same xs ys g.fit.1.1.1.1 (ap (drop 36) (sym e) ∙ call_answers call event fuel count xs ys))
 same_body l (Said call num status time visits used extra) xs ys ss ss' ls ls' g e h = refl
 same_body l (Malformed number) xs ys ss ss' ls ls' g e h = refl
 
-pub reads-is : (l : List ℕ) (f : Frame) (k : ℕ) (ss ss' ls ls' : List ℕ) → k ≡ answersOf f → k ≤ length ss → k ≤ length ls
+pub reads_is : (l : List ℕ) (f : Frame) (k : ℕ) (ss ss' ls ls' : List ℕ) → k ≡ answers_of f → k ≤ length ss → k ≤ length ls
     → length ss' ≡ length ss → length ls' ≡ length ls
     → Whole l (Found.Is f) → Filled l k ss ss' ls ls' → Reads l ss ls (Reading.Is f) ss' ls'
-reads-is l f k ss ss' ls ls' ek hs hl es el w h₀ =
-    let h : Filled l (answersOf f) ss ss' ls ls' = rw ek at h₀ in
+reads_is l f k ss ss' ls ls' ek hs hl es el w h₀ =
+    let h : Filled l (answers_of f) ss ss' ls ls' = rw ek at h₀ in
     let xs = w.0 in
     let ys = w.1 in
     let g = w.2 in
@@ -93,9 +93,9 @@ reads-is l f k ss ss' ls ls' ek hs hl es el w h₀ =
       (el, h.leftovers),
     )
 
-pub reads_short : (l : List ℕ) (f : Frame) (k : ℕ) (ss ls : List ℕ) → k ≡ answersOf f → min (length ss) (length ls) < k → Whole l (Found.Is f)
+pub reads_short : (l : List ℕ) (f : Frame) (k : ℕ) (ss ls : List ℕ) → k ≡ answers_of f → min (length ss) (length ls) < k → Whole l (Found.Is f)
     → Reads l ss ls Reading.TooShort ss ls
 reads_short l f k ss ls e h w = ((f, w.0, w.1, w.2, w.3, omega arith), refl, refl)
 
-pub reads-not : (l ss ls : List ℕ) → Whole l Found.Not → Reads l ss ls Reading.NoFrame ss ls
-reads-not l ss ls w = (w, refl, refl)
+pub reads_not : (l ss ls : List ℕ) → Whole l Found.Not → Reads l ss ls Reading.NoFrame ss ls
+reads_not l ss ls w = (w, refl, refl)

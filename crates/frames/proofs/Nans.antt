@@ -13,24 +13,24 @@ use lib.Ieee.Compare.{differs_from_itself, nan_differs}
 use lib.ListN.{length, get_or, set}
 use Rattle.frames.specs.Times.{timed}
 
-is-nan : (x : Float) → is_nan x ≡ true → x ≡ nan
+is_nan_lem : (x : Float) → is_nan x ≡ true → x ≡ nan
 unfolding is_nan
-is-nan nan e = refl
-is-nan (inf s) e = absurd (subst T (sym e) tt)
-is-nan (fin s m e) q = absurd (subst T (sym q) tt)
+is_nan_lem nan e = refl
+is_nan_lem (inf s) e = absurd (subst T (sym e) tt)
+is_nan_lem (fin s m e) q = absurd (subst T (sym q) tt)
 
-pub time-defined : (x : Float) → ne x x ≡ false → T (not (is_nan x))
+pub time_defined : (x : Float) → ne x x ≡ false → T (not (is_nan x))
 unfolding is_nan
-time-defined nan e = subst T (sym nan_differs ∙ e) tt
-time-defined (inf s) e = tt
-time-defined (fin s m e) q = tt
+time_defined nan e = subst T (sym nan_differs ∙ e) tt
+time_defined (inf s) e = tt
+time_defined (fin s m e) q = tt
 
 -- a pattern above an infinity's, the sign left out
-pub time-nan : (n : ℕ) → 0x7ff0_0000_0000_0000 < n % 0x8000_0000_0000_0000 → nan ≡ of_bits binary64 n
-time-nan n h = sym (is-nan (of_bits binary64 n) (sym (nan_bits_is binary64 n) ∙ nan_bits_above binary64 n ∙ lt-ltb _ _ h))
+pub time_nan : (n : ℕ) → 0x7ff0_0000_0000_0000 < n % 0x8000_0000_0000_0000 → nan ≡ of_bits binary64 n
+time_nan n h = sym (is_nan_lem (of_bits binary64 n) (sym (nan_bits_is binary64 n) ∙ nan_bits_above binary64 n ∙ lt-ltb _ _ h))
 
-pub pattern-defined : (n : ℕ) → n % 0x8000_0000_0000_0000 ≤ 0x7ff0_0000_0000_0000 → T (not (nan_bits binary64 n))
-pattern-defined n h = subst (λ (b : Bool). T (not b)) (sym (nan_bits_above binary64 n ∙ le-ltb _ _ h)) tt
+pub pattern_defined : (n : ℕ) → n % 0x8000_0000_0000_0000 ≤ 0x7ff0_0000_0000_0000 → T (not (nan_bits binary64 n))
+pattern_defined n h = subst (λ (b : Bool). T (not b)) (sym (nan_bits_above binary64 n ∙ le-ltb _ _ h)) tt
 
 pub zero_by_zero : div binary64 (of_bits binary64 0) (of_bits binary64 0) ≡ nan
 unfolding div of_bits
@@ -41,30 +41,30 @@ unfolding to_bits
 nan_pattern x e = sym (ap (to_bits binary64) (differs_from_itself x (subst T (sym e) tt)))
 
 -- ---- a run
-length-timed : (n : ℕ) (bs : List ℕ) (ts : List Float) → length (timed n bs ts) ≡ length ts
-length-timed zero bs ts = refl
-length-timed (suc n) [] ts = refl
-length-timed (suc n) (b ∷ bs) [] = refl
-length-timed (suc n) (b ∷ bs) (t ∷ ts) = ap suc (length-timed n bs ts)
+length_timed : (n : ℕ) (bs : List ℕ) (ts : List Float) → length (timed n bs ts) ≡ length ts
+length_timed zero bs ts = refl
+length_timed (suc n) [] ts = refl
+length_timed (suc n) (b ∷ bs) [] = refl
+length_timed (suc n) (b ∷ bs) (t ∷ ts) = ap suc (length_timed n bs ts)
 
-timed-suc : (i : ℕ) (bs : List ℕ) (ts : List Float) → i < length bs → i < length ts
+timed_suc : (i : ℕ) (bs : List ℕ) (ts : List Float) → i < length bs → i < length ts
     → set (timed i bs ts) i (of_bits binary64 (get_or bs i 0)) ≡ timed (suc i) bs ts
-timed-suc i [] ts h k = absurd (omega arith)
-timed-suc i (b ∷ bs) [] h k = absurd (omega arith)
-timed-suc zero (b ∷ bs) (t ∷ ts) h k = refl
-timed-suc (suc i) (b ∷ bs) (t ∷ ts) h k = ap (λ (l : List Float). of_bits binary64 b ∷ l) (timed-suc i bs ts (omega arith) (omega arith))
+timed_suc i [] ts h k = absurd (omega arith)
+timed_suc i (b ∷ bs) [] h k = absurd (omega arith)
+timed_suc zero (b ∷ bs) (t ∷ ts) h k = refl
+timed_suc (suc i) (b ∷ bs) (t ∷ ts) h k = ap (λ (l : List Float). of_bits binary64 b ∷ l) (timed_suc i bs ts (omega arith) (omega arith))
 
-pub timed-more : (i : ℕ) (bs : List ℕ) (ts : List Float) → i < length bs → i < length ts
+pub timed_more : (i : ℕ) (bs : List ℕ) (ts : List Float) → i < length bs → i < length ts
     → set (timed i bs ts) i (of_bits binary64 (get_or bs i 0)) ≡ timed (i + 1) bs ts
-timed-more i bs ts h k = timed-suc i bs ts h k ∙ ap (λ (j : ℕ). timed j bs ts) (sym (add-one i))
+timed_more i bs ts h k = timed_suc i bs ts h k ∙ ap (λ (j : ℕ). timed j bs ts) (sym (add-one i))
 
 -- more of them change nothing where one of the two is at its end
-pub timed-end : (i n : ℕ) (bs : List ℕ) (ts : List Float) → i ≡ min n (min (length bs) (length ts)) → timed i bs ts ≡ timed n bs ts
-timed-end zero zero bs ts e = refl
-timed-end zero (suc n) [] ts e = refl
-timed-end zero (suc n) (b ∷ bs) [] e = refl
-timed-end zero (suc n) (b ∷ bs) (t ∷ ts) e = absurd (omega arith)
-timed-end (suc i) zero bs ts e = absurd (omega arith)
-timed-end (suc i) (suc n) [] ts e = refl
-timed-end (suc i) (suc n) (b ∷ bs) [] e = refl
-timed-end (suc i) (suc n) (b ∷ bs) (t ∷ ts) e = ap (λ (l : List Float). of_bits binary64 b ∷ l) (timed-end i n bs ts (omega arith))
+pub timed_end : (i n : ℕ) (bs : List ℕ) (ts : List Float) → i ≡ min n (min (length bs) (length ts)) → timed i bs ts ≡ timed n bs ts
+timed_end zero zero bs ts e = refl
+timed_end zero (suc n) [] ts e = refl
+timed_end zero (suc n) (b ∷ bs) [] e = refl
+timed_end zero (suc n) (b ∷ bs) (t ∷ ts) e = absurd (omega arith)
+timed_end (suc i) zero bs ts e = absurd (omega arith)
+timed_end (suc i) (suc n) [] ts e = refl
+timed_end (suc i) (suc n) (b ∷ bs) [] e = refl
+timed_end (suc i) (suc n) (b ∷ bs) (t ∷ ts) e = ap (λ (l : List Float). of_bits binary64 b ∷ l) (timed_end i n bs ts (omega arith))

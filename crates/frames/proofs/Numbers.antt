@@ -9,24 +9,24 @@ use lib.ListN.{length, get_or, take, drop, length-append, length-drop, take-appe
 use lib.Seq.{take-suc, get_or-drop, drop-drop}
 use Rattle.frames.specs.Hex.{digit, digits}
 use Rattle.frames.specs.Parts.{Nibble, Stands, Number}
-use Rattle.frames.specs.Digits.{cut, length_digits, digits_more, digits-one, digits-at, small-more}
+use Rattle.frames.specs.Digits.{cut, length_digits, digits_more, digits_one, digits_at, small_more}
 
 -- none stands there
-pub none-there : (bytes : ℕ → List ℕ) (s : List ℕ) (at w : ℕ) → ((v : ℕ) (t : List ℕ) → drop at s ≡ bytes v ++ t → ⊥)
+pub none_there : (bytes : ℕ → List ℕ) (s : List ℕ) (at w : ℕ) → ((v : ℕ) (t : List ℕ) → drop at s ≡ bytes v ++ t → ⊥)
     → Stands bytes s at w (record { value = 0; next = length s + 1 })
-none-there bytes s at w no_bytes =
+none_there bytes s at w no_bytes =
     record { small = one-le-pow w 16 (zero-lt-suc 15); sound = λ h. absurd (omega arith); whole = λ v t _ q. absurd (no_bytes v t q) }
 
 -- too few bytes are left
 pub too_short : (s : List ℕ) (at w : ℕ) → length s < at + w → 0 < w → Number s at w (record { value = 0; next = length s + 1 })
 too_short s at w h k =
-    none-there (digits w) s at w (λ v t e. omega (arith, simp (length-drop, length-append, length_digits) at (ap length e)))
+    none_there (digits w) s at w (λ v t e. omega (arith, simp (length-drop, length-append, length_digits) at (ap length e)))
 
 -- a byte there is no digit
 pub no_digit : (s : List ℕ) (at w i n : ℕ) → i < w → Nibble (get_or s (at + i) 0) n → 15 < n → Number s at w (record { value = 0; next = length s + 1 })
 no_digit s at w i n h nib k =
-    none-there (digits w) s at w (λ v t e.
-    let d = digits-at w v i h in
+    none_there (digits w) s at w (λ v t e.
+    let d = digits_at w v i h in
     let q : get_or s (at + i) 0 ≡ digit d.0 =
     sym (get_or-drop at s i 0) ∙ ap (λ (l : List ℕ). get_or l i 0) e
     ∙ get_or-append (digits w v) t 0 i (rw (length_digits w v) h) ∙ d.2 in
@@ -42,12 +42,12 @@ one_more s at i v n h nib k e =
     ∙ ap (λ (l : List ℕ). l ++ (digit n ∷ [])) e
     ∙ sym (digits_more i v n (omega arith)))
 
-pub one-fits : (i w v n : ℕ) → i < w → w ≤ 16 → v < 16 ^ i → n ≤ 15 → v * 16 + n < 2 ^ 64
-one-fits i w v n h k l m =
-    omega (arith, small-more i v n l (omega arith), pow-le-pow_right {n = 16} (zero-lt-suc 15) {i = suc i} {j = 16} (omega arith))
+pub one_fits : (i w v n : ℕ) → i < w → w ≤ 16 → v < 16 ^ i → n ≤ 15 → v * 16 + n < 2 ^ 64
+one_fits i w v n h k l m =
+    omega (arith, small_more i v n l (omega arith), pow-le-pow_right {n = 16} (zero-lt-suc 15) {i = suc i} {j = 16} (omega arith))
 
-pub one-small : (i v n : ℕ) → v < 16 ^ i → n ≤ 15 → v * 16 + n < 16 ^ (i + 1)
-one-small i v n l m = rw (add-one i) (small-more i v n l (omega arith))
+pub one_small : (i v n : ℕ) → v < 16 ^ i → n ≤ 15 → v * 16 + n < 16 ^ (i + 1)
+one_small i v n l m = rw (add-one i) (small_more i v n l (omega arith))
 
 -- all were read
 pub found : (s : List ℕ) (at w i v : ℕ) → i ≡ w → at + w ≤ length s → v < 16 ^ i → take i (drop at s) ≡ digits i v
@@ -63,5 +63,5 @@ found s at w i v p h li ei =
       whole =
           λ u t k f.
           let r = cut (digits w v) (digits w u) (drop (at + w) s) t (length_digits w v ∙ sym (length_digits w u)) (sym q ∙ f) in
-          (digits-one w v u l k r.0, r.1);
+          (digits_one w v u l k r.0, r.1);
     }

@@ -14,12 +14,12 @@ snoc (suc k) i ss ls =
     (snoc k (suc i) ss ls ∙ ap (λ (j : ℕ). answers k (suc i) ss ls ++ pair j ss ls) (omega arith))
 
 -- one answer more
-pub answers-more : (k : ℕ) (ss ls : List ℕ) → answers (k + 1) 0 ss ls ≡ answers k 0 ss ls ++ pair k ss ls
-answers-more k ss ls = ap (λ (j : ℕ). answers j 0 ss ls) (add-one k) ∙ snoc k 0 ss ls ∙ ap (λ (j : ℕ). answers k 0 ss ls ++ pair j ss ls) (zero-add k)
+pub answers_more : (k : ℕ) (ss ls : List ℕ) → answers (k + 1) 0 ss ls ≡ answers k 0 ss ls ++ pair k ss ls
+answers_more k ss ls = ap (λ (j : ℕ). answers j 0 ss ls) (add-one k) ∙ snoc k 0 ss ls ∙ ap (λ (j : ℕ). answers k 0 ss ls ++ pair j ss ls) (zero-add k)
 
-pub answers-more-then : (k : ℕ) (ss ls : List ℕ) (fs : List Field)
+pub answers_more_then : (k : ℕ) (ss ls : List ℕ) (fs : List Field)
     → answers (k + 1) 0 ss ls ++ fs ≡ answers k 0 ss ls ++ (pair k ss ls ++ fs)
-answers-more-then k ss ls fs = ap (λ (l : List Field). l ++ fs) (answers-more k ss ls) ∙ append_assoc (answers k 0 ss ls) (pair k ss ls) fs
+answers_more_then k ss ls fs = ap (λ (l : List Field). l ++ fs) (answers_more k ss ls) ∙ append_assoc (answers k 0 ss ls) (pair k ss ls) fs
 
 -- a is b below k
 abbrev pub Agree : ℕ → List ℕ → List ℕ → Type 0
@@ -37,14 +37,14 @@ agree (suc k) i ss ls ss' ls' p q =
 pub answers_agree : (k : ℕ) (ss ls ss' ls' : List ℕ) → Agree k ss ss' → Agree k ls ls' → answers k 0 ss ls ≡ answers k 0 ss' ls'
 answers_agree k ss ls ss' ls' p q = agree k 0 ss ls ss' ls' (λ j h. p j (omega arith)) (λ j h. q j (omega arith))
 
-pub fit-both : (fs gs : List Field) → Fit fs → Fit gs → Fit (fs ++ gs)
-fit-both [] gs p q = q
-fit-both (f ∷ fs) gs p q = (p.0, fit-both fs gs p.1 q)
+pub fit_both : (fs gs : List Field) → Fit fs → Fit gs → Fit (fs ++ gs)
+fit_both [] gs p q = q
+fit_both (f ∷ fs) gs p q = (p.0, fit_both fs gs p.1 q)
 
-pub fit-left : (fs gs : List Field) → Fit (fs ++ gs) → Fit fs
-fit-left [] gs p = tt
-fit-left (f ∷ fs) gs p = (p.0, fit-left fs gs p.1)
+pub fit_left : (fs gs : List Field) → Fit (fs ++ gs) → Fit fs
+fit_left [] gs p = tt
+fit_left (f ∷ fs) gs p = (p.0, fit_left fs gs p.1)
 
-pub fit-right : (fs gs : List Field) → Fit (fs ++ gs) → Fit gs
-fit-right [] gs p = p
-fit-right (f ∷ fs) gs p = fit-right fs gs p.1
+pub fit_right : (fs gs : List Field) → Fit (fs ++ gs) → Fit gs
+fit_right [] gs p = p
+fit_right (f ∷ fs) gs p = fit_right fs gs p.1

@@ -7,36 +7,36 @@ use Rattle.frames.specs.declared.Call.TheVariants.{Tick, Restart}
 use Rattle.frames.specs.declared.Event.TheVariants.{Other, Update}
 use Rattle.frames.specs.declared.Frame.TheVariants.{Node, Asked, Said, Malformed}
 
-a-node : line (Node 0x08 0x0002 0) [] [] ≡ bytes "01 08 0002 0000000000000000\n"
+a_node : line (Node 0x08 0x0002 0) [] [] ≡ bytes "01 08 0002 0000000000000000\n"
 unfolding digits bytes
-a-node = refl
+a_node = refl
 
-an-update : line (Asked Tick (Update 0x3ff0000000000000) 0x10 0) [] [] ≡ bytes "02 01 3ff0000000000000 00000010 0000\n"
+an_update : line (Asked Tick (Update 0x3ff0000000000000) 0x10 0) [] [] ≡ bytes "02 01 3ff0000000000000 00000010 0000\n"
 unfolding digits bytes
-an-update = refl
+an_update = refl
 
-answers-given : line (Asked Tick (Other false) 5 2) (2 ∷ 1 ∷ []) (0 ∷ 0x401c000000000000 ∷ [])
+answers_given : line (Asked Tick (Other false) 5 2) (2 ∷ 1 ∷ []) (0 ∷ 0x401c000000000000 ∷ [])
     ≡ bytes "02 00 0000000000000000 00000005 0002 02 0000000000000000 01 401c000000000000\n"
 unfolding digits bytes
-answers-given = refl
+answers_given = refl
 
-minus-zero : line (Asked Tick (Other true) 5 0) [] [] ≡ bytes "02 00 8000000000000000 00000005 0000\n"
+minus_zero_lem : line (Asked Tick (Other true) 5 0) [] [] ≡ bytes "02 00 8000000000000000 00000005 0000\n"
 unfolding digits bytes
-minus-zero = refl
+minus_zero_lem = refl
 
-a-restart : line (Asked Restart (Update 0x3ff0000000000000) 0x10 1) (3 ∷ []) (0 ∷ [])
+a_restart : line (Asked Restart (Update 0x3ff0000000000000) 0x10 1) (3 ∷ []) (0 ∷ [])
     ≡ bytes "03 01 3ff0000000000000 00000010 0001 03 0000000000000000\n"
 unfolding digits bytes
-a-restart = refl
+a_restart = refl
 
-an-answer : line (Said Tick 0 2 0x3ff0000000000000 3 0 0) [] [] ≡ bytes "82 00 02 3ff0000000000000 00000003 0000 0000\n"
+an_answer : line (Said Tick 0 2 0x3ff0000000000000 3 0 0) [] [] ≡ bytes "82 00 02 3ff0000000000000 00000003 0000 0000\n"
 unfolding digits bytes
-an-answer = refl
+an_answer = refl
 
-of-a-restart : line (Said Restart 1 0 0x3ff0000000000000 0 0 7) [] [] ≡ bytes "83 01 00 3ff0000000000000 00000000 0000 0007\n"
+of_a_restart : line (Said Restart 1 0 0x3ff0000000000000 0 0 7) [] [] ≡ bytes "83 01 00 3ff0000000000000 00000000 0000 0007\n"
 unfolding digits bytes
-of-a-restart = refl
+of_a_restart = refl
 
-a-malformed-line : line (Malformed 258) [] [] ≡ bytes "8f 0102\n"
+a_malformed_line : line (Malformed 258) [] [] ≡ bytes "8f 0102\n"
 unfolding digits bytes
-a-malformed-line = refl
+a_malformed_line = refl

@@ -1,7 +1,7 @@
 -- The frame whose line some bytes are, as a function of the bytes: fields are taken by their widths, and the frame that they say is the
 -- bytes' own only if its line is those bytes again. `Finds` shows that every frame is found from its line, and from no other bytes.
 use Rattle.std.specs.Prelude.{Bool, true, false, cond, ◌&&◌, ◌||◌, List, [], ◌∷◌, ℕ, zero, suc, ◌+◌, ◌-◌, ◌*◌, ◌^◌, leb, ltb, eqb, take, drop}
-use Rattle.frames.specs.Line.{Field, body, answersOf, line}
+use Rattle.frames.specs.Line.{Field, body, answers_of, line}
 use Rattle.frames.specs.Back.{frame_of}
 use Rattle.frames.specs.declared.Frame.{Frame}
 use Rattle.frames.specs.declared.Reading.{Reading}
@@ -46,20 +46,20 @@ seconds (f ∷ []) = []
 seconds (f ∷ g ∷ fs) = g.1 ∷ seconds fs
 
 -- what the bytes say, if they are a frame's line
-abbrev pub kindIn : List ℕ → ℕ
-kindIn l = numeral 0 (take 2 l)
+abbrev pub kind_in : List ℕ → ℕ
+kind_in l = numeral 0 (take 2 l)
 
-abbrev pub frameIn : List ℕ → Frame
-frameIn l = frame_of (kindIn l) (taken (widths (kindIn l)) (drop 2 l))
+abbrev pub frame_in : List ℕ → Frame
+frame_in l = frame_of (kind_in l) (taken (widths (kind_in l)) (drop 2 l))
 
-abbrev pub answersIn : List ℕ → List Field
-answersIn l = taken (pairs (answersOf (frameIn l))) (behind (widths (kindIn l)) (drop 2 l))
+abbrev pub answers_in : List ℕ → List Field
+answers_in l = taken (pairs (answers_of (frame_in l))) (behind (widths (kind_in l)) (drop 2 l))
 
-unfoldable pub statusesIn : List ℕ → List ℕ
-statusesIn l = firsts (answersIn l)
+unfoldable pub statuses_in : List ℕ → List ℕ
+statuses_in l = firsts (answers_in l)
 
-unfoldable pub leftoversIn : List ℕ → List ℕ
-leftoversIn l = seconds (answersIn l)
+unfoldable pub leftovers_in : List ℕ → List ℕ
+leftovers_in l = seconds (answers_in l)
 
 -- tests of what a frame must be
 abbrev pub fitting : List Field → Bool
@@ -73,9 +73,9 @@ same (x ∷ xs) [] = false
 same (x ∷ xs) (y ∷ ys) = eqb x y && same xs ys
 
 abbrev pub is_line : Frame → List ℕ → List ℕ → List ℕ → Bool
-is_line f ss ls l = leb (answersOf f) 1024 && fitting (body f ss ls) && same (line f ss ls) l
+is_line f ss ls l = leb (answers_of f) 1024 && fitting (body f ss ls) && same (line f ss ls) l
 
 -- the frame whose line l is, or that it is no frame's
 unfoldable pub found : List ℕ → Reading
-unfolding statusesIn leftoversIn
-found l = cond (is_line (frameIn l) (statusesIn l) (leftoversIn l) l) (Reading.Is (frameIn l)) Reading.NoFrame
+unfolding statuses_in leftovers_in
+found l = cond (is_line (frame_in l) (statuses_in l) (leftovers_in l) l) (Reading.Is (frame_in l)) Reading.NoFrame

@@ -20,32 +20,32 @@ fields [] = 10 ∷ []
 fields (f ∷ fs) = (32 ∷ digits f.0 f.1) ++ fields fs
 
 -- the two digits at the line's start, by which a tick and a restart are told apart
-abbrev pub askedNo : Call → ℕ
-askedNo Tick = 0x02
-askedNo Restart = 0x03
+abbrev pub asked_no : Call → ℕ
+asked_no Tick = 0x02
+asked_no Restart = 0x03
 
-abbrev pub saidNo : Call → ℕ
-saidNo Tick = 0x82
-saidNo Restart = 0x83
+abbrev pub said_no : Call → ℕ
+said_no Tick = 0x82
+said_no Restart = 0x83
 
 abbrev pub kind_of : Frame → ℕ
 kind_of (Node kind n limit) = 0x01
-kind_of (Asked call event fuel count) = askedNo call
-kind_of (Said call num status time visits used extra) = saidNo call
+kind_of (Asked call event fuel count) = asked_no call
+kind_of (Said call num status time visits used extra) = said_no call
 kind_of (Malformed line) = 0x8f
 
-abbrev pub eventNo : Event → ℕ
-eventNo (Other minus) = 0
-eventNo (Update dt) = 1
+abbrev pub event_no : Event → ℕ
+event_no (Other minus) = 0
+event_no (Update dt) = 1
 
 -- the sign bit alone
-abbrev pub minusZero : ℕ
-minusZero = 0x8000000000000000
+abbrev pub minus_zero : ℕ
+minus_zero = 0x8000000000000000
 
 -- beside an other event, zero with either sign
-abbrev pub eventTime : Event → ℕ
-eventTime (Other minus) = cond minus minusZero 0
-eventTime (Update dt) = dt
+abbrev pub event_time : Event → ℕ
+event_time (Other minus) = cond minus minus_zero 0
+event_time (Update dt) = dt
 
 -- k answers from the i-th on
 abbrev pub answers : ℕ → ℕ → List ℕ → List ℕ → List Field
@@ -55,19 +55,19 @@ answers (suc k) i statuses leftovers = (2, get_or statuses i 0) ∷ (16, get_or 
 -- the fields after the kind, up to the answers
 abbrev pub front : Frame → List Field
 front (Node kind n limit) = (2, kind) ∷ (4, n) ∷ (16, limit) ∷ []
-front (Asked call event fuel count) = (2, eventNo event) ∷ (16, eventTime event) ∷ (8, fuel) ∷ (4, count) ∷ []
+front (Asked call event fuel count) = (2, event_no event) ∷ (16, event_time event) ∷ (8, fuel) ∷ (4, count) ∷ []
 front (Said call num status time visits used extra) = (2, num) ∷ (2, status) ∷ (16, time) ∷ (8, visits) ∷ (4, used) ∷ (4, extra) ∷ []
 front (Malformed number) = (4, number) ∷ []
 
 -- how many answers a frame has
-abbrev pub answersOf : Frame → ℕ
-answersOf (Node kind n limit) = 0
-answersOf (Asked call event fuel count) = count
-answersOf (Said call num status time visits used extra) = 0
-answersOf (Malformed number) = 0
+abbrev pub answers_of : Frame → ℕ
+answers_of (Node kind n limit) = 0
+answers_of (Asked call event fuel count) = count
+answers_of (Said call num status time visits used extra) = 0
+answers_of (Malformed number) = 0
 
 abbrev pub body : Frame → List ℕ → List ℕ → List Field
-body f ss ls = front f ++ answers (answersOf f) 0 ss ls
+body f ss ls = front f ++ answers (answers_of f) 0 ss ls
 
 abbrev pub line : Frame → List ℕ → List ℕ → List ℕ
 line f ss ls = digits 2 (kind_of f) ++ fields (body f ss ls)
@@ -79,9 +79,9 @@ Fit (f ∷ fs) = (f.1 < 16 ^ f.0) × Fit fs
 
 -- f with the answers in ss and ls is a frame: at most 1,024 answers, all of them there, and every number within its width
 pub record Good (f : Frame) (ss ls : List ℕ) : Type 0 where
-  pub few : answersOf f ≤ 1024
-  pub statuses : answersOf f ≤ length ss
-  pub leftovers : answersOf f ≤ length ls
+  pub few : answers_of f ≤ 1024
+  pub statuses : answers_of f ≤ length ss
+  pub leftovers : answers_of f ≤ length ls
   pub fit : Fit (body f ss ls)
 
 -- a is b from its k-th element on, and as long
@@ -92,11 +92,11 @@ Kept k a b = (length a ≡ length b) × (drop k a ≡ drop k b)
 -- that l is no frame's line; or that there is no room for its answers
 abbrev pub Reads : List ℕ → List ℕ → List ℕ → Reading → List ℕ → List ℕ → Type 0
 Reads l ss ls (Reading.Is f) ss' ls' =
-    Good f ss' ls' × (line f ss' ls' ≡ l) × Kept (answersOf f) ss' ss × Kept (answersOf f) ls' ls
+    Good f ss' ls' × (line f ss' ls' ≡ l) × Kept (answers_of f) ss' ss × Kept (answers_of f) ls' ls
 Reads l ss ls Reading.NoFrame ss' ls' =
     ((f : Frame) (xs ys : List ℕ) → Good f xs ys → line f xs ys ≡ l → ⊥) × (ss' ≡ ss) × (ls' ≡ ls)
 Reads l ss ls Reading.TooShort ss' ls' =
-    ((f : Frame) × (xs : List ℕ) × (ys : List ℕ) × Good f xs ys × (line f xs ys ≡ l) × (min (length ss) (length ls) < answersOf f))
+    ((f : Frame) × (xs : List ℕ) × (ys : List ℕ) × Good f xs ys × (line f xs ys ≡ l) × (min (length ss) (length ls) < answers_of f))
     × (ss' ≡ ss) × (ls' ≡ ls)
 
 -- a line in front of what a room held
@@ -106,7 +106,7 @@ laid l room = l ++ drop (length l) room
 -- what writing f with the answers in ss and ls answers, and what the room holds then: no such frame or too little room leave it as it was
 abbrev pub wrote : Frame → List ℕ → List ℕ → List ℕ → Written × List ℕ
 wrote f ss ls room =
-    cond (leb (answersOf f) (min 1024 (min (length ss) (length ls))))
+    cond (leb (answers_of f) (min 1024 (min (length ss) (length ls))))
     (cond (leb (length (line f ss ls)) (length room))
     (Written.Bytes (length (line f ss ls)), laid (line f ss ls) room)
     (Written.TooShort, room))

@@ -1,7 +1,7 @@
 -- What the parts of reading and writing answer. None of it is cited by what a caller is promised.
 use Rattle.std.specs.Prelude.{◌≡◌, Bool, true, false, List, [], ◌∷◌, ◌++◌, ℕ, suc, ◌+◌, ◌*◌, ◌^◌, ◌≤◌, ◌<◌, length, take, drop}
 use Rattle.frames.specs.Hex.{digit, digits}
-use Rattle.frames.specs.Line.{Field, Fit, Good, fields, kind_of, front, body, line, answers, eventNo, eventTime}
+use Rattle.frames.specs.Line.{Field, Fit, Good, fields, kind_of, front, body, line, answers, event_no, event_time}
 use Rattle.frames.specs.declared.Event.{Event}
 use Rattle.frames.specs.declared.Frame.{Frame}
 use Rattle.frames.specs.declared.Frame.TheVariants.{Node, Asked, Said, Malformed}
@@ -36,8 +36,8 @@ Ends rest false = rest ≡ fields [] → ⊥
 
 -- the event that two fields say
 abbrev pub EventIs : ℕ → ℕ → Happened → Type 0
-EventIs num dt (Happened.Is e) = (eventNo e ≡ num) × (eventTime e ≡ dt)
-EventIs num dt Happened.Not = (e : Event) → eventNo e ≡ num → eventTime e ≡ dt → ⊥
+EventIs num dt (Happened.Is e) = (event_no e ≡ num) × (event_time e ≡ dt)
+EventIs num dt Happened.Not = (e : Event) → event_no e ≡ num → event_time e ≡ dt → ⊥
 
 -- k answers stand from at up to next
 pub record Skips (l : List ℕ) (at k next : ℕ) : Type 0 where

@@ -1,6 +1,6 @@
 // Reading a line: the two digits of its kind, its fields, each after a space, then LF and nothing more.
 ghost use Rattle.std.specs.Prelude.{◌≡◌, ◌+◌, ◌≤◌, ◌<◌, length, drop};
-ghost use Rattle.frames.specs.Line.{askedNo, saidNo, answersOf, Reads};
+ghost use Rattle.frames.specs.Line.{asked_no, said_no, answers_of, Reads};
 ghost use Rattle.frames.specs.Parts.{Ends, EventIs, Skips, Body, Whole, Filled};
 
 use crate::hex::{field, number};
@@ -85,7 +85,7 @@ fn node(line: &[u8], at: usize) -> Found
 }
 
 fn asked(line: &[u8], at: usize, call: Call) -> Found
-    ensures { Body (askedNo call) (drop at line.now) result }
+    ensures { Body (asked_no call) (drop at line.now) result }
 {
     let no = field(line, at, 2);
     let dt = field(line, no.next, 16);
@@ -111,7 +111,7 @@ fn asked(line: &[u8], at: usize, call: Call) -> Found
 }
 
 fn said(line: &[u8], at: usize, call: Call) -> Found
-    ensures { Body (saidNo call) (drop at line.now) result }
+    ensures { Body (said_no call) (drop at line.now) result }
 {
     let no = field(line, at, 2);
     let status = field(line, no.next, 2);
@@ -167,7 +167,7 @@ fn head(line: &[u8]) -> Found
 
 // How many answers a frame has.
 pub fn count(frame: Frame) -> usize
-    ensures { result ≡ answersOf frame }
+    ensures { result ≡ answers_of frame }
 {
     match frame {
         Frame::Asked { count, .. } => count as usize,

@@ -1,8 +1,8 @@
 // Answers, events and kinds as the numbers that a host sees.
 ghost use Rattle.std.specs.Prelude.{◌≡◌};
-ghost use Rattle.rules.specs.Outcome.{eventOf};
+ghost use Rattle.rules.specs.Outcome.{event_of};
 ghost use Rattle.rules.specs.Call.{said_of};
-ghost use Rattle.host.specs.Host.{boundOf, memoryOf};
+ghost use Rattle.host.specs.Host.{bound_of, memory_of};
 
 use rules::{BoundAnswer, Called, Event, Kind, Record, Said};
 
@@ -36,7 +36,7 @@ pub struct Bound {
 
 // The bound's answer.
 pub fn bound_of(answer: BoundAnswer) -> Bound
-    ensures { result ≡ boundOf answer }
+    ensures { result ≡ bound_of answer }
 {
     match answer {
         BoundAnswer::Within(n) => Bound {
@@ -74,7 +74,7 @@ pub fn bound_of(answer: BoundAnswer) -> Bound
 
 // An update carries its dt.
 pub fn event_of(update: bool, dt: f64) -> Event
-    ensures { result ≡ eventOf update dt }
+    ensures { result ≡ event_of update dt }
 {
     if update {
         Event::Update(dt)
@@ -85,7 +85,7 @@ pub fn event_of(update: bool, dt: f64) -> Event
 
 // The number of a kind with its memory on or off; a number that is no kind stays.
 pub fn memory_of(kind: u8, on: bool) -> u8
-    ensures { result ≡ memoryOf kind on }
+    ensures { result ≡ memory_of kind on }
 {
     if Kind::LAST < kind {
         return kind;

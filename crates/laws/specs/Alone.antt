@@ -11,12 +11,12 @@ use Rattle.rules.specs.declared.event.Event.{Event}
 use Rattle.rules.specs.Tree.{Cell, Tree, node, Forest, [], ◌∷◌, depth}
 use Rattle.rules.specs.Outcome.{dt, World, world, Out, done, asks, short, Ticker, ◌▸◌}
 use Rattle.rules.specs.State.{Next, rule, tick}
-use Rattle.laws.specs.Shape.{Shape, Shapes, shape, shapes, size_of, sizesOf}
+use Rattle.laws.specs.Shape.{Shape, Shapes, shape, shapes, size_of, sizes_of}
 use Rattle.laws.specs.Shape
-use Rattle.laws.specs.Shape.{depth_of, depthsOf, depth-of}
+use Rattle.laws.specs.Shape.{depth_of, depths_of, depth_of_lem}
 use Rattle.laws.specs.Pair.{nothing, Pairing, Of, Sim, goes, ends}
-use Rattle.laws.specs.PairDrivers.{Same, Each, Visited, Alike, Any, any-each}
-use Rattle.laws.specs.PairRules.{rule-with, leave, Acts, rule-pair, visit-pair}
+use Rattle.laws.specs.PairDrivers.{Same, Each, Visited, Alike, Any, any_each}
+use Rattle.laws.specs.PairRules.{rule_with_lem, leave, Acts, rule_pair, visit_pair}
 
 abbrev pub Answers : Type 0
 Answers = List (Status × Float)
@@ -30,17 +30,17 @@ NotDone (done s r a w) = ⊥
 NotDone (asks n x) = Unit {0}
 NotDone short = Unit {0}
 
-pub spent-refl : (w : World) → Spent w w
-spent-refl (world f ans) = (le_refl f, (List.[], refl))
+pub spent_refl : (w : World) → Spent w w
+spent_refl (world f ans) = (le_refl f, (List.[], refl))
 
-pub spent-trans : (w w' w'' : World) → Spent w w' → Spent w' w'' → Spent w w''
-spent-trans (world f ans) (world f' ans') (world f'' ans'') h g =
+pub spent_trans : (w w' w'' : World) → Spent w w' → Spent w' w'' → Spent w w''
+spent_trans (world f ans) (world f' ans') (world f'' ans'') h g =
     (le_trans g.0 h.0, (h.1.0 ++ g.1.0, h.1.1 ∙ ap (λ (z : Answers). h.1.0 ++ z) g.1.1 ∙ sym (append_assoc h.1.0 g.1.0 ans'')))
 
-pub stop-on : {A B : Type 0} (o o' : Out A) (k k' : Status → Float → A → World → Out B) → (o ≡ o') × NotDone o → ((o ▸ k) ≡ (o' ▸ k')) × NotDone (o ▸ k)
-stop-on (done s r a w) o' k k' h = absurd h.1
-stop-on (asks n x) o' k k' h = (rw (← h.0) refl, tt)
-stop-on short o' k k' h = (rw (← h.0) refl, tt)
+pub stop_on : {A B : Type 0} (o o' : Out A) (k k' : Status → Float → A → World → Out B) → (o ≡ o') × NotDone o → ((o ▸ k) ≡ (o' ▸ k')) × NotDone (o ▸ k)
+stop_on (done s r a w) o' k k' h = absurd h.1
+stop_on (asks n x) o' k k' h = (rw (← h.0) refl, tt)
+stop_on short o' k k' h = (rw (← h.0) refl, tt)
 
 abbrev pub alone : (F : Format) → Pairing F
 alone F = record {
@@ -50,19 +50,19 @@ alone F = record {
   second = λ w m. m w;
   fuel = λ w. 0;
   Reach = λ n w w'. Spent w w';
-  stays = λ n w. spent-refl w;
-  onward = λ m n w w' w'' h g. spent-trans w w' w'' h g;
+  stays = λ n w. spent_refl w;
+  onward = λ m n w w' w'' h g. spent_trans w w' w'' h g;
   spends = λ n w w' h. tt;
   Stop = λ n w o o'. (o ≡ o') × NotDone o;
-  stop-then = λ n w o o' k k' h. stop-on o o' k k' h;
-  stop-back = λ m n w w' o o' g h. h;
-  stop-short = λ n w h. (refl, tt);
+  stop_then = λ n w o o' k k' h. stop_on o o' k k' h;
+  stop_back = λ m n w w' o o' g h. h;
+  stop_short = λ n w h. (refl, tt);
   Upto = λ m n. Unit {0};
   upto = λ m n h. tt;
-  reach-upto = λ m n w w' u h. h;
-  stop-upto = λ m n w o o' u h. h;
+  reach_upto = λ m n w w' u h. h;
+  stop_upto = λ m n w o o' u h. h;
   first_then = λ w m k. refl;
-  second-then = λ w m k. refl;
+  second_then = λ w m k. refl;
 }
 
 -- what holds of an outcome that is done
@@ -71,11 +71,11 @@ AfterTick w P (done s r a w') = Spent w w' × P a
 AfterTick w P (asks n x) = Unit {0}
 AfterTick w P short = Unit {0}
 
-pub max-left : (a b d : ℕ) → max a b ≤ d → a ≤ d
-max-left a b d h = omega arith
+pub max_left : (a b d : ℕ) → max a b ≤ d → a ≤ d
+max_left a b d h = omega arith
 
-pub max-right : (a b d : ℕ) → max a b ≤ d → b ≤ d
-max-right a b d h = omega arith
+pub max_right : (a b d : ℕ) → max a b ≤ d → b ≤ d
+max_right a b d h = omega arith
 
 module _ (F : Format) where
   -- the two outcomes are one
@@ -83,14 +83,14 @@ module _ (F : Format) where
   alike_is n w P o o' (goes s r a w' h x) = refl
   alike_is n w P o o' (ends u u' h) = h.0
 
-  alike-after : {A : Type 0} (n : ℕ) (w : World) (P : Of (alone F) A) (Q : A → Type 0) (o o' : Out A)
+  alike_after : {A : Type 0} (n : ℕ) (w : World) (P : Of (alone F) A) (Q : A → Type 0) (o o' : Out A)
       → ((s : Status) (r : Float) (a : A) (w' : World) → P s r a w' → Q a)
       → Sim (alone F) n w P o o'
       → AfterTick w Q o
-  alike-after n w P Q o o' f (goes s r a w' h x) = (h, f s r a w' x)
-  alike-after n w P Q o o' f (ends (done s r a w') u' h) = absurd h.1
-  alike-after n w P Q o o' f (ends (asks m x) u' h) = tt
-  alike-after n w P Q o o' f (ends short u' h) = tt
+  alike_after n w P Q o o' f (goes s r a w' h x) = (h, f s r a w' x)
+  alike_after n w P Q o o' f (ends (done s r a w') u' h) = absurd h.1
+  alike_after n w P Q o o' f (ends (asks m x) u' h) = tt
+  alike_after n w P Q o o' f (ends short u' h) = tt
 
   acts : Acts (alone F)
   unfolding rule
@@ -102,19 +102,19 @@ module _ (F : Format) where
       → Each D (shapes ts)
       → Sim (alone F) (size_of (shape (node k n l c b ts))) (world (suc f) ans) (Visited (alone F) (world (suc f) ans) (node k n l c b ts))
       (rule F child k n l c e ts (world f ans) ▸ leave k n l) (rule F child' k n l c e ts (world f ans) ▸ leave k n l)
-  visit D child child' g k n l c b ts e f ans d = visit-pair (alone F) acts D child child' g (suc f) k n l c b ts e (world (suc f) ans) (world f ans)
-      (rule-with F child k n l c e ts f ans) (rule-with F child' k n l c e ts f ans) (omega arith, (List.[], refl)) tt (λ h i j. tt) d tt tt
+  visit D child child' g k n l c b ts e f ans d = visit_pair (alone F) acts D child child' g (suc f) k n l c b ts e (world (suc f) ans) (world f ans)
+      (rule_with_lem F child k n l c e ts f ans) (rule_with_lem F child' k n l c e ts f ans) (omega arith, (List.[], refl)) tt (λ h i j. tt) d tt tt
 
   -- ---- every tree
-  tick-alone : (d : ℕ) → Alike (alone F) Any (tick F d) (tick F d)
+  tick_alone : (d : ℕ) → Alike (alone F) Any (tick F d) (tick F d)
   unfolding tick
-  tick-alone zero t e w u v ev = ends short short (refl, tt)
-  tick-alone (suc d) t e (world zero ans) u v ev = ends short short (refl, tt)
-  tick-alone (suc d) (node k n l c b ts) e (world (suc f) ans) u v ev = visit Any (tick F d) (tick F d) (tick-alone d) k n l c b ts e f ans (any-each (shapes ts))
+  tick_alone zero t e w u v ev = ends short short (refl, tt)
+  tick_alone (suc d) t e (world zero ans) u v ev = ends short short (refl, tt)
+  tick_alone (suc d) (node k n l c b ts) e (world (suc f) ans) u v ev = visit Any (tick F d) (tick F d) (tick_alone d) k n l c b ts e f ans (any_each (shapes ts))
 
   -- a tick keeps shape and mark, and takes fuel and answers from what it is given
-  pub tick-keeps : (d : ℕ) (t : Tree) (e : Event) (w : World) → AfterTick w (Same t) (tick F d t e w)
-  tick-keeps d t e w = alike-after (size_of (shape t)) w _ (Same t) (tick F d t e w) (tick F d t e w) (λ s r t' q x. x.0) (tick-alone d t e w tt tt tt)
+  pub tick_keeps : (d : ℕ) (t : Tree) (e : Event) (w : World) → AfterTick w (Same t) (tick F d t e w)
+  tick_keeps d t e w = alike_after (size_of (shape t)) w _ (Same t) (tick F d t e w) (tick F d t e w) (λ s r t' q x. x.0) (tick_alone d t e w tt tt tt)
 
   -- it takes one fuel at least
   abbrev pub Less : {A : Type 0} → ℕ → Out A → Type 0
@@ -122,36 +122,36 @@ module _ (F : Format) where
   Less f (asks n x) = Unit {0}
   Less f short = Unit {0}
 
-  less-of : (f : ℕ) (ans : Answers) (k : Kind) (n : ℕ) (l : Float) (o : Out Next) → AfterTick (world f ans) (λ x. Unit {0}) o → Less (suc f) (o ▸ leave k n l)
-  less-of f ans k n l (done s r x (world f' ans')) h = omega arith
-  less-of f ans k n l (asks m x) h = tt
-  less-of f ans k n l short h = tt
+  less_of : (f : ℕ) (ans : Answers) (k : Kind) (n : ℕ) (l : Float) (o : Out Next) → AfterTick (world f ans) (λ x. Unit {0}) o → Less (suc f) (o ▸ leave k n l)
+  less_of f ans k n l (done s r x (world f' ans')) h = omega arith
+  less_of f ans k n l (asks m x) h = tt
+  less_of f ans k n l short h = tt
 
-  pub tick-spends : (d : ℕ) (t : Tree) (e : Event) (f : ℕ) (ans : Answers) → Less f (tick F d t e (world f ans))
+  pub tick_spends : (d : ℕ) (t : Tree) (e : Event) (f : ℕ) (ans : Answers) → Less f (tick F d t e (world f ans))
   unfolding tick
-  tick-spends zero t e f ans = tt
-  tick-spends (suc d) t e zero ans = tt
-  tick-spends (suc d) (node k n l c b ts) e (suc f) ans = less-of f ans k n l (rule F (tick F d) k n l c e ts (world f ans)) (rw (rule-with F (tick F d) k n l c e ts f ans)
-      (alike-after (sizesOf (shapes ts)) (world f ans) _ (λ x. Unit {0}) _ _ (λ s r x q y. tt)
-      (rule-pair (alone F) acts Any (tick F d) (tick F d) (tick-alone d) (suc f) k n l c e ts (world f ans) (λ h i j. tt) (any-each (shapes ts)) tt tt)))
+  tick_spends zero t e f ans = tt
+  tick_spends (suc d) t e zero ans = tt
+  tick_spends (suc d) (node k n l c b ts) e (suc f) ans = less_of f ans k n l (rule F (tick F d) k n l c e ts (world f ans)) (rw (rule_with_lem F (tick F d) k n l c e ts f ans)
+      (alike_after (sizes_of (shapes ts)) (world f ans) _ (λ x. Unit {0}) _ _ (λ s r x q y. tt)
+      (rule_pair (alone F) acts Any (tick F d) (tick F d) (tick_alone d) (suc f) k n l c e ts (world f ans) (λ h i j. tt) (any_each (shapes ts)) tt tt)))
 
   -- ---- trees no deeper than d and d'
   abbrev Within : ℕ → ℕ → Shape → Type 0
   Within d d' s = (depth_of s ≤ d) × (depth_of s ≤ d')
 
-  within-each : (d d' : ℕ) (ss : Shapes) → depthsOf ss ≤ d → depthsOf ss ≤ d' → Each (Within d d') ss
-  within-each d d' Shape.[] h g = tt
-  within-each d d' (Shape.◌∷◌ s ss) h g =
-      ((max-left (depth_of s) (depthsOf ss) d h, max-left (depth_of s) (depthsOf ss) d' g), within-each d d' ss (max-right (depth_of s) (depthsOf ss) d h) (max-right (depth_of s) (depthsOf ss) d' g))
+  within_each : (d d' : ℕ) (ss : Shapes) → depths_of ss ≤ d → depths_of ss ≤ d' → Each (Within d d') ss
+  within_each d d' Shape.[] h g = tt
+  within_each d d' (Shape.◌∷◌ s ss) h g =
+      ((max_left (depth_of s) (depths_of ss) d h, max_left (depth_of s) (depths_of ss) d' g), within_each d d' ss (max_right (depth_of s) (depths_of ss) d h) (max_right (depth_of s) (depths_of ss) d' g))
 
-  tick-within : (d d' : ℕ) → Alike (alone F) (Within d d') (tick F d) (tick F d')
+  tick_within : (d d' : ℕ) → Alike (alone F) (Within d d') (tick F d) (tick F d')
   unfolding tick
-  tick-within zero d' (node k n l c b ts) e w u v ev = absurd (not-suc-le-zero u.0)
-  tick-within (suc d) zero (node k n l c b ts) e w u v ev = absurd (not-suc-le-zero u.1)
-  tick-within (suc d) (suc d') t e (world zero ans) u v ev = ends short short (refl, tt)
-  tick-within (suc d) (suc d') (node k n l c b ts) e (world (suc f) ans) u v ev =
-      visit (Within d d') (tick F d) (tick F d') (tick-within d d') k n l c b ts e f ans (within-each d d' (shapes ts) (le_of_suc-le-suc u.0) (le_of_suc-le-suc u.1))
+  tick_within zero d' (node k n l c b ts) e w u v ev = absurd (not-suc-le-zero u.0)
+  tick_within (suc d) zero (node k n l c b ts) e w u v ev = absurd (not-suc-le-zero u.1)
+  tick_within (suc d) (suc d') t e (world zero ans) u v ev = ends short short (refl, tt)
+  tick_within (suc d) (suc d') (node k n l c b ts) e (world (suc f) ans) u v ev =
+      visit (Within d d') (tick F d) (tick F d') (tick_within d d') k n l c b ts e f ans (within_each d d' (shapes ts) (le_of_suc-le-suc u.0) (le_of_suc-le-suc u.1))
 
   -- the depth that a tick may go down to does not matter for a tree that is no deeper
-  pub depth-free : (d d' : ℕ) (t : Tree) (e : Event) (w : World) → depth t ≤ d → depth t ≤ d' → tick F d t e w ≡ tick F d' t e w
-  depth-free d d' t e w h g = alike_is (size_of (shape t)) w _ (tick F d t e w) (tick F d' t e w) (tick-within d d' t e w (rw (← (depth-of t)) h, rw (← (depth-of t)) g) tt tt)
+  pub depth_free : (d d' : ℕ) (t : Tree) (e : Event) (w : World) → depth t ≤ d → depth t ≤ d' → tick F d t e w ≡ tick F d' t e w
+  depth_free d d' t e w h g = alike_is (size_of (shape t)) w _ (tick F d t e w) (tick F d' t e w) (tick_within d d' t e w (rw (← (depth_of_lem t)) h, rw (← (depth_of_lem t)) g) tt tt)

@@ -13,8 +13,8 @@ use Rattle.rules.specs.Outcome.{dt, World, world, Out, done, asks, short, ◌▸
 use Rattle.rules.specs.State.{rule, tick}
 use Rattle.laws.specs.Shape.{shape, shapes, size_of}
 use Rattle.laws.specs.Pair.{nothing, Pairing, Of, Sim, goes, ends}
-use Rattle.laws.specs.PairDrivers.{Alike, Any, any-each}
-use Rattle.laws.specs.PairRules.{rule-with, Acts, visit-pair}
+use Rattle.laws.specs.PairDrivers.{Alike, Any, any_each}
+use Rattle.laws.specs.PairRules.{rule_with_lem, Acts, visit_pair}
 use Rattle.laws.specs.Alone.{Answers, NotDone}
 
 -- `a` is the answer added, `more` what stands behind it
@@ -25,13 +25,13 @@ module _ (a : Status × Float) (more : Answers) where
     together : ℕ → Answers → Worlds
     asked : ℕ → Float → ℕ → (left : Answers) → (used : Answers) → more ≡ used ++ left → Worlds
 
-  abbrev pub firstIn : {A : Type 0} → Worlds → (World → Out A) → Out A
-  firstIn (together f l) m = m (world f l)
-  firstIn (asked n x f left used e) m = asks n x
+  abbrev pub first_in : {A : Type 0} → Worlds → (World → Out A) → Out A
+  first_in (together f l) m = m (world f l)
+  first_in (asked n x f left used e) m = asks n x
 
-  abbrev pub secondIn : {A : Type 0} → Worlds → (World → Out A) → Out A
-  secondIn (together f l) m = m (world f (l ++ List.◌∷◌ a more))
-  secondIn (asked n x f left used e) m = m (world f left)
+  abbrev pub second_in : {A : Type 0} → Worlds → (World → Out A) → Out A
+  second_in (together f l) m = m (world f (l ++ List.◌∷◌ a more))
+  second_in (asked n x f left used e) m = m (world f left)
 
   -- the question stays the question
   abbrev pub Reach : Worlds → Worlds → Type 0
@@ -55,58 +55,58 @@ module _ (a : Status × Float) (more : Answers) where
   onward (asked n x f left used e) (asked n' x' f' left' used' e') (together f'' l'') h g = absurd g
   onward (asked n x f left used e) (asked n' x' f' left' used' e') (asked n'' x'' f'' left'' used'' e'') h g = (g.0 ∙ h.0, g.1 ∙ h.1)
 
-  not-done-then : {A B : Type 0} (o : Out A) (c : Status → Float → A → World → Out B) → NotDone o → NotDone (o ▸ c)
-  not-done-then (done s r b w) c h = absurd h
-  not-done-then (asks n x) c h = tt
-  not-done-then short c h = tt
+  not_done_then : {A B : Type 0} (o : Out A) (c : Status → Float → A → World → Out B) → NotDone o → NotDone (o ▸ c)
+  not_done_then (done s r b w) c h = absurd h
+  not_done_then (asks n x) c h = tt
+  not_done_then short c h = tt
 
-  pub stop-then : {A B : Type 0} (p : Worlds) (o o' : Out A) (c c' : Status → Float → A → World → Out B) → Stop p o o' → Stop p (o ▸ c) (o' ▸ c')
-  stop-then (together f l) (done s r b w) o' c c' h = absurd h
-  stop-then (together f l) (asks n x) o' c c' h = not-done-then o' c' h
-  stop-then (together f l) short o' c c' h = rw h
-  stop-then (asked n x f left used e) o o' c c' h = (rw h.0, not-done-then o' c' h.1)
+  pub stop_then : {A B : Type 0} (p : Worlds) (o o' : Out A) (c c' : Status → Float → A → World → Out B) → Stop p o o' → Stop p (o ▸ c) (o' ▸ c')
+  stop_then (together f l) (done s r b w) o' c c' h = absurd h
+  stop_then (together f l) (asks n x) o' c c' h = not_done_then o' c' h
+  stop_then (together f l) short o' c c' h = rw h
+  stop_then (asked n x f left used e) o o' c c' h = (rw h.0, not_done_then o' c' h.1)
 
-  pub stop-back : {A : Type 0} (p q : Worlds) (o o' : Out A) → Reach p q → Stop q o o' → Stop p o o'
-  stop-back (together f l) (together f' l') (done s r b w) o' g h = h
-  stop-back (together f l) (together f' l') (asks n x) o' g h = h
-  stop-back (together f l) (together f' l') short o' g h = h
-  stop-back (together f l) (asked n x f' left used e) o o' g h = rw h.0 h.1
-  stop-back (asked n x f left used e) (together f' l') o o' g h = absurd g
-  stop-back (asked n x f left used e) (asked n' x' f' left' used' e') o o' g h = (h.0 ∙ (λ i. asks (g.0 i) (g.1 i)), h.1)
+  pub stop_back : {A : Type 0} (p q : Worlds) (o o' : Out A) → Reach p q → Stop q o o' → Stop p o o'
+  stop_back (together f l) (together f' l') (done s r b w) o' g h = h
+  stop_back (together f l) (together f' l') (asks n x) o' g h = h
+  stop_back (together f l) (together f' l') short o' g h = h
+  stop_back (together f l) (asked n x f' left used e) o o' g h = rw h.0 h.1
+  stop_back (asked n x f left used e) (together f' l') o o' g h = absurd g
+  stop_back (asked n x f left used e) (asked n' x' f' left' used' e') o o' g h = (h.0 ∙ (λ i. asks (g.0 i) (g.1 i)), h.1)
 
-  pub stop-short : (A : Type 0) (p : Worlds) → Stop {A = A} p (firstIn p (λ w. short)) (secondIn p (λ w. short))
-  stop-short A (together f l) = refl
-  stop-short A (asked n x f left used e) = (refl, tt)
+  pub stop_short : (A : Type 0) (p : Worlds) → Stop {A = A} p (first_in p (λ w. short)) (second_in p (λ w. short))
+  stop_short A (together f l) = refl
+  stop_short A (asked n x f left used e) = (refl, tt)
 
-  pub first_then : {A B : Type 0} (p : Worlds) (m : World → Out A) (c : Status → Float → A → World → Out B) → firstIn p (λ w. m w ▸ c) ≡ (firstIn p m ▸ c)
+  pub first_then : {A B : Type 0} (p : Worlds) (m : World → Out A) (c : Status → Float → A → World → Out B) → first_in p (λ w. m w ▸ c) ≡ (first_in p m ▸ c)
   first_then (together f l) m c = refl
   first_then (asked n x f left used e) m c = refl
 
-  pub second-then : {A B : Type 0} (p : Worlds) (m : World → Out A) (c : Status → Float → A → World → Out B) → secondIn p (λ w. m w ▸ c) ≡ (secondIn p m ▸ c)
-  second-then (together f l) m c = refl
-  second-then (asked n x f left used e) m c = refl
+  pub second_then : {A B : Type 0} (p : Worlds) (m : World → Out A) (c : Status → Float → A → World → Out B) → second_in p (λ w. m w ▸ c) ≡ (second_in p m ▸ c)
+  second_then (together f l) m c = refl
+  second_then (asked n x f left used e) m c = refl
 
   abbrev pub asking : (F : Format) → Pairing F
   asking F = record {
     terms = nothing F;
     Worlds = Worlds;
-    first = λ p m. firstIn p m;
-    second = λ p m. secondIn p m;
+    first = λ p m. first_in p m;
+    second = λ p m. second_in p m;
     fuel = λ p. 0;
     Reach = λ n p q. Reach p q;
     stays = λ n p. stays p;
     onward = λ m n p q r h g. onward p q r h g;
     spends = λ n p q h. tt;
     Stop = λ n p o o'. Stop p o o';
-    stop-then = λ n p o o' c c' h. stop-then p o o' c c' h;
-    stop-back = λ m n p q o o' g h. stop-back p q o o' g h;
-    stop-short = λ {A} n p h. stop-short A p;
+    stop_then = λ n p o o' c c' h. stop_then p o o' c c' h;
+    stop_back = λ m n p q o o' g h. stop_back p q o o' g h;
+    stop_short = λ {A} n p h. stop_short A p;
     Upto = λ m n. Unit {0};
     upto = λ m n h. tt;
-    reach-upto = λ m n p q u h. h;
-    stop-upto = λ m n p o o' u h. h;
+    reach_upto = λ m n p q u h. h;
+    stop_upto = λ m n p o o' u h. h;
     first_then = λ p m c. first_then p m c;
-    second-then = λ p m c. second-then p m c;
+    second_then = λ p m c. second_then p m c;
   }
 
   module _ (F : Format) where
@@ -119,17 +119,17 @@ module _ (a : Status × Float) (more : Answers) where
     acts child child' n l c e ts m (asked n' x' f (List.◌∷◌ b left) used q) P x =
         goes b.0 b.1 (c, ts) (asked n' x' f left (used ++ List.◌∷◌ b List.[]) (q ∙ sym (append_assoc used (List.◌∷◌ b List.[]) left))) (refl, refl) (x, tt)
 
-    tick-asks : (d : ℕ) → Alike (asking F) Any (tick F d) (tick F d)
+    tick_asks : (d : ℕ) → Alike (asking F) Any (tick F d) (tick F d)
     unfolding tick
-    tick-asks zero t e p u v ev = ends (firstIn p (λ w. short)) (secondIn p (λ w. short)) (stop-short Tree p)
-    tick-asks (suc d) (node k n l c b ts) e (together zero ans) u v ev = ends short short refl
-    tick-asks (suc d) (node k n l c b ts) e (together (suc f) ans) u v ev =
-        visit-pair (asking F) acts Any (tick F d) (tick F d) (tick-asks d) (suc f) k n l c b ts e (together (suc f) ans) (together f ans) (rule-with F (tick F d) k n l c e ts f ans)
-        (rule-with F (tick F d) k n l c e ts f (ans ++ List.◌∷◌ a more)) tt tt (λ h i j. tt) (any-each (shapes ts)) tt tt
-    tick-asks (suc d) (node k n l c b ts) e (asked n' x zero left used q) u v ev = ends (asks n' x) short (refl, tt)
-    tick-asks (suc d) (node k n l c b ts) e (asked n' x (suc f) left used q) u v ev =
-        visit-pair (asking F) acts Any (tick F d) (tick F d) (tick-asks d) (suc f) k n l c b ts e (asked n' x (suc f) left used q) (asked n' x f left used q) refl
-        (rule-with F (tick F d) k n l c e ts f left) (refl, refl) tt (λ h i j. tt) (any-each (shapes ts)) tt tt
+    tick_asks zero t e p u v ev = ends (first_in p (λ w. short)) (second_in p (λ w. short)) (stop_short Tree p)
+    tick_asks (suc d) (node k n l c b ts) e (together zero ans) u v ev = ends short short refl
+    tick_asks (suc d) (node k n l c b ts) e (together (suc f) ans) u v ev =
+        visit_pair (asking F) acts Any (tick F d) (tick F d) (tick_asks d) (suc f) k n l c b ts e (together (suc f) ans) (together f ans) (rule_with_lem F (tick F d) k n l c e ts f ans)
+        (rule_with_lem F (tick F d) k n l c e ts f (ans ++ List.◌∷◌ a more)) tt tt (λ h i j. tt) (any_each (shapes ts)) tt tt
+    tick_asks (suc d) (node k n l c b ts) e (asked n' x zero left used q) u v ev = ends (asks n' x) short (refl, tt)
+    tick_asks (suc d) (node k n l c b ts) e (asked n' x (suc f) left used q) u v ev =
+        visit_pair (asking F) acts Any (tick F d) (tick F d) (tick_asks d) (suc f) k n l c b ts e (asked n' x (suc f) left used q) (asked n' x f left used q) refl
+        (rule_with_lem F (tick F d) k n l c e ts f left) (refl, refl) tt (λ h i j. tt) (any_each (shapes ts)) tt tt
 
     -- ---- the theorem
     -- the answer added was taken, and behind it none but the first ones of `more`
@@ -156,8 +156,8 @@ module _ (a : Status × Float) (more : Answers) where
     answered m f ans P o o' (ends (asks n x) u' h) = took_of u' h
     answered m f ans P o o' (ends short u' h) = h
 
-    pub answer-taken : (d : ℕ) (t : Tree) (e : Event) (f : ℕ) (ans : Answers) → Answered (tick F d t e (world f ans)) (tick F d t e (world f (ans ++ List.◌∷◌ a more)))
-    answer-taken d t e f ans = answered (size_of (shape t)) f ans _ (tick F d t e (world f ans)) (tick F d t e (world f (ans ++ List.◌∷◌ a more))) (tick-asks d t e (together f ans) tt tt tt)
+    pub answer_taken : (d : ℕ) (t : Tree) (e : Event) (f : ℕ) (ans : Answers) → Answered (tick F d t e (world f ans)) (tick F d t e (world f (ans ++ List.◌∷◌ a more)))
+    answer_taken d t e f ans = answered (size_of (shape t)) f ans _ (tick F d t e (world f ans)) (tick F d t e (world f (ans ++ List.◌∷◌ a more))) (tick_asks d t e (together f ans) tt tt tt)
 
     -- ---- and back: an answer that was used was asked for
     abbrev left_of : Out Tree → Answers
@@ -177,10 +177,10 @@ module _ (a : Status × Float) (more : Answers) where
         clash : (m u n k : ℕ) → m ≡ u + n → n ≡ k + suc m → ⊥
         clash m u n k h g = omega arith
 
-    pub was-asked : (d : ℕ) (t : Tree) (e : Event) (f : ℕ) (ans : Answers) (s : Status) (r : Float) (t' : Tree) (f' : ℕ) (left used : Answers)
+    pub was_asked : (d : ℕ) (t : Tree) (e : Event) (f : ℕ) (ans : Answers) (s : Status) (r : Float) (t' : Tree) (f' : ℕ) (left used : Answers)
         → tick F d t e (world f (ans ++ List.◌∷◌ a more)) ≡ done s r t' (world f' left) → more ≡ used ++ left
         → (n : ℕ) × (x : Float) × (tick F d t e (world f ans) ≡ asks n x)
-    was-asked d t e f ans s r t' f' left used q h = go (tick F d t e (world f ans)) refl (answer-taken d t e f ans)
+    was_asked d t e f ans s r t' f' left used q h = go (tick F d t e (world f ans)) refl (answer_taken d t e f ans)
       where
         go : (o : Out Tree) → tick F d t e (world f ans) ≡ o → Answered o (tick F d t e (world f (ans ++ List.◌∷◌ a more))) → (n : ℕ) × (x : Float) × (tick F d t e (world f ans) ≡ asks n x)
         go (done s'' r'' t'' (world f'' l)) o v = absurd (too_long l left used (ap left_of (sym q ∙ v)) h)

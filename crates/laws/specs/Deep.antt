@@ -4,17 +4,17 @@ use Rattle.std.specs.Float.{Format}
 use Rattle.rules.specs.Tree.{Tree, depth}
 use Rattle.rules.specs.Outcome.{world}
 use Rattle.rules.specs.State.{tick}
-use Rattle.rules.specs.Table.{mostDeep}
-use Rattle.rules.specs.Call.{answers, cleanedEvent}
-use Rattle.laws.specs.Shape.{depth-shape}
+use Rattle.rules.specs.Table.{most_deep}
+use Rattle.rules.specs.Call.{answers, cleaned_event}
+use Rattle.laws.specs.Shape.{depth_shape}
 use Rattle.laws.specs.Tables.{tabled}
-use Rattle.laws.specs.View.{Call, start_of, walk, start-shape, Walked}
-use Rattle.laws.specs.Alone.{depth-free}
+use Rattle.laws.specs.View.{Call, start_of, walk, start_shape, Walked}
+use Rattle.laws.specs.Alone.{depth_free}
 
-pub deep-enough : (F : Format) (a : Call) (t : Tree) → Walked a t → (d : ℕ) → depth t ≤ d
-    → walk F t a ≡ tick F d (start_of t a) (cleanedEvent a.given'.event) (world a.given'.fuel (answers a.given'.statuses a.given'.leftovers))
-deep-enough F a t w d h =
+pub deep_enough : (F : Format) (a : Call) (t : Tree) → Walked a t → (d : ℕ) → depth t ≤ d
+    → walk F t a ≡ tick F d (start_of t a) (cleaned_event a.given'.event) (world a.given'.fuel (answers a.given'.statuses a.given'.leftovers))
+deep_enough F a t w d h =
     let g = a.given' in
-    let q : depth (start_of t a) ≡ depth t = depth-shape (start_of t a) t (start-shape t a) in
-    depth-free F mostDeep d (start_of t a) (cleanedEvent g.event) (world g.fuel (answers g.statuses g.leftovers))
-    (rw q (tabled g.kinds g.ns g.limits t w.table-good).1) (rw q h)
+    let q : depth (start_of t a) ≡ depth t = depth_shape (start_of t a) t (start_shape t a) in
+    depth_free F most_deep d (start_of t a) (cleaned_event g.event) (world g.fuel (answers g.statuses g.leftovers))
+    (rw q (tabled g.kinds g.ns g.limits t w.table_good).1) (rw q h)

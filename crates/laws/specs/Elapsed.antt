@@ -7,42 +7,42 @@ use Rattle.rules.specs.Outcome.{smaller, largest}
 use Rattle.rules.specs.Table.{number}
 use Rattle.rules.specs.Cells.{elapsed}
 
-odd-elapsed : (d q k l : ℕ) → T (elapsed (odd d false q k l))
+odd_elapsed : (d q k l : ℕ) → T (elapsed (odd d false q k l))
 unfolding odd
-odd-elapsed d zero k l = tt
-odd-elapsed d (suc q) k l = tt
+odd_elapsed d zero k l = tt
+odd_elapsed d (suc q) k l = tt
 
-units-elapsed : (F : Format) (q k : ℕ) → T (elapsed (units F false q k))
+units_elapsed : (F : Format) (q k : ℕ) → T (elapsed (units F false q k))
 unfolding units
-units-elapsed F q k = on (ltb (q * 2 ^ k) (2 ^ (low F + suc (emax F))))
+units_elapsed F q k = on (ltb (q * 2 ^ k) (2 ^ (low F + suc (emax F))))
   where
     on : (b : Bool) → T (elapsed (cond b (odd (suc (prec F)) false q k (low F)) (inf false)))
-    on true = odd-elapsed (suc (prec F)) q k (low F)
+    on true = odd_elapsed (suc (prec F)) q k (low F)
     on false = tt
 
-round-elapsed : (F : Format) (a c : ℕ) → T (elapsed (round F false a c))
+round_elapsed : (F : Format) (a c : ℕ) → T (elapsed (round F false a c))
 unfolding round
-round-elapsed F a c = units-elapsed F _ _
+round_elapsed F a c = units_elapsed F _ _
 
-pub number-elapsed : (x : Float) → T (number x) → T (elapsed x)
-number-elapsed nan h = h
-number-elapsed (inf s) h = absurd h
-number-elapsed (fin s m e) h = h
+pub number_elapsed : (x : Float) → T (number x) → T (elapsed x)
+number_elapsed nan h = h
+number_elapsed (inf s) h = absurd h
+number_elapsed (fin s m e) h = h
 
-pub add-elapsed : (F : Format) (x y : Float) → T (elapsed x) → T (elapsed y) → T (elapsed (add F x y))
+pub add_elapsed : (F : Format) (x y : Float) → T (elapsed x) → T (elapsed y) → T (elapsed (add F x y))
 unfolding add sum
-add-elapsed F nan y h g = absurd h
-add-elapsed F (inf true) y h g = absurd h
-add-elapsed F (inf false) nan h g = absurd g
-add-elapsed F (inf false) (inf true) h g = absurd g
-add-elapsed F (inf false) (inf false) h g = tt
-add-elapsed F (inf false) (fin t n d) h g = tt
-add-elapsed F (fin true m e) y h g = absurd h
-add-elapsed F (fin false m e) nan h g = absurd g
-add-elapsed F (fin false m e) (inf true) h g = absurd g
-add-elapsed F (fin false m e) (inf false) h g = tt
-add-elapsed F (fin false m e) (fin true n d) h g = absurd g
-add-elapsed F (fin false m e) (fin false n d) h g = round-elapsed F (m * up e * down d + n * up d * down e) (down e * down d)
+add_elapsed F nan y h g = absurd h
+add_elapsed F (inf true) y h g = absurd h
+add_elapsed F (inf false) nan h g = absurd g
+add_elapsed F (inf false) (inf true) h g = absurd g
+add_elapsed F (inf false) (inf false) h g = tt
+add_elapsed F (inf false) (fin t n d) h g = tt
+add_elapsed F (fin true m e) y h g = absurd h
+add_elapsed F (fin false m e) nan h g = absurd g
+add_elapsed F (fin false m e) (inf true) h g = absurd g
+add_elapsed F (fin false m e) (inf false) h g = tt
+add_elapsed F (fin false m e) (fin true n d) h g = absurd g
+add_elapsed F (fin false m e) (fin false n d) h g = round_elapsed F (m * up e * down d + n * up d * down e) (down e * down d)
 
 above : (a b : ℕ) → T (ltb b a || (eqb b a && true)) → b ≤ a
 above a b h = on (ltb b a) (ltb→lt b a) h
@@ -59,32 +59,32 @@ difference : (F : Format) (a b c : ℕ) → b ≤ a → T (elapsed (sum F false 
 unfolding sum
 difference F a b c h = on (ltb a b) (ltb→lt a b)
   where
-    low-side : (t : Bool) → (T t → suc b ≤ a) → T (elapsed (round F (false && t) (a - b) c))
-    low-side t f = round-elapsed F (a - b) c
+    low_side : (t : Bool) → (T t → suc b ≤ a) → T (elapsed (round F (false && t) (a - b) c))
+    low_side t f = round_elapsed F (a - b) c
 
     on : (t : Bool) → (T t → suc a ≤ b) → T (elapsed (cond t (round F true (b - a) c) (round F (false && ltb b a) (a - b) c)))
     on true f = absurd (not-le_of_lt (f tt) h)
-    on false f = low-side (ltb b a) (ltb→lt b a)
+    on false f = low_side (ltb b a) (ltb→lt b a)
 
-pub sub-elapsed : (F : Format) (l z : Float) → T (number l) → T (elapsed z) → le l z ≡ true → T (elapsed (sub F z l))
+pub sub_elapsed : (F : Format) (l z : Float) → T (number l) → T (elapsed z) → le l z ≡ true → T (elapsed (sub F z l))
 unfolding sub le
-sub-elapsed F l nan h g e = absurd g
-sub-elapsed F l (inf true) h g e = absurd g
-sub-elapsed F l (fin true m a) h g e = absurd g
-sub-elapsed F nan (inf false) h g e = absurd h
-sub-elapsed F (inf s) (inf false) h g e = absurd h
-sub-elapsed F (fin s n d) (inf false) h g e = tt
-sub-elapsed F nan (fin false m a) h g e = absurd h
-sub-elapsed F (inf s) (fin false m a) h g e = absurd h
-sub-elapsed F (fin true n d) (fin false m a) h g e = absurd h
-sub-elapsed F (fin false n d) (fin false m a) h g e = difference F (m * up a * down d) (n * up d * down a) (down a * down d) (above (m * up a * down d) (n * up d * down a) (subst T (sym e) tt))
+sub_elapsed F l nan h g e = absurd g
+sub_elapsed F l (inf true) h g e = absurd g
+sub_elapsed F l (fin true m a) h g e = absurd g
+sub_elapsed F nan (inf false) h g e = absurd h
+sub_elapsed F (inf s) (inf false) h g e = absurd h
+sub_elapsed F (fin s n d) (inf false) h g e = tt
+sub_elapsed F nan (fin false m a) h g e = absurd h
+sub_elapsed F (inf s) (fin false m a) h g e = absurd h
+sub_elapsed F (fin true n d) (fin false m a) h g e = absurd h
+sub_elapsed F (fin false n d) (fin false m a) h g e = difference F (m * up a * down d) (n * up d * down a) (down a * down d) (above (m * up a * down d) (n * up d * down a) (subst T (sym e) tt))
 
-pub largest-elapsed : (F : Format) → T (elapsed (largest F))
-largest-elapsed binary32 = tt
-largest-elapsed binary64 = tt
+pub largest_elapsed : (F : Format) → T (elapsed (largest F))
+largest_elapsed binary32 = tt
+largest_elapsed binary64 = tt
 
-pub smaller-elapsed : (x r : Float) → T (elapsed x) → T (elapsed r) → T (elapsed (smaller x r))
-smaller-elapsed x r h g = on (lt r x)
+pub smaller_elapsed : (x r : Float) → T (elapsed x) → T (elapsed r) → T (elapsed (smaller x r))
+smaller_elapsed x r h g = on (lt r x)
   where
     on : (b : Bool) → T (elapsed (cond b r x))
     on true = g

@@ -11,122 +11,122 @@ use Rattle.rules.specs.declared.exchanged.Exchanged.TheVariants.{Done, Finished,
 use Rattle.rules.specs.declared.answer.Answer.TheVariants as answer
 use Rattle.rules.specs.Tree.{Cell, Tree, node, Forest, [], ◌∷◌, fresh, size, depth}
 use Rattle.rules.specs.Table.{Table, good, bad, table}
-use Rattle.rules.specs.Cells.{Found, faulty, none, badCell, column, columns}
-use Rattle.rules.specs.Call.{Run, run, runLength, ontoRun, Given, Left, tooShort, refused, walked, onTable, onInputs, at_entry, walkFrom, tickCall}
-use Rattle.rules.specs.Exchange.{Room, GivenExchange, LeftExchange, leftExchange, notExchanged, free, replaced, newSinces, ontoRoom, roomLength, written, replacing, onTrees, onBranch, exchangeCall}
-use Rattle.rules.specs.Exchange.{listed, listedAll}
-use Rattle.laws.specs.Shape.{fresh-shape, size-shape}
-use Rattle.laws.specs.Memory.{clear, clear-shape, held, held-onto}
+use Rattle.rules.specs.Cells.{Found, faulty, none, bad_cell, column, columns}
+use Rattle.rules.specs.Call.{Run, run, run_length, onto_run, Given, Left, too_short, refused, walked, on_table, on_inputs, at_entry, walk_from, tick_call}
+use Rattle.rules.specs.Exchange.{Room, GivenExchange, LeftExchange, left_exchange, not_exchanged, free, replaced, new_sinces, onto_room, room_length, written, replacing, on_trees, on_branch, exchange_call}
+use Rattle.rules.specs.Exchange.{listed, listed_all}
+use Rattle.laws.specs.Shape.{fresh_shape, size_shape}
+use Rattle.laws.specs.Memory.{clear, clear_shape, held, held_onto}
 use Rattle.laws.specs.Tables.{tabled, renewed}
 use Rattle.laws.specs.Fine.{fine_of, none_of}
 use Rattle.laws.specs.ReadBack.{sound, read_back}
-use Rattle.laws.specs.Replaced.{sound-replaced, sound-with, tabled-blank, cells-lent, blank-with, blank-replaced, blank-clear, fine-replaced}
+use Rattle.laws.specs.Replaced.{sound_replaced, sound_with, tabled_blank, cells_lent, blank_with, blank_replaced, blank_clear, fine_replaced}
 
 -- ---- the room's cells as a run
 module _ {A : Type 0} (f : Cell → A) where
   mutual
     unfolding listed column
 
-    listed-column : (t : Tree) (behind : List A) → listed (λ k n l c. f c) t behind ≡ column (λ c b. f c) t behind
-    listed-column (node k n l c b ts) behind = ap (λ (z : List A). List.◌∷◌ (f c) z) (listeds-column ts behind)
+    listed_column : (t : Tree) (behind : List A) → listed (λ k n l c. f c) t behind ≡ column (λ c b. f c) t behind
+    listed_column (node k n l c b ts) behind = ap (λ (z : List A). List.◌∷◌ (f c) z) (listeds_column ts behind)
 
-    listeds-column : (ts : Forest) (behind : List A) → listedAll (λ k n l c. f c) ts behind ≡ columns (λ c b. f c) ts behind
-    listeds-column [] behind = refl
-    listeds-column (t ∷ ts) behind = listed-column t (listedAll (λ k n l c. f c) ts behind) ∙ ap (column (λ c b. f c) t) (listeds-column ts behind)
+    listeds_column : (ts : Forest) (behind : List A) → listed_all (λ k n l c. f c) ts behind ≡ columns (λ c b. f c) ts behind
+    listeds_column [] behind = refl
+    listeds_column (t ∷ ts) behind = listed_column t (listed_all (λ k n l c. f c) ts behind) ∙ ap (column (λ c b. f c) t) (listeds_column ts behind)
 
-abbrev pub runIn : Room → Run
-runIn to = run to.times to.places to.marks to.sinces
+abbrev pub run_in : Room → Run
+run_in to = run to.times to.places to.marks to.sinces
 
-onto-run : (t : Tree) (ss : List ℕ) (to : Room) → runIn (ontoRoom t ss to) ≡ ontoRun ss t (runIn to)
-unfolding ontoRoom ontoRun
-onto-run t ss to =
+onto_run_lem : (t : Tree) (ss : List ℕ) (to : Room) → run_in (onto_room t ss to) ≡ onto_run ss t (run_in to)
+unfolding onto_room onto_run
+onto_run_lem t ss to =
     let n = size t in
     λ i. run
-    (listed-column (λ c. c.time) t (drop n to.times) i)
-    (listed-column (λ c. c.place) t (drop n to.places) i)
-    (listed-column (λ c. c.mark) t (drop n to.marks) i)
+    (listed_column (λ c. c.time) t (drop n to.times) i)
+    (listed_column (λ c. c.place) t (drop n to.places) i)
+    (listed_column (λ c. c.mark) t (drop n to.marks) i)
     (ss ++ drop n to.sinces)
 
 -- ---- what an exchange answered 0 has passed
-abbrev isDone : Answer → Bool
-isDone (Done n) = true
-isDone Finished = false
-isDone (BadTable p) = false
-isDone (BadBranch p) = false
-isDone TooShort = false
-isDone (BadCell p) = false
-isDone NoNode = false
-isDone StateHeld = false
-isDone TooLarge = false
-isDone ShortRoom = false
+abbrev is_done : Answer → Bool
+is_done (Done n) = true
+is_done Finished = false
+is_done (BadTable p) = false
+is_done (BadBranch p) = false
+is_done TooShort = false
+is_done (BadCell p) = false
+is_done NoNode = false
+is_done StateHeld = false
+is_done TooLarge = false
+is_done ShortRoom = false
 
 abbrev Written : LeftExchange → Type 0
-Written l = T (isDone l.answer)
+Written l = T (is_done l.answer)
 
 abbrev pub Exchanges : GivenExchange → Type 0
-Exchanges g = Written (exchangeCall g)
+Exchanges g = Written (exchange_call g)
 
 goes_on : (x y : LeftExchange) → x ≡ y → Written x → Written y
 goes_on x y e h = subst Written e h
 
-passed : (b : Bool) (x y : LeftExchange) → isDone y.answer ≡ false → Written (cond b x y) → (b ≡ true) × Written x
+passed : (b : Bool) (x y : LeftExchange) → is_done y.answer ≡ false → Written (cond b x y) → (b ≡ true) × Written x
 passed true x y n h = (refl, h)
 passed false x y n h = absurd (subst T n h)
 
-passed-by : (b : Bool) (x y : LeftExchange) → isDone x.answer ≡ false → Written (cond b x y) → (b ≡ false) × Written y
-passed-by true x y n h = absurd (subst T n h)
-passed-by false x y n h = (refl, h)
+passed_by : (b : Bool) (x y : LeftExchange) → is_done x.answer ≡ false → Written (cond b x y) → (b ≡ false) × Written y
+passed_by true x y n h = absurd (subst T n h)
+passed_by false x y n h = (refl, h)
 
 -- the tree with the branch replaced
 abbrev pub result_of : GivenExchange → Tree → Tree → Tree
 result_of g t u = replaced (held t g.cells') g.place u
 
-abbrev sincesOf : GivenExchange → Tree → Tree → List ℕ
-sincesOf g t u = newSinces (held t g.cells') g.place u g.record'.ticks g.cells'.sinces
+abbrev sinces_of : GivenExchange → Tree → Tree → List ℕ
+sinces_of g t u = new_sinces (held t g.cells') g.place u g.record'.ticks g.cells'.sinces
 
 -- the trees of both tables
 pub record Passed (g : GivenExchange) : Type 0 where
   pub tree : Tree
   pub branch : Tree
   pub is : table g.kinds g.ns g.limits ≡ good tree
-  pub new : table g.newKinds g.newNs g.newLimits ≡ good branch
+  pub new : table g.new_kinds g.new_ns g.new_limits ≡ good branch
   pub behind : ℕ
-  pub fine : badCell false false 0 (held tree g.cells') ≡ none behind
+  pub fine : bad_cell false false 0 (held tree g.cells') ≡ none behind
   pub inside : g.place < size (held tree g.cells')
   pub spot : free false (held tree g.cells') g.place ≡ true
   pub few : size (result_of g tree branch) ≤ 256
   pub levels : depth (result_of g tree branch) ≤ 16
-  pub left : exchangeCall g ≡ leftExchange (Done (size (result_of g tree branch))) (ontoRoom (result_of g tree branch) (sincesOf g tree branch) g.room')
+  pub left : exchange_call g ≡ left_exchange (Done (size (result_of g tree branch))) (onto_room (result_of g tree branch) (sinces_of g tree branch) g.room')
 
 module _ (g : GivenExchange) (h : Exchanges g) where
-  module _ (t u : Tree) (e : table g.kinds g.ns g.limits ≡ good t) (e' : table g.newKinds g.newNs g.newLimits ≡ good u) where
+  module _ (t u : Tree) (e : table g.kinds g.ns g.limits ≡ good t) (e' : table g.new_kinds g.new_ns g.new_limits ≡ good u) where
     abbrev r : Tree
     r = result_of g t u
 
     abbrev small : Bool
     small = leb (size r) 256 && leb (depth r) 16
 
-    both : exchangeCall g ≡ onTrees g t u
-    unfolding exchangeCall
-    both = rw (exchangeCall, e) (rw (onBranch, e'))
+    both : exchange_call g ≡ on_trees g t u
+    unfolding exchange_call
+    both = rw (exchange_call, e) (rw (on_branch, e'))
 
     abbrev due : Found → LeftExchange
-    due o = elim o [ faulty p ↦ notExchanged g (BadCell p) | none _ ↦ cond g.record'.finished (notExchanged g Finished) (replacing g (held t g.cells') u) ]
+    due o = elim o [ faulty p ↦ not_exchanged g (BadCell p) | none _ ↦ cond g.record'.finished (not_exchanged g Finished) (replacing g (held t g.cells') u) ]
 
     abbrev long : Bool
-    long = leb (size t) (runLength g.cells')
+    long = leb (size t) (run_length g.cells')
 
-    enough : (long ≡ true) × Written (due (badCell false false 0 (held t g.cells')))
-    enough = passed long (due (badCell false false 0 (held t g.cells'))) (notExchanged g TooShort) refl (goes_on (exchangeCall g) (onTrees g t u) both h)
+    enough : (long ≡ true) × Written (due (bad_cell false false 0 (held t g.cells')))
+    enough = passed long (due (bad_cell false false 0 (held t g.cells'))) (not_exchanged g TooShort) refl (goes_on (exchange_call g) (on_trees g t u) both h)
 
-    on-cells : (o : Found) → badCell false false 0 (held t g.cells') ≡ o → Written (due o) → Passed g
-    on-cells (faulty p) f w = absurd w
-    on-cells (none q) f w =
-        let a = passed-by g.record'.finished (notExchanged g Finished) (replacing g (held t g.cells') u) refl w in
-        let b = passed (ltb g.place (size (held t g.cells'))) _ (notExchanged g NoNode) refl a.1 in
-        let c = passed (free false (held t g.cells') g.place) (written g r (sincesOf g t u)) (notExchanged g StateHeld) refl b.1 in
-        let d = passed small _ (notExchanged g TooLarge) refl c.1 in
-        let i = passed (leb (size r) (roomLength g.room')) (leftExchange (Done (size r)) (ontoRoom r (sincesOf g t u) g.room')) (notExchanged g ShortRoom) refl d.1 in
+    on_cells : (o : Found) → bad_cell false false 0 (held t g.cells') ≡ o → Written (due o) → Passed g
+    on_cells (faulty p) f w = absurd w
+    on_cells (none q) f w =
+        let a = passed_by g.record'.finished (not_exchanged g Finished) (replacing g (held t g.cells') u) refl w in
+        let b = passed (ltb g.place (size (held t g.cells'))) _ (not_exchanged g NoNode) refl a.1 in
+        let c = passed (free false (held t g.cells') g.place) (written g r (sinces_of g t u)) (not_exchanged g StateHeld) refl b.1 in
+        let d = passed small _ (not_exchanged g TooLarge) refl c.1 in
+        let i = passed (leb (size r) (room_length g.room')) (left_exchange (Done (size r)) (onto_room r (sinces_of g t u) g.room')) (not_exchanged g ShortRoom) refl d.1 in
         let two = (and-eq-true_iff (leb (size r) 256) (leb (depth r) 16)).0 d.0 in
         record {
           tree = t;
@@ -139,21 +139,21 @@ module _ (g : GivenExchange) (h : Exchanges g) where
           spot = c.0;
           few = leb-true (size r) 256 two.0;
           levels = leb-true (depth r) 16 two.1;
-          left = both ∙ rw (onTrees, enough.0, f) (rw a.0 (rw (replacing, b.0, c.0) (rw (written, d.0) (rw i.0))));
+          left = both ∙ rw (on_trees, enough.0, f) (rw a.0 (rw (replacing, b.0, c.0) (rw (written, d.0) (rw i.0))));
         }
 
-  on_branch : (t : Tree) → table g.kinds g.ns g.limits ≡ good t → (o : Table) → table g.newKinds g.newNs g.newLimits ≡ o → Passed g
-  unfolding exchangeCall
-  on_branch t e (good u) e' = on-cells t u e e' (badCell false false 0 (held t g.cells')) refl (enough t u e e').1
-  on_branch t e (bad p) e' = absurd (goes_on (exchangeCall g) (notExchanged g (BadBranch p)) (rw (exchangeCall, e) (rw (onBranch, e'))) h)
+  on_branch_lem : (t : Tree) → table g.kinds g.ns g.limits ≡ good t → (o : Table) → table g.new_kinds g.new_ns g.new_limits ≡ o → Passed g
+  unfolding exchange_call
+  on_branch_lem t e (good u) e' = on_cells t u e e' (bad_cell false false 0 (held t g.cells')) refl (enough t u e e').1
+  on_branch_lem t e (bad p) e' = absurd (goes_on (exchange_call g) (not_exchanged g (BadBranch p)) (rw (exchange_call, e) (rw (on_branch, e'))) h)
 
-  on-tree : (o : Table) → table g.kinds g.ns g.limits ≡ o → Passed g
-  unfolding exchangeCall
-  on-tree (good t) e = on_branch t e (table g.newKinds g.newNs g.newLimits) refl
-  on-tree (bad p) e = absurd (goes_on (exchangeCall g) (notExchanged g (BadTable p)) (rw (exchangeCall, e)) h)
+  on_tree : (o : Table) → table g.kinds g.ns g.limits ≡ o → Passed g
+  unfolding exchange_call
+  on_tree (good t) e = on_branch_lem t e (table g.new_kinds g.new_ns g.new_limits) refl
+  on_tree (bad p) e = absurd (goes_on (exchange_call g) (not_exchanged g (BadTable p)) (rw (exchange_call, e)) h)
 
   pub went : Passed g
-  went = on-tree (table g.kinds g.ns g.limits) refl
+  went = on_tree (table g.kinds g.ns g.limits) refl
 
 -- ---- what it leaves
 module _ (g : GivenExchange) (w : Passed g) where
@@ -161,42 +161,42 @@ module _ (g : GivenExchange) (w : Passed g) where
   result = result_of g w.tree w.branch
 
   abbrev to : Room
-  to = (exchangeCall g).room'
+  to = (exchange_call g).room'
 
-  to_is : to ≡ ontoRoom result (sincesOf g w.tree w.branch) g.room'
+  to_is : to ≡ onto_room result (sinces_of g w.tree w.branch) g.room'
   to_is = ap (λ (l : LeftExchange). l.room') w.left
 
-  result-clear : clear result ≡ result
-  result-clear =
-      let old = tabled-blank w.tree (tabled g.kinds g.ns g.limits w.tree w.is).0 in
-      let new = tabled-blank w.branch (tabled g.newKinds g.newNs g.newLimits w.branch w.new).0 in
-      let lent = cells-lent g.cells'.times g.cells'.places g.cells'.marks in
-      blank-clear result (blank-replaced w.branch new (held w.tree g.cells') g.place (blank-with w.tree _ lent old).0)
+  result_clear : clear result ≡ result
+  result_clear =
+      let old = tabled_blank w.tree (tabled g.kinds g.ns g.limits w.tree w.is).0 in
+      let new = tabled_blank w.branch (tabled g.new_kinds g.new_ns g.new_limits w.branch w.new).0 in
+      let lent = cells_lent g.cells'.times g.cells'.places g.cells'.marks in
+      blank_clear result (blank_replaced w.branch new (held w.tree g.cells') g.place (blank_with w.tree _ lent old).0)
 
   -- the room's table reads as the tree with the branch replaced
   pub reads : table (take (size result) to.kinds) (take (size result) to.ns) (take (size result) to.limits) ≡ good (renewed result)
-  unfolding ontoRoom
+  unfolding onto_room
   reads =
       let old = sound g.kinds g.ns g.limits w.tree w.is in
-      let new = sound g.newKinds g.newNs g.newLimits w.branch w.new in
-      let all = sound-replaced w.branch new (held w.tree g.cells') g.place (sound-with w.tree _ old) in
+      let new = sound g.new_kinds g.new_ns g.new_limits w.branch w.new in
+      let all = sound_replaced w.branch new (held w.tree g.cells') g.place (sound_with w.tree _ old) in
       ap (λ (x : Room). table (take (size result) x.kinds) (take (size result) x.ns) (take (size result) x.limits)) to_is
       ∙ read_back result _ _ _ all w.levels w.few
 
   -- its cells are that tree's
-  pub holds : held (renewed result) (runIn to) ≡ result
+  pub holds : held (renewed result) (run_in to) ≡ result
   holds =
-      ap (λ (x : Room). held (renewed result) (runIn x)) to_is
-      ∙ ap (held (renewed result)) (onto-run result (sincesOf g w.tree w.branch) g.room')
-      ∙ held-onto (sincesOf g w.tree w.branch) (renewed result) result (runIn g.room') (sym (clear-shape (fresh result) ∙ fresh-shape result))
-      ∙ result-clear
+      ap (λ (x : Room). held (renewed result) (run_in x)) to_is
+      ∙ ap (held (renewed result)) (onto_run_lem result (sinces_of g w.tree w.branch) g.room')
+      ∙ held_onto (sinces_of g w.tree w.branch) (renewed result) result (run_in g.room') (sym (clear_shape (fresh result) ∙ fresh_shape result))
+      ∙ result_clear
 
   -- and they are accepted
-  pub accepted : (at : ℕ) × (badCell false false 0 result ≡ none at)
+  pub accepted : (at : ℕ) × (bad_cell false false 0 result ≡ none at)
   accepted =
       let old = fine_of false false 0 w.behind (held w.tree g.cells') w.fine in
-      let new = (tabled g.newKinds g.newNs g.newLimits w.branch w.new).0 in
-      (_, none_of false false 0 result (fine-replaced w.branch new (held w.tree g.cells') g.place false false old))
+      let new = (tabled g.new_kinds g.new_ns g.new_limits w.branch w.new).0 in
+      (_, none_of false false 0 result (fine_replaced w.branch new (held w.tree g.cells') g.place false false old))
 
   -- ---- the ticks that follow are those of that tree
   -- a tick that takes up what the exchange left
@@ -204,30 +204,30 @@ module _ (g : GivenExchange) (w : Passed g) where
     pub kinds : k.kinds ≡ take (size result) to.kinds
     pub ns : k.ns ≡ take (size result) to.ns
     pub limits : k.limits ≡ take (size result) to.limits
-    pub cells' : k.cells' ≡ runIn to
+    pub cells' : k.cells' ≡ run_in to
 
   module _ (F : Format) (k : Given) (up : TakesUp k) where
     -- 5 and 6, 2, and then the walk of t
-    abbrev walksOf : Tree → Left
-    walksOf t = onInputs k (cond k.record'.finished (refused k answer.Finished) (walked k t (walkFrom F k t)))
+    abbrev walks_of : Tree → Left
+    walks_of t = on_inputs k (cond k.record'.finished (refused k answer.Finished) (walked k t (walk_from F k t)))
 
-    abbrev dueOf : Tree → Left
-    dueOf t = elim (badCell false false 0 (at_entry k t)) [ faulty p ↦ refused k (answer.BadCell p) | none _ ↦ walksOf (at_entry k t) ]
+    abbrev due_of : Tree → Left
+    due_of t = elim (bad_cell false false 0 (at_entry k t)) [ faulty p ↦ refused k (answer.BadCell p) | none _ ↦ walks_of (at_entry k t) ]
 
-    tick_is : tickCall F k ≡ onTable k dueOf
-    unfolding tickCall
+    tick_is : tick_call F k ≡ on_table k due_of
+    unfolding tick_call
     tick_is = refl
 
     table_is : table k.kinds k.ns k.limits ≡ good (renewed result)
     table_is = rw (up.kinds, up.ns, up.limits) reads
 
-    entry-is : at_entry k (renewed result) ≡ result
-    entry-is = ap (held (renewed result)) up.cells' ∙ holds
+    entry_is : at_entry k (renewed result) ≡ result
+    entry_is = ap (held (renewed result)) up.cells' ∙ holds
 
-    due-is : dueOf (renewed result) ≡ walksOf result
-    due-is = rw (dueOf, entry-is, accepted.1) (ap walksOf entry-is)
+    due_is : due_of (renewed result) ≡ walks_of result
+    due_is = rw (due_of, entry_is, accepted.1) (ap walks_of entry_is)
 
-    pub next-tick : tooShort k (size result) ≡ false → tickCall F k ≡ walksOf result
-    next-tick long =
-        let same : size (renewed result) ≡ size result = size-shape (renewed result) result (clear-shape (fresh result) ∙ fresh-shape result) in
-        tick_is ∙ rw (onTable, table_is) (rw (same, long) due-is)
+    pub next_tick : too_short k (size result) ≡ false → tick_call F k ≡ walks_of result
+    next_tick long =
+        let same : size (renewed result) ≡ size result = size_shape (renewed result) result (clear_shape (fresh result) ∙ fresh_shape result) in
+        tick_is ∙ rw (on_table, table_is) (rw (same, long) due_is)

@@ -3,30 +3,30 @@ use Rattle.std.specs.Prelude.{◌≡◌, refl, Bool, true, false, cond, not, ◌
 use Rattle.std.proofs.Common.{le-ltb}
 use Rattle.std.specs.Float.{Format}
 use Rattle.rules.specs.Tree.{size}
-use Rattle.rules.specs.Table.{Table, good, bad, table, mostDeep}
-use Rattle.rules.specs.Call.{Given, Left, tooShort, tickCall, restartCall}
-use Rattle.rules.specs.Levels.{Levels, entries, cleared, ofWalk, FlatLeft, flatLeft, noRoom, tickFlat, restartFlat}
+use Rattle.rules.specs.Table.{Table, good, bad, table, most_deep}
+use Rattle.rules.specs.Call.{Given, Left, too_short, tick_call, restart_call}
+use Rattle.rules.specs.Levels.{Levels, entries, cleared, of_walk, FlatLeft, flat_left, no_room, tick_flat, restart_flat}
 
-and-not : (a : Bool) → a && false ≡ false
-and-not true = refl
-and-not false = refl
+and_not : (a : Bool) → a && false ≡ false
+and_not true = refl
+and_not false = refl
 
-module _ (F : Format) (g : Given) (r : Levels) (h : mostDeep ≤ entries r) where
-  enough : (x : Table) → elim x [ bad p ↦ false | good t₀ ↦ not (tooShort g (size t₀)) && ltb (entries r) mostDeep ] ≡ false
+module _ (F : Format) (g : Given) (r : Levels) (h : most_deep ≤ entries r) where
+  enough : (x : Table) → elim x [ bad p ↦ false | good t₀ ↦ not (too_short g (size t₀)) && ltb (entries r) most_deep ] ≡ false
   enough (bad p) = refl
-  enough (good t) = rw (le-ltb (entries r) mostDeep h) (and-not (not (tooShort g (size t))))
+  enough (good t) = rw (le-ltb (entries r) most_deep h) (and_not (not (too_short g (size t))))
 
-  room-enough : noRoom g r ≡ false
-  room-enough = enough (table g.kinds g.ns g.limits)
+  room_enough : no_room g r ≡ false
+  room_enough = enough (table g.kinds g.ns g.limits)
 
   -- answer, record, cells, spare and board, with visits and answers used; and the room
   abbrev With : Left → FlatLeft
-  With l = flatLeft l (cond (ofWalk l.answer) (cleared r) r)
+  With l = flat_left l (cond (of_walk l.answer) (cleared r) r)
 
-  pub same-tick : tickFlat F g r ≡ With (tickCall F g)
-  unfolding tickFlat
-  same-tick = rw room-enough
+  pub same_tick : tick_flat F g r ≡ With (tick_call F g)
+  unfolding tick_flat
+  same_tick = rw room_enough
 
-  pub same-restart : restartFlat F g r ≡ With (restartCall F g)
-  unfolding restartFlat
-  same-restart = rw room-enough
+  pub same_restart : restart_flat F g r ≡ With (restart_call F g)
+  unfolding restart_flat
+  same_restart = rw room_enough

@@ -9,34 +9,34 @@ use Rattle.rules.specs.declared.answer.Answer.TheVariants as says
 use Rattle.rules.specs.declared.answer.Record.{Record}
 use Rattle.rules.specs.Tree.{Tree, size}
 use Rattle.rules.specs.Table.{good, table}
-use Rattle.rules.specs.Call.{Run, Given, Left, runLength, tooShort}
-use Rattle.laws.specs.Memory.{held, firstCells, held_first}
-use Rattle.laws.specs.View.{Call, leftBy, heldBy, NotWalked}
+use Rattle.rules.specs.Call.{Run, Given, Left, run_length, too_short}
+use Rattle.laws.specs.Memory.{held, first_cells, held_first}
+use Rattle.laws.specs.View.{Call, left_by, held_by, NotWalked}
 
 -- ---- answer 0
-abbrev pub isTicked : Answer → Bool
-isTicked (says.Ticked s r v u) = true
-isTicked (says.Asked n x) = false
-isTicked says.Finished = false
-isTicked (says.BadTable p) = false
-isTicked says.TooShort = false
-isTicked says.BadTime = false
-isTicked (says.BadAnswer i) = false
-isTicked says.OutOfFuel = false
-isTicked (says.BadCell p) = false
-isTicked says.NoRoom = false
+abbrev pub is_ticked : Answer → Bool
+is_ticked (says.Ticked s r v u) = true
+is_ticked (says.Asked n x) = false
+is_ticked says.Finished = false
+is_ticked (says.BadTable p) = false
+is_ticked says.TooShort = false
+is_ticked says.BadTime = false
+is_ticked (says.BadAnswer i) = false
+is_ticked says.OutOfFuel = false
+is_ticked (says.BadCell p) = false
+is_ticked says.NoRoom = false
 
-pub not-ticked : (a : Answer) → NotWalked a → isTicked a ≡ false
-not-ticked (says.Ticked s r v u) h = absurd h
-not-ticked (says.Asked n x) h = refl
-not-ticked says.Finished h = refl
-not-ticked (says.BadTable p) h = refl
-not-ticked says.TooShort h = refl
-not-ticked says.BadTime h = refl
-not-ticked (says.BadAnswer i) h = refl
-not-ticked says.OutOfFuel h = refl
-not-ticked (says.BadCell p) h = refl
-not-ticked says.NoRoom h = refl
+pub not_ticked : (a : Answer) → NotWalked a → is_ticked a ≡ false
+not_ticked (says.Ticked s r v u) h = absurd h
+not_ticked (says.Asked n x) h = refl
+not_ticked says.Finished h = refl
+not_ticked (says.BadTable p) h = refl
+not_ticked says.TooShort h = refl
+not_ticked says.BadTime h = refl
+not_ticked (says.BadAnswer i) h = refl
+not_ticked says.OutOfFuel h = refl
+not_ticked (says.BadCell p) h = refl
+not_ticked says.NoRoom h = refl
 
 -- what is asked of a call answered 0, by the number of answers that it says it used
 abbrev pub OfTicked : Answer → (ℕ → Type 0) → Type 0
@@ -66,31 +66,31 @@ abbrev pub behind : Call → Standing → ℕ
 behind a st = cond a.fresh 0 st.carried
 
 -- a call that is not answered 0 leaves what stands
-abbrev pub afterLeft : ℕ → Standing → Left → Standing
-afterLeft k st l = cond (isTicked l.answer) (stands l.record' l.cells' (suc k)) st
+abbrev pub after_left : ℕ → Standing → Left → Standing
+after_left k st l = cond (is_ticked l.answer) (stands l.record' l.cells' (suc k)) st
 
 unfoldable pub after : Format → Standing → Call → Standing
-after F st a = afterLeft (behind a st) st (leftBy F a)
+after F st a = after_left (behind a st) st (left_by F a)
 
-unfoldable pub afterAll : Format → Standing → List Call → Standing
+unfoldable pub after_all : Format → Standing → List Call → Standing
 unfolding after
-afterAll F st List.[] = st
-afterAll F st (List.◌∷◌ a cs) = afterAll F (after F st a) cs
+after_all F st List.[] = st
+after_all F st (List.◌∷◌ a cs) = after_all F (after F st a) cs
 
 -- ---- a call of the tree t takes up what stands
 -- its table, unless that is refused; a tick the record and, if enough are lent, the cells of the table's nodes too
 pub record TakesUp (t : Tree) (st : Standing) (a : Call) : Type 0 where
-  pub the-table : (u : Tree) → table a.given'.kinds a.given'.ns a.given'.limits ≡ good u → u ≡ t
-  pub the-record : a.fresh ≡ false → a.given'.record' ≡ st.record'
-  pub the-cells : a.fresh ≡ false → T (leb (size t) (runLength a.given'.cells')) → firstCells (size t) a.given'.cells' ≡ firstCells (size t) st.cells'
+  pub the_table : (u : Tree) → table a.given'.kinds a.given'.ns a.given'.limits ≡ good u → u ≡ t
+  pub the_record : a.fresh ≡ false → a.given'.record' ≡ st.record'
+  pub the_cells : a.fresh ≡ false → T (leb (size t) (run_length a.given'.cells')) → first_cells (size t) a.given'.cells' ≡ first_cells (size t) st.cells'
 
 enough : (a b c : Bool) → not a || not b || not c ≡ false → T a
 enough true b c e = tt
 enough false b c e = subst T e tt
 
-long-cells : (g : Given) (n : ℕ) → tooShort g n ≡ false → T (leb n (runLength g.cells'))
-long-cells g n e = enough (leb n (runLength g.cells')) (leb n (runLength g.spare)) (leb n (length g.board)) e
+long_cells : (g : Given) (n : ℕ) → too_short g n ≡ false → T (leb n (run_length g.cells'))
+long_cells g n e = enough (leb n (run_length g.cells')) (leb n (run_length g.spare)) (leb n (length g.board)) e
 
 -- then a tick's walk is that of the tree that stands
-pub same-tree : (t : Tree) (st : Standing) (a : Call) → TakesUp t st a → a.fresh ≡ false → tooShort a.given' (size t) ≡ false → heldBy t a.given' ≡ held t st.cells'
-same-tree t st a up e h = held_first t a.given'.cells' st.cells' (up.the-cells e (long-cells a.given' (size t) h))
+pub same_tree : (t : Tree) (st : Standing) (a : Call) → TakesUp t st a → a.fresh ≡ false → too_short a.given' (size t) ≡ false → held_by t a.given' ≡ held t st.cells'
+same_tree t st a up e h = held_first t a.given'.cells' st.cells' (up.the_cells e (long_cells a.given' (size t) h))

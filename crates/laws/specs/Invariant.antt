@@ -9,11 +9,11 @@ use Rattle.rules.specs.declared.status.Status.{Status}
 use Rattle.rules.specs.declared.status.Status.TheVariants.{Running, Success, Failure}
 use Rattle.rules.specs.Tree.{Tree, fresh}
 use Rattle.rules.specs.Outcome.{World, world, Out, done, asks, short}
-use Rattle.rules.specs.Call.{Run, Given, Left, counted, ontoRun, sinceIn, walked, walkFrom, restartCall}
+use Rattle.rules.specs.Call.{Run, Given, Left, counted, onto_run, since_in, walked, walk_from, restart_call}
 use Rattle.laws.specs.Shape.{shape}
-use Rattle.laws.specs.Memory.{clear, held, held-onto}
-use Rattle.laws.specs.View.{Call, restarts, leftBy, heldBy, start_of, walk, Walked, not-walked, View, walking, refusing, view}
-use Rattle.laws.specs.History.{isTicked, not-ticked, OfTicked, Standing, stands, behind, afterLeft, after, afterAll, TakesUp, same-tree}
+use Rattle.laws.specs.Memory.{clear, held, held_onto}
+use Rattle.laws.specs.View.{Call, restarts, left_by, held_by, start_of, walk, Walked, not_walked, View, walking, refusing, view}
+use Rattle.laws.specs.History.{is_ticked, not_ticked, OfTicked, Standing, stands, behind, after_left, after, after_all, TakesUp, same_tree}
 
 -- what a walk that started with a tree of the shape of t leaves: its shape, and P or E
 abbrev pub After : Tree → (Tree → ℕ → Type 0) → (ℕ → Type 0) → ℕ → Out Tree → Type 0
@@ -35,7 +35,7 @@ module _ (t : Tree) (P : Tree → ℕ → Type 0) (E : ℕ → Type 0) where
 -- Ok: what is asked of a call answered 0, beside what stands, with the number of answers that it used
 module _ (F : Format) (Ok : Standing → Call → ℕ → Type 0) where
   abbrev pub Asked : Standing → Call → Type 0
-  Asked st a = OfTicked (leftBy F a).answer (Ok st a)
+  Asked st a = OfTicked (left_by F a).answer (Ok st a)
 
   abbrev pub AllAsked : Standing → List Call → Type 0
   AllAsked st List.[] = Unit {0}
@@ -43,21 +43,21 @@ module _ (F : Format) (Ok : Standing → Call → ℕ → Type 0) where
 
   module _ (t : Tree) (P : Tree → ℕ → Type 0) (E : ℕ → Type 0) where
     abbrev pub Steps : Type 0
-    Steps = (st : Standing) (a : Call) (t' : Tree) (k : ℕ) (o : Out Tree) → walkFrom F a.given' t' ≡ o → P t' k → OfTicked (walked a.given' t' o).answer (Ok st a) → After t P E k o
+    Steps = (st : Standing) (a : Call) (t' : Tree) (k : ℕ) (o : Out Tree) → walk_from F a.given' t' ≡ o → P t' k → OfTicked (walked a.given' t' o).answer (Ok st a) → After t P E k o
 
     module _ (takes : (st : Standing) (a : Call) (u : ℕ) → Ok st a u → TakesUp t st a) (step : Steps) (start : P (fresh t) 0) where
       stood : (k : ℕ) (g : Given) (s : Status) (r : Float) (t' : Tree) (w : World) → After t P E k (done s r t' w)
-          → Keeps t P E (stands (counted s g.record') (ontoRun (sinceIn g s t') t' g.cells') (suc k))
+          → Keeps t P E (stands (counted s g.record') (onto_run (since_in g s t') t' g.cells') (suc k))
       unfolding counted
-      stood k g Running r t' w h = rw (held-onto (sinceIn g Running t') t t' g.cells' h.0) h.1
+      stood k g Running r t' w h = rw (held_onto (since_in g Running t') t t' g.cells' h.0) h.1
       stood k g Success r t' w h = h
       stood k g Failure r t' w h = h
 
       -- a walk to its end, from a tree of which P holds
       walk_ends : (st : Standing) (a : Call) (u : Tree) → P (start_of u a) (behind a st)
           → (s : Status) (r : Float) (t' : Tree) (f : ℕ) (ans : List (Status × Float)) → walk F u a ≡ done s r t' (world f ans)
-          → OfTicked (walked a.given' (heldBy u a.given') (done s r t' (world f ans))).answer (Ok st a)
-          → Keeps t P E (afterLeft (behind a st) st (walked a.given' (heldBy u a.given') (done s r t' (world f ans))))
+          → OfTicked (walked a.given' (held_by u a.given') (done s r t' (world f ans))).answer (Ok st a)
+          → Keeps t P E (after_left (behind a st) st (walked a.given' (held_by u a.given') (done s r t' (world f ans))))
       walk_ends st a u v s r t' f ans q h = stood (behind a st) a.given' s r t' (world f ans) (step st a (start_of u a) (behind a st) (done s r t' (world f ans)) q v h)
 
       -- the fresh tree, or the one that a tick takes up
@@ -65,44 +65,44 @@ module _ (F : Format) (Ok : Standing → Call → ℕ → Type 0) where
       begins st a u w up v = on a.fresh refl
         where
           on : (b : Bool) → a.fresh ≡ b → P (start_of u a) (behind a st)
-          on true f = rw (f, up.the-table u w.table-good) start
+          on true f = rw (f, up.the_table u w.table_good) start
           on false f =
-              let e : u ≡ t = up.the-table u w.table-good in
-              let same : heldBy t a.given' ≡ held t st.cells' = same-tree t st a up f (rw e at w.long-enough) in
-              let unfinished : st.record'.finished ≡ false = rw (up.the-record f) at (w.not-finished f) in
+              let e : u ≡ t = up.the_table u w.table_good in
+              let same : held_by t a.given' ≡ held t st.cells' = same_tree t st a up f (rw e at w.long_enough) in
+              let unfinished : st.record'.finished ≡ false = rw (up.the_record f) at (w.not_finished f) in
               rw (f, e, same) (rw unfinished at (v f))
 
-      walk-keeps : (st : Standing) (a : Call) (u : Tree) → Walked a u → Keeps t P E st → (o : Out Tree) → walk F u a ≡ o
-          → OfTicked (walked a.given' (heldBy u a.given') o).answer (Ok st a) → Keeps t P E (afterLeft (behind a st) st (walked a.given' (heldBy u a.given') o))
-      walk-keeps st a u w v (asks n x) q h = v
-      walk-keeps st a u w v short q h = v
-      walk-keeps st a u w v (done s r t' (world f ans)) q h = walk_ends st a u (begins st a u w (takes st a _ h) (λ f. v)) s r t' f ans q h
+      walk_keeps : (st : Standing) (a : Call) (u : Tree) → Walked a u → Keeps t P E st → (o : Out Tree) → walk F u a ≡ o
+          → OfTicked (walked a.given' (held_by u a.given') o).answer (Ok st a) → Keeps t P E (after_left (behind a st) st (walked a.given' (held_by u a.given') o))
+      walk_keeps st a u w v (asks n x) q h = v
+      walk_keeps st a u w v short q h = v
+      walk_keeps st a u w v (done s r t' (world f ans)) q h = walk_ends st a u (begins st a u w (takes st a _ h) (λ f. v)) s r t' f ans q h
 
-      left-keeps : (st : Standing) (a : Call) (l : Left) → View F a l → Keeps t P E st → OfTicked l.answer (Ok st a) → Keeps t P E (afterLeft (behind a st) st l)
-      left-keeps st a l (refusing b n) v h = rw (not-ticked b (not-walked a b n)) v
-      left-keeps st a l (walking u w) v h = walk-keeps st a u w v (walk F u a) refl h
+      left_keeps : (st : Standing) (a : Call) (l : Left) → View F a l → Keeps t P E st → OfTicked l.answer (Ok st a) → Keeps t P E (after_left (behind a st) st l)
+      left_keeps st a l (refusing b n) v h = rw (not_ticked b (not_walked a b n)) v
+      left_keeps st a l (walking u w) v h = walk_keeps st a u w v (walk F u a) refl h
 
-      call-keeps : (st : Standing) (a : Call) → Asked st a → Keeps t P E st → Keeps t P E (after F st a)
+      call_keeps : (st : Standing) (a : Call) → Asked st a → Keeps t P E st → Keeps t P E (after F st a)
       unfolding after
-      call-keeps st a h v = left-keeps st a (leftBy F a) (view F a) v h
+      call_keeps st a h v = left_keeps st a (left_by F a) (view F a) v h
 
-      pub calls-keep : (st : Standing) (cs : List Call) → AllAsked st cs → Keeps t P E st → Keeps t P E (afterAll F st cs)
-      unfolding afterAll
-      calls-keep st List.[] h v = v
-      calls-keep st (List.◌∷◌ a cs) h v = calls-keep (after F st a) cs h.1 (call-keeps st a h.0 v)
+      pub calls_keep : (st : Standing) (cs : List Call) → AllAsked st cs → Keeps t P E st → Keeps t P E (after_all F st cs)
+      unfolding after_all
+      calls_keep st List.[] h v = v
+      calls_keep st (List.◌∷◌ a cs) h v = calls_keep (after F st a) cs h.1 (call_keeps st a h.0 v)
 
       -- a restart answered 0 asks nothing of what stood before it
-      pub restart-keeps : (st : Standing) (g : Given) → T (isTicked (restartCall F g).answer) → Asked st (restarts g) → Keeps t P E (after F st (restarts g))
+      pub restart_keeps : (st : Standing) (g : Given) → T (is_ticked (restart_call F g).answer) → Asked st (restarts g) → Keeps t P E (after F st (restarts g))
       unfolding after
-      restart-keeps st g a h = on (restartCall F g) (view F (restarts g)) a h
+      restart_keeps st g a h = on (restart_call F g) (view F (restarts g)) a h
         where
-          ends : (u : Tree) → Walked (restarts g) u → (o : Out Tree) → walk F u (restarts g) ≡ o → T (isTicked (walked g (heldBy u g) o).answer)
-              → OfTicked (walked g (heldBy u g) o).answer (Ok st (restarts g)) → Keeps t P E (afterLeft 0 st (walked g (heldBy u g) o))
+          ends : (u : Tree) → Walked (restarts g) u → (o : Out Tree) → walk F u (restarts g) ≡ o → T (is_ticked (walked g (held_by u g) o).answer)
+              → OfTicked (walked g (held_by u g) o).answer (Ok st (restarts g)) → Keeps t P E (after_left 0 st (walked g (held_by u g) o))
           ends u w (asks n x) q a h = absurd a
           ends u w short q a h = absurd a
           ends u w (done s r t' (world f ans)) q a h =
               walk_ends st (restarts g) u (begins st (restarts g) u w (takes st (restarts g) _ h) (λ e. absurd (subst T e tt))) s r t' f ans q h
 
-          on : (l : Left) → View F (restarts g) l → T (isTicked l.answer) → OfTicked l.answer (Ok st (restarts g)) → Keeps t P E (afterLeft 0 st l)
-          on l (refusing b n) a h = absurd (subst T (not-ticked b (not-walked (restarts g) b n)) a)
+          on : (l : Left) → View F (restarts g) l → T (is_ticked l.answer) → OfTicked l.answer (Ok st (restarts g)) → Keeps t P E (after_left 0 st l)
+          on l (refusing b n) a h = absurd (subst T (not_ticked b (not_walked (restarts g) b n)) a)
           on l (walking u w) a h = ends u w (walk F u (restarts g)) refl a h

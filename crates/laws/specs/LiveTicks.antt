@@ -13,11 +13,11 @@ use Rattle.rules.specs.State.{rule, tick}
 use Rattle.rules.specs.Cells.{elapsed}
 use Rattle.laws.specs.Shape.{Shapes, shape, shapes, size_of}
 use Rattle.laws.specs.Shape
-use Rattle.laws.specs.Elapsed.{add-elapsed, sub-elapsed, number-elapsed, smaller-elapsed, largest-elapsed}
+use Rattle.laws.specs.Elapsed.{add_elapsed, sub_elapsed, number_elapsed, smaller_elapsed, largest_elapsed}
 use Rattle.laws.specs.Live.{Live, Right, Rights}
 use Rattle.laws.specs.Pair.{Terms, Pairing, Sim, goes, ends}
 use Rattle.laws.specs.PairDrivers.{Each, Visited, Alike}
-use Rattle.laws.specs.PairRules.{rule-with, Acts, visit-pair}
+use Rattle.laws.specs.PairRules.{rule_with_lem, Acts, visit_pair}
 
 abbrev pub EAnswers : List (Status × Float) → Type 0
 EAnswers List.[] = Unit {0}
@@ -26,8 +26,8 @@ EAnswers (List.◌∷◌ a ans) = T (elapsed a.1) × EAnswers ans
 abbrev pub EWorld : World → Type 0
 EWorld (world f ans) = EAnswers ans
 
-abbrev pub fuelIn : World → ℕ
-fuelIn (world f ans) = f
+abbrev pub fuel_in : World → ℕ
+fuel_in (world f ans) = f
 
 -- cells are looked at, and times are elapsed
 abbrev pub elapsing : (F : Format) → Terms F
@@ -38,24 +38,24 @@ elapsing F = record {
   both = λ x y. (x, y);
   time = elapsed;
   none_passed = tt;
-  most = largest-elapsed F;
-  least = smaller-elapsed;
-  limit = number-elapsed;
-  sum = add-elapsed F;
-  past = sub-elapsed F;
+  most = largest_elapsed F;
+  least = smaller_elapsed;
+  limit = number_elapsed;
+  sum = add_elapsed F;
+  past = sub_elapsed F;
 }
 
 -- Ends: what becomes of the second walk where the first is short
-module _ (Ends : (A : Type 0) → Out A → Type 0) (ends-then : (A B : Type 0) (o : Out A) (k : Status → Float → A → World → Out B) → Ends A o → Ends B (o ▸ k)) where
+module _ (Ends : (A : Type 0) → Out A → Type 0) (ends_then : (A B : Type 0) (o : Out A) (k : Status → Float → A → World → Out B) → Ends A o → Ends B (o ▸ k)) where
   abbrev pub Stopped : (A : Type 0) → Out A → Out A → Type 0
   Stopped A (done s r a w) o' = ⊥
   Stopped A (asks n x) o' = o' ≡ asks n x
   Stopped A short o' = Ends A o'
 
-  pub stopped-then : (A B : Type 0) (o o' : Out A) (k k' : Status → Float → A → World → Out B) → Stopped A o o' → Stopped B (o ▸ k) (o' ▸ k')
-  stopped-then A B (done s r a w) o' k k' h = absurd h
-  stopped-then A B (asks n x) o' k k' h = rw h
-  stopped-then A B short o' k k' h = ends-then A B o' k' h
+  pub stopped_then : (A B : Type 0) (o o' : Out A) (k k' : Status → Float → A → World → Out B) → Stopped A o o' → Stopped B (o ▸ k) (o' ▸ k')
+  stopped_then A B (done s r a w) o' k k' h = absurd h
+  stopped_then A B (asks n x) o' k k' h = rw h
+  stopped_then A B short o' k k' h = ends_then A B o' k' h
 
   abbrev pub living : (F : Format) → Pairing F
   living F = record {
@@ -63,31 +63,31 @@ module _ (Ends : (A : Type 0) → Out A → Type 0) (ends-then : (A B : Type 0) 
     Worlds = (w : World) × EWorld w;
     first = λ p m. m p.0;
     second = λ p m. m p.0;
-    fuel = λ p. fuelIn p.0;
-    Reach = λ n p q. fuelIn q.0 ≤ fuelIn p.0;
-    stays = λ n p. le_refl (fuelIn p.0);
+    fuel = λ p. fuel_in p.0;
+    Reach = λ n p q. fuel_in q.0 ≤ fuel_in p.0;
+    stays = λ n p. le_refl (fuel_in p.0);
     onward = λ m n p q r h g. le_trans g h;
     spends = λ n p q h. h;
     Stop = λ {A} n p o o'. Stopped A o o';
-    stop-then = λ {A} {B} n p o o' k k' h. stopped-then A B o o' k k' h;
-    stop-back = λ m n p q o o' g h. h;
-    stop-short = λ n p h. absurd h;
+    stop_then = λ {A} {B} n p o o' k k' h. stopped_then A B o o' k k' h;
+    stop_back = λ m n p q o o' g h. h;
+    stop_short = λ n p h. absurd h;
     Upto = λ m n. Unit {0};
     upto = λ m n h. tt;
-    reach-upto = λ m n p q u h. h;
-    stop-upto = λ m n p o o' u h. h;
+    reach_upto = λ m n p q u h. h;
+    stop_upto = λ m n p o o' u h. h;
     first_then = λ p m k. refl;
-    second-then = λ p m k. refl;
+    second_then = λ p m k. refl;
   }
 
-  pub living-acts : (F : Format) → Acts (living F)
+  pub living_acts : (F : Format) → Acts (living F)
   unfolding rule
-  living-acts F child child' n l c e ts m (world f List.[], wv) P x = ends (asks n (dt e)) (asks n (dt e)) refl
-  living-acts F child child' n l c e ts m (world f (List.◌∷◌ a ans), wv) P x = goes a.0 a.1 (c, ts) (world f ans, wv.1) (le_refl f) (x, wv.0)
+  living_acts F child child' n l c e ts m (world f List.[], wv) P x = ends (asks n (dt e)) (asks n (dt e)) refl
+  living_acts F child child' n l c e ts m (world f (List.◌∷◌ a ans), wv) P x = goes a.0 a.1 (c, ts) (world f ans, wv.1) (le_refl f) (x, wv.0)
 
-rights-each : (ss : Shapes) → Rights ss → Each Right ss
-rights-each Shape.[] h = tt
-rights-each (Shape.◌∷◌ s ss) h = (h.0, rights-each ss h.1)
+rights_each : (ss : Shapes) → Rights ss → Each Right ss
+rights_each Shape.[] h = tt
+rights_each (Shape.◌∷◌ s ss) h = (h.0, rights_each ss h.1)
 
 -- ---- the rules' own ticks, of any depth
 abbrev walking : (F : Format) → Pairing F
@@ -100,17 +100,17 @@ LiveAfter (asks n x) = Unit {0}
 LiveAfter short = Unit {0}
 
 module _ (F : Format) where
-  tick-lives : (d : ℕ) → Alike (walking F) Right (tick F d) (tick F d)
+  tick_lives : (d : ℕ) → Alike (walking F) Right (tick F d) (tick F d)
   unfolding tick
-  tick-lives zero t e w s v ev = ends short short tt
-  tick-lives (suc d) t e (world zero ans, wv) s v ev = ends short short tt
-  tick-lives (suc d) (node k n l c b ts) e (world (suc f) ans, wv) s v ev =
-      visit-pair (walking F) (living-acts (λ A o. Unit {0}) (λ A B o k h. tt) F) Right (tick F d) (tick F d) (tick-lives d) (suc f) k n l c b ts e (world (suc f) ans, wv) (world f ans, wv)
-      (rule-with F (tick F d) k n l c e ts f ans) (rule-with F (tick F d) k n l c e ts f ans) (omega arith) (omega arith) (λ h i j. tt) (rights-each (shapes ts) s.3)
+  tick_lives zero t e w s v ev = ends short short tt
+  tick_lives (suc d) t e (world zero ans, wv) s v ev = ends short short tt
+  tick_lives (suc d) (node k n l c b ts) e (world (suc f) ans, wv) s v ev =
+      visit_pair (walking F) (living_acts (λ A o. Unit {0}) (λ A B o k h. tt) F) Right (tick F d) (tick F d) (tick_lives d) (suc f) k n l c b ts e (world (suc f) ans, wv) (world f ans, wv)
+      (rule_with_lem F (tick F d) k n l c e ts f ans) (rule_with_lem F (tick F d) k n l c e ts f ans) (omega arith) (omega arith) (λ h i j. tt) (rights_each (shapes ts) s.3)
       ((s.0, s.1, s.2), v, omega arith) ev
 
-  pub tick-live : (d : ℕ) (t : Tree) (e : Event) (w : World) → Right (shape t) → Live t → T (elapsed (dt e)) → EWorld w → LiveAfter (tick F d t e w)
-  tick-live d t e w s v ev wv = on (tick F d t e w) (tick F d t e w) (tick-lives d t e (w, wv) s v ev)
+  pub tick_live : (d : ℕ) (t : Tree) (e : Event) (w : World) → Right (shape t) → Live t → T (elapsed (dt e)) → EWorld w → LiveAfter (tick F d t e w)
+  tick_live d t e w s v ev wv = on (tick F d t e w) (tick F d t e w) (tick_lives d t e (w, wv) s v ev)
     where
       on : (o o' : Out Tree) → Sim (walking F) (size_of (shape t)) (w, wv) (Visited (walking F) (w, wv) t) o o' → LiveAfter o
       on o o' (goes s' r t' q h x) = (q.1, x.2, x.1.0)

@@ -12,10 +12,10 @@ use Rattle.rules.specs.State.{rule, tick}
 use Rattle.laws.specs.Shape.{shape, shapes, size_of}
 use Rattle.std.proofs.Common.{suc-add, arith}
 use Rattle.laws.specs.Pair.{nothing, Pairing, Of, Sim, goes, ends}
-use Rattle.laws.specs.PairDrivers.{Alike, Any, any-each}
-use Rattle.laws.specs.PairRules.{Acts, visit-pair}
+use Rattle.laws.specs.PairDrivers.{Alike, Any, any_each}
+use Rattle.laws.specs.PairRules.{Acts, visit_pair}
 use Rattle.laws.specs.Alone.{Answers}
-use Rattle.laws.specs.Budget.{tick-budget}
+use Rattle.laws.specs.Budget.{tick_budget}
 
 -- the outcome o' with k more fuel and `more` behind the answers, beside the outcome o
 abbrev pub Grown : {A : Type 0} → ℕ → Answers → Out A → Out A → Type 0
@@ -33,10 +33,10 @@ module _ (k : ℕ) (more : Answers) where
   Stopped (asks n x) o' = more ≡ List.[] → o' ≡ asks n x
   Stopped short o' = k ≡ 0 → o' ≡ short
 
-  pub stopped-then : {A B : Type 0} (o o' : Out A) (c c' : Status → Float → A → World → Out B) → Stopped o o' → Stopped (o ▸ c) (o' ▸ c')
-  stopped-then (done s r a w) o' c c' h = absurd h
-  stopped-then (asks n x) o' c c' h = λ e. rw (h e)
-  stopped-then short o' c c' h = λ e. rw (h e)
+  pub stopped_then : {A B : Type 0} (o o' : Out A) (c c' : Status → Float → A → World → Out B) → Stopped o o' → Stopped (o ▸ c) (o' ▸ c')
+  stopped_then (done s r a w) o' c c' h = absurd h
+  stopped_then (asks n x) o' c c' h = λ e. rw (h e)
+  stopped_then short o' c c' h = λ e. rw (h e)
 
   abbrev pub growing : (F : Format) → Pairing F
   growing F = record {
@@ -50,15 +50,15 @@ module _ (k : ℕ) (more : Answers) where
     onward = λ m n w w' w'' h g. tt;
     spends = λ n w w' h. tt;
     Stop = λ n w o o'. Stopped o o';
-    stop-then = λ n w o o' c c' h. stopped-then o o' c c' h;
-    stop-back = λ m n w w' o o' g h. h;
-    stop-short = λ n w h e. refl;
+    stop_then = λ n w o o' c c' h. stopped_then o o' c c' h;
+    stop_back = λ m n w w' o o' g h. h;
+    stop_short = λ n w h e. refl;
     Upto = λ m n. Unit {0};
     upto = λ m n h. tt;
-    reach-upto = λ m n w w' u h. tt;
-    stop-upto = λ m n w o o' u h. h;
+    reach_upto = λ m n w w' u h. tt;
+    stop_upto = λ m n w o o' u h. h;
     first_then = λ w m c. refl;
-    second-then = λ w m c. refl;
+    second_then = λ w m c. refl;
   }
 
   module _ (F : Format) where
@@ -76,17 +76,17 @@ module _ (k : ℕ) (more : Answers) where
         none child' n l c e ts f h = rw h
     acts child child' n l c e ts m (world f (List.◌∷◌ a ans)) P x = goes a.0 a.1 (c, ts) (world f ans) tt (x, tt)
 
-    tick-grows : (d : ℕ) → Alike (growing F) Any (tick F d) (tick F d)
+    tick_grows : (d : ℕ) → Alike (growing F) Any (tick F d) (tick F d)
     unfolding tick
-    tick-grows zero t e w u v ev = ends short short (λ h. refl)
-    tick-grows (suc d) t e (world zero ans) u v ev = ends short (tick F (suc d) t e (world (0 + k) (ans ++ more))) (none t e ans)
+    tick_grows zero t e w u v ev = ends short short (λ h. refl)
+    tick_grows (suc d) t e (world zero ans) u v ev = ends short (tick F (suc d) t e (world (0 + k) (ans ++ more))) (none t e ans)
       where
         none : (t : Tree) (e : Event) (ans : Answers) → k ≡ 0 → tick F (suc d) t e (world (0 + k) (ans ++ more)) ≡ short
         none t e ans h = rw h
-    tick-grows (suc d) (node kd n l c b ts) e (world (suc f) ans) u v ev =
-        rw (suc-add f k) (visit-pair (growing F) acts Any (tick F d) (tick F d) (tick-grows d) (suc (f + k)) kd n l c b ts e (world (suc f) ans) (world f ans)
-        (tick-budget F d (suc (f + k)) kd n l c e ts f ans (omega arith)) (tick-budget F d (suc (f + k)) kd n l c e ts (f + k) (ans ++ more) (omega arith))
-        tt tt (λ h i j. tt) (any-each (shapes ts)) tt tt)
+    tick_grows (suc d) (node kd n l c b ts) e (world (suc f) ans) u v ev =
+        rw (suc-add f k) (visit_pair (growing F) acts Any (tick F d) (tick F d) (tick_grows d) (suc (f + k)) kd n l c b ts e (world (suc f) ans) (world f ans)
+        (tick_budget F d (suc (f + k)) kd n l c e ts f ans (omega arith)) (tick_budget F d (suc (f + k)) kd n l c e ts (f + k) (ans ++ more) (omega arith))
+        tt tt (λ h i j. tt) (any_each (shapes ts)) tt tt)
 
-    pub tick-more : (d : ℕ) (t : Tree) (e : Event) (f : ℕ) (ans : Answers) → Grown k more (tick F d t e (world f ans)) (tick F d t e (world (f + k) (ans ++ more)))
-    tick-more d t e f ans = grown (size_of (shape t)) (world f ans) _ (tick F d t e (world f ans)) (tick F d t e (world (f + k) (ans ++ more))) (tick-grows d t e (world f ans) tt tt tt)
+    pub tick_more : (d : ℕ) (t : Tree) (e : Event) (f : ℕ) (ans : Answers) → Grown k more (tick F d t e (world f ans)) (tick F d t e (world (f + k) (ans ++ more)))
+    tick_more d t e f ans = grown (size_of (shape t)) (world f ans) _ (tick F d t e (world f ans)) (tick F d t e (world (f + k) (ans ++ more))) (tick_grows d t e (world f ans) tt tt tt)

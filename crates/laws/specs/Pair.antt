@@ -6,7 +6,7 @@ use Rattle.std.proofs.Common.{sym, arith}
 use Rattle.std.specs.Float.{Format}
 use Rattle.std.specs.Float.Ieee.{add, sub, le}
 use Rattle.rules.specs.declared.status.Status.{Status}
-use Rattle.rules.specs.Tree.{zeroTime}
+use Rattle.rules.specs.Tree.{zero_time}
 use Rattle.rules.specs.Outcome.{World, Out, done, short, ◌▸◌, largest, smaller}
 use Rattle.rules.specs.Table.{number}
 
@@ -18,7 +18,7 @@ pub record Terms (F : Format) : Type 1 where
   pub both : {X Y : Type 0} → Known X → Known Y → Known (X × Y)
   -- a time that may be met; they are closed under what the rules do with them
   pub time : Float → Bool
-  pub none_passed : T (time zeroTime)
+  pub none_passed : T (time zero_time)
   pub most : T (time (largest F))
   pub least : (x y : Float) → T (time x) → T (time y) → T (time (smaller x y))
   pub limit : (l : Float) → Known (T (number l)) → T (time l)
@@ -55,18 +55,18 @@ pub record Pairing (F : Format) : Type 1 where
   pub spends : (n : ℕ) (p q : Worlds) → Reach n p q → terms.Known (fuel q ≤ fuel p)
   -- how they stop
   pub Stop : {A : Type 0} → ℕ → Worlds → Out A → Out A → Type 0
-  pub stop-then : {A B : Type 0} (n : ℕ) (p : Worlds) (o o' : Out A) (k k' : Status → Float → A → World → Out B) → Stop n p o o' → Stop n p (o ▸ k) (o' ▸ k')
-  pub stop-back : {A : Type 0} (m n : ℕ) (p q : Worlds) (o o' : Out A) → Reach m p q → Stop n q o o' → Stop (m + n) p o o'
+  pub stop_then : {A B : Type 0} (n : ℕ) (p : Worlds) (o o' : Out A) (k k' : Status → Float → A → World → Out B) → Stop n p o o' → Stop n p (o ▸ k) (o' ▸ k')
+  pub stop_back : {A : Type 0} (m n : ℕ) (p q : Worlds) (o o' : Out A) → Reach m p q → Stop n q o o' → Stop (m + n) p o o'
   -- a clause that is short: no tree of which it is known what is asked leads there
-  pub stop-short : {A : Type 0} (n : ℕ) (p : Worlds) → terms.Known ⊥ → Stop {A = A} n p (first p (λ w. short)) (second p (λ w. short))
+  pub stop_short : {A : Type 0} (n : ℕ) (p : Worlds) → terms.Known ⊥ → Stop {A = A} n p (first p (λ w. short)) (second p (λ w. short))
   -- where nodes are not counted, each number stands for each other
   pub Upto : ℕ → ℕ → Type 0
   pub upto : (m n : ℕ) → m ≤ n → Upto m n
-  pub reach-upto : (m n : ℕ) (p q : Worlds) → Upto m n → Reach m p q → Reach n p q
-  pub stop-upto : {A : Type 0} (m n : ℕ) (p : Worlds) (o o' : Out A) → Upto m n → Stop m p o o' → Stop n p o o'
+  pub reach_upto : (m n : ℕ) (p q : Worlds) → Upto m n → Reach m p q → Reach n p q
+  pub stop_upto : {A : Type 0} (m n : ℕ) (p : Worlds) (o o' : Out A) → Upto m n → Stop m p o o' → Stop n p o o'
   -- what follows a child's answer follows it in each walk
   pub first_then : {A B : Type 0} (p : Worlds) (m : World → Out A) (k : Status → Float → A → World → Out B) → first p (λ w. m w ▸ k) ≡ first p m ▸ k
-  pub second-then : {A B : Type 0} (p : Worlds) (m : World → Out A) (k : Status → Float → A → World → Out B) → second p (λ w. m w ▸ k) ≡ second p m ▸ k
+  pub second_then : {A B : Type 0} (p : Worlds) (m : World → Out A) (k : Status → Float → A → World → Out B) → second p (λ w. m w ▸ k) ≡ second p m ▸ k
 
 module _ {F : Format} (R : Pairing F) where
   abbrev pub Known : Type 0 → Type 0
@@ -78,8 +78,8 @@ module _ {F : Format} (R : Pairing F) where
   pub from : {X Y : Type 0} → Known X → (X → Y) → Known Y
   from u f = R.terms.map f u
 
-  pub from-both : {X Y Z : Type 0} → Known X → Known Y → (X → Y → Z) → Known Z
-  from-both u v f = R.terms.map (λ z. f z.0 z.1) (R.terms.both u v)
+  pub from_both : {X Y Z : Type 0} → Known X → Known Y → (X → Y → Z) → Known Z
+  from_both u v f = R.terms.map (λ z. f z.0 z.1) (R.terms.both u v)
 
   -- what is said of an outcome that is done: of its status, leftover and result, and of the worlds that are left
   abbrev pub Of : Type 0 → Type 1
@@ -97,11 +97,11 @@ module _ {F : Format} (R : Pairing F) where
   -- from worlds before it; counted for more nodes; told less of; with the fuel that is left
   pub back : {A : Type 0} {m n : ℕ} {p q : R.Worlds} {P : Of A} {o o' : Out A} → R.Reach m p q → Sim n q P o o' → Sim (m + n) p P o o'
   back {m} {n} {p} {q} h (goes s r a q' g x) = goes s r a q' (R.onward m n p q q' h g) x
-  back {m} {n} {p} {q} h (ends u u' g) = ends u u' (R.stop-back m n p q u u' h g)
+  back {m} {n} {p} {q} h (ends u u' g) = ends u u' (R.stop_back m n p q u u' h g)
 
   pub up : {A : Type 0} {n : ℕ} {p : R.Worlds} {P : Of A} {o o' : Out A} (m : ℕ) → R.Upto m n → Sim m p P o o' → Sim n p P o o'
-  up {n} {p} m h (goes s r a q g x) = goes s r a q (R.reach-upto m n p q h g) x
-  up {n} {p} m h (ends u u' g) = ends u u' (R.stop-upto m n p u u' h g)
+  up {n} {p} m h (goes s r a q g x) = goes s r a q (R.reach_upto m n p q h g) x
+  up {n} {p} m h (ends u u' g) = ends u u' (R.stop_upto m n p u u' h g)
 
   pub weak : {A : Type 0} {n : ℕ} {p : R.Worlds} {P Q : Of A} {o o' : Out A} → Sim n p P o o' → ((s : Status) (r : Float) (a : A) (q : R.Worlds) → P s r a q → Q s r a q) → Sim n p Q o o'
   weak (goes s r a q h x) f = goes s r a q h (f s r a q x)
@@ -116,18 +116,18 @@ module _ {F : Format} (R : Pairing F) where
   stay {n} {p} {s} {r} {a} x = goes s r a p (R.stays n p) x
 
   pub cut : {A : Type 0} {n : ℕ} {p : R.Worlds} {P : Of A} → Known ⊥ → Both n p P (λ w. short) (λ w. short)
-  cut {n} {p} h = ends (R.first p (λ w. short)) (R.second p (λ w. short)) (R.stop-short n p h)
+  cut {n} {p} h = ends (R.first p (λ w. short)) (R.second p (λ w. short)) (R.stop_short n p h)
 
-  then-goes : {A B : Type 0} (m n : ℕ) (p : R.Worlds) (P : Of A) (Q : Of B) (k k' : Status → Float → A → World → Out B) (o o' : Out A) → Sim m p P o o'
+  then_goes : {A B : Type 0} (m n : ℕ) (p : R.Worlds) (P : Of A) (Q : Of B) (k k' : Status → Float → A → World → Out B) (o o' : Out A) → Sim m p P o o'
       → ((s : Status) (r : Float) (a : A) (q : R.Worlds) → P s r a q → Both n q Q (k s r a) (k' s r a)) → Sim (m + n) p Q (o ▸ k) (o' ▸ k')
-  then-goes m n p P Q k k' o o' (goes s r a q h x) c = rw (sym (R.first_then q (done s r a) k), sym (R.second-then q (done s r a) k')) (back h (c s r a q x))
-  then-goes m n p P Q k k' o o' (ends u u' h) c =
-      ends (u ▸ k) (u' ▸ k') (R.stop-upto m (m + n) p (u ▸ k) (u' ▸ k') (R.upto m (m + n) (omega arith)) (R.stop-then m p u u' k k' h))
+  then_goes m n p P Q k k' o o' (goes s r a q h x) c = rw (sym (R.first_then q (done s r a) k), sym (R.second_then q (done s r a) k')) (back h (c s r a q x))
+  then_goes m n p P Q k k' o o' (ends u u' h) c =
+      ends (u ▸ k) (u' ▸ k') (R.stop_upto m (m + n) p (u ▸ k) (u' ▸ k') (R.upto m (m + n) (omega arith)) (R.stop_then m p u u' k k' h))
 
   -- the one law of what follows a child's answer
   pub then : {A B : Type 0} {m n : ℕ} {p : R.Worlds} {P : Of A} {Q : Of B} {o o' : World → Out A} {k k' : Status → Float → A → World → Out B}
       → Both m p P o o' → ((s : Status) (r : Float) (a : A) (q : R.Worlds) → P s r a q → Both n q Q (k s r a) (k' s r a)) → Both (m + n) p Q (λ w. o w ▸ k) (λ w. o' w ▸ k')
-  then {m} {n} {p} {P} {Q} {o} {o'} {k} {k'} h c = rw (R.first_then p o k, R.second-then p o' k') (then-goes m n p P Q k k' (R.first p o) (R.second p o') h c)
+  then {m} {n} {p} {P} {Q} {o} {o'} {k} {k'} h c = rw (R.first_then p o k, R.second_then p o' k') (then_goes m n p P Q k k' (R.first p o) (R.second p o') h c)
 
   -- what is done with an outcome, with no more nodes
   pub after : {A B : Type 0} {n : ℕ} {p : R.Worlds} {P : Of A} {Q : Of B} {o o' : World → Out A} {k k' : Status → Float → A → World → Out B}

@@ -11,14 +11,14 @@ use Rattle.std.specs.Float.Ieee.{lt}
 use Rattle.rules.specs.declared.status.Status.TheVariants.{Running, Success, Failure}
 use Rattle.rules.specs.declared.event.Event.{Event}
 use Rattle.rules.specs.declared.event.Event.TheVariants.{Update, Other}
-use Rattle.rules.specs.Tree.{zeroTime, Tree, Forest, [], ◌∷◌, fresh, freshAll, marked, count}
+use Rattle.rules.specs.Tree.{zero_time, Tree, Forest, [], ◌∷◌, fresh, fresh_all, marked, count}
 use Rattle.rules.specs.Outcome.{dt, rest, Out, Ticker, exchanging, largest, smaller}
-use Rattle.rules.specs.Sequence.{sequenceFrom, sequenceAt, memoryless}
-use Rattle.rules.specs.WhenAll.{whenAllFrom, whenAll, raceFrom, afterFrom, after_at}
-use Rattle.laws.specs.Shape.{Shape, Shapes, shape, shapes, size_of, sizesOf, fresh-shape, fresh-shapes, mark-shape, mark-marked}
+use Rattle.rules.specs.Sequence.{sequence_from, sequence_at, memoryless}
+use Rattle.rules.specs.WhenAll.{when_all_from, when_all, race_from, after_from, after_at}
+use Rattle.laws.specs.Shape.{Shape, Shapes, shape, shapes, size_of, sizes_of, fresh_shape, fresh_shapes, mark_shape, mark_marked}
 use Rattle.laws.specs.Shape
-use Rattle.laws.specs.Pair.{Pairing, Known, Time, from, from-both, Of, Sim, Both, up, weak, stay, then, after, either}
-use Rattle.laws.specs.Live.{choose, Ended, LiveBy, LivesBy, MarksBy, live-unmarked, fresh-live-by, fresh-lives-by, fresh-ended}
+use Rattle.laws.specs.Pair.{Pairing, Known, Time, from, from_both, Of, Sim, Both, up, weak, stay, then, after, either}
+use Rattle.laws.specs.Live.{choose, Ended, LiveBy, LivesBy, MarksBy, live_unmarked, fresh_live_by, fresh_lives_by, fresh_ended}
 
 -- a tick keeps shape and mark
 abbrev pub Same : Tree → Tree → Type 0
@@ -33,9 +33,9 @@ Each D (Shape.◌∷◌ s ss) = D s × Each D ss
 abbrev pub Any : Shape → Type 0
 Any s = Unit {0}
 
-pub any-each : (ss : Shapes) → Each Any ss
-any-each Shape.[] = tt
-any-each (Shape.◌∷◌ s ss) = (tt, any-each ss)
+pub any_each : (ss : Shapes) → Each Any ss
+any_each Shape.[] = tt
+any_each (Shape.◌∷◌ s ss) = (tt, any_each ss)
 
 pub join : {s s' : Shape} {ss ss' : Shapes} → s ≡ s' → ss ≡ ss' → Shape.◌∷◌ s ss ≡ Shape.◌∷◌ s' ss'
 join e es = λ i. Shape.◌∷◌ (e i) (es i)
@@ -51,11 +51,11 @@ module _ {F : Format} (R : Pairing F) where
   abbrev pub Marked : Forest → Type 0
   Marked = MarksBy R.terms.time
 
-  pub fresh-lively : (t : Tree) → Known R (Lively (fresh t))
-  fresh-lively t = R.terms.known (fresh-live-by R.terms.time R.terms.none_passed t)
+  pub fresh_lively : (t : Tree) → Known R (Lively (fresh t))
+  fresh_lively t = R.terms.known (fresh_live_by R.terms.time R.terms.none_passed t)
 
-  fresh-livelies : (ts : Forest) → Known R (Livelies (freshAll ts))
-  fresh-livelies ts = R.terms.known (fresh-lives-by R.terms.time R.terms.none_passed ts)
+  fresh_livelies : (ts : Forest) → Known R (Livelies (fresh_all ts))
+  fresh_livelies ts = R.terms.known (fresh_lives_by R.terms.time R.terms.none_passed ts)
 
   -- a tree t that was ticked from p: it has kept its shape and mark, and taken fuel
   abbrev pub Visited : R.Worlds → Tree → Of R Tree
@@ -80,15 +80,15 @@ module _ {F : Format} (R : Pairing F) where
   Alike D child child' = (t : Tree) (e : Event) (p : R.Worlds) → D (shape t) → Known R (Lively t) → Time R (dt e)
       → Both R (size_of (shape t)) p (Visited p t) (λ w. child t e w) (λ w. child' t e w)
 
-  pub exchanging-alike : (D : Shape → Type 0) (child child' : Ticker) → Alike D child child' → Alike D (exchanging child) (exchanging child')
-  exchanging-alike D child child' g t e p d v ev = after R (g t e p d v ev) λ s r t' q x. stay R x
+  pub exchanging_alike : (D : Shape → Type 0) (child child' : Ticker) → Alike D child child' → Alike D (exchanging child) (exchanging child')
+  exchanging_alike D child child' g t e p d v ev = after R (g t e p d v ev) λ s r t' q x. stay R x
 
-  zero-time : Time R zeroTime
-  zero-time = R.terms.none_passed
+  zero_time_lem : Time R zero_time
+  zero_time_lem = R.terms.none_passed
 
-  pub rest-time : (r : Float) (e : Event) → Time R r → Time R (dt (rest r e))
-  rest-time r (Update x) h = h
-  rest-time r Other h = zero-time
+  pub rest_time : (r : Float) (e : Event) → Time R r → Time R (dt (rest r e))
+  rest_time r (Update x) h = h
+  rest_time r Other h = zero_time_lem
 
   both : {X Y : Type 0} → Known R X → Known R Y → Known R (X × Y)
   both x y = R.terms.both x y
@@ -108,118 +108,118 @@ module _ {F : Format} (R : Pairing F) where
         → Both R (size_of (shape t)) p (Went p (shape t)) (λ w. child t e w) (λ w. child' t e w)
     visit t e p d v ev = weak R (g t e p d v ev) (λ s r t' q x. (x.0.0, x.1, x.2))
 
-    pub visit-fresh : (t : Tree) (e : Event) (p : R.Worlds) → D (shape t) → Time R (dt e)
+    pub visit_fresh : (t : Tree) (e : Event) (p : R.Worlds) → D (shape t) → Time R (dt e)
         → Both R (size_of (shape t)) p (Went p (shape t)) (λ w. child (fresh t) e w) (λ w. child' (fresh t) e w)
-    visit-fresh t e p d ev = rw (fresh-shape t) at (visit (fresh t) e p (rw (fresh-shape t) d) (fresh-lively t) ev)
+    visit_fresh t e p d ev = rw (fresh_shape t) at (visit (fresh t) e p (rw (fresh_shape t) d) (fresh_lively t) ev)
 
     -- the child before these was passed over
-    skip : {A : Type 0} {p : R.Worlds} {P : Of R A} {o o' : Out A} (t : Tree) (ts : Forest) → Sim R (sizesOf (shapes ts)) p P o o' → Sim R (sizesOf (shapes (t ∷ ts))) p P o o'
-    skip t ts h = up R (sizesOf (shapes ts)) (R.upto (sizesOf (shapes ts)) (sizesOf (shapes (t ∷ ts))) (omega arith)) h
+    skip : {A : Type 0} {p : R.Worlds} {P : Of R A} {o o' : Out A} (t : Tree) (ts : Forest) → Sim R (sizes_of (shapes ts)) p P o o' → Sim R (sizes_of (shapes (t ∷ ts))) p P o o'
+    skip t ts h = up R (sizes_of (shapes ts)) (R.upto (sizes_of (shapes ts)) (sizes_of (shapes (t ∷ ts))) (omega arith)) h
 
     -- ---- Race
-    pub race-pair : (e : Event) (ts : Forest) (p : R.Worlds) → Each D (shapes ts) → Known R (Livelies ts) → Time R (dt e)
-        → Both R (sizesOf (shapes ts)) p (Kept ts) (λ w. raceFrom child e ts w) (λ w. raceFrom child' e ts w)
-    unfolding raceFrom
-    race-pair e [] p d v ev = stay R (refl, v, zero-time)
-    race-pair e (t ∷ ts) p d v ev = then R (visit t e p d.0 (head v) ev) λ s. elim s [
-      | Running ↦ λ r t' q x. after R (race-pair e ts q d.1 (tail v) ev) λ s' r' us q' y. stay R (join x.0 y.0, both (head x.1) y.1, y.2)
+    pub race_pair : (e : Event) (ts : Forest) (p : R.Worlds) → Each D (shapes ts) → Known R (Livelies ts) → Time R (dt e)
+        → Both R (sizes_of (shapes ts)) p (Kept ts) (λ w. race_from child e ts w) (λ w. race_from child' e ts w)
+    unfolding race_from
+    race_pair e [] p d v ev = stay R (refl, v, zero_time_lem)
+    race_pair e (t ∷ ts) p d v ev = then R (visit t e p d.0 (head v) ev) λ s. elim s [
+      | Running ↦ λ r t' q x. after R (race_pair e ts q d.1 (tail v) ev) λ s' r' us q' y. stay R (join x.0 y.0, both (head x.1) y.1, y.2)
       | Success ↦ λ r t' q x. stay R (join x.0 refl, both (head x.1) (tail v), x.2)
       | Failure ↦ λ r t' q x. stay R (join x.0 refl, both (head x.1) (tail v), x.2)
     ]
 
     -- ---- Sequence
-    seq-from : (e : Event) (t : Tree) (ts : Forest) (p : R.Worlds) → D (shape t) → Each D (shapes ts) → Known R (Lively t) → Known R (Livelies ts) → Time R (dt e)
-        → Both R (sizesOf (shapes (t ∷ ts))) p (KeptAt (count (t ∷ ts)) (t ∷ ts)) (λ w. sequenceFrom child e t ts w) (λ w. sequenceFrom child' e t ts w)
-    unfolding sequenceFrom
-    seq-from e t [] p d ds v vs ev = then R (visit t e p d v ev) λ s. elim s [
-      | Running ↦ λ r t' q x. stay R (join x.0 refl, both (know (omega arith)) (both (head x.1) vs), zero-time)
+    seq_from : (e : Event) (t : Tree) (ts : Forest) (p : R.Worlds) → D (shape t) → Each D (shapes ts) → Known R (Lively t) → Known R (Livelies ts) → Time R (dt e)
+        → Both R (sizes_of (shapes (t ∷ ts))) p (KeptAt (count (t ∷ ts)) (t ∷ ts)) (λ w. sequence_from child e t ts w) (λ w. sequence_from child' e t ts w)
+    unfolding sequence_from
+    seq_from e t [] p d ds v vs ev = then R (visit t e p d v ev) λ s. elim s [
+      | Running ↦ λ r t' q x. stay R (join x.0 refl, both (know (omega arith)) (both (head x.1) vs), zero_time_lem)
       | Success ↦ λ r t' q x. elim e [
         | Update y ↦ stay R (join x.0 refl, both (know (omega arith)) (both (head x.1) vs), x.2)
         | Other ↦ stay R (join x.0 refl, both (know (omega arith)) (both (head x.1) vs), x.2)
       ]
       | Failure ↦ λ r t' q x. stay R (join x.0 refl, both (know (omega arith)) (both (head x.1) vs), x.2)
     ]
-    seq-from e t (u ∷ us) p d ds v vs ev = then R (visit t e p d v ev) λ s. elim s [
-      | Running ↦ λ r t' q x. stay R (join x.0 refl, both (know (omega arith)) (both (head x.1) vs), zero-time)
+    seq_from e t (u ∷ us) p d ds v vs ev = then R (visit t e p d v ev) λ s. elim s [
+      | Running ↦ λ r t' q x. stay R (join x.0 refl, both (know (omega arith)) (both (head x.1) vs), zero_time_lem)
       | Success ↦ λ r t' q x. elim e [
-        | Update y ↦ after R (rw (fresh-shape u) at (seq-from (Update r) (fresh u) us q (rw (fresh-shape u) ds.0) ds.1 (fresh-lively u) (tail vs) x.2))
-            λ s' r' z q' y. stay R (join (fresh-shape t' ∙ x.0) (y.0 ∙ join (fresh-shape u) refl), from-both R (fresh-lively t') y.1 (λ a b. (omega arith, (a, b.1))), y.2)
-        | Other ↦ stay R (join (fresh-shape t' ∙ x.0) (join (fresh-shape u) refl), both (know (omega arith)) (both (fresh-lively t') (both (fresh-lively u) (tail vs))), zero-time)
+        | Update y ↦ after R (rw (fresh_shape u) at (seq_from (Update r) (fresh u) us q (rw (fresh_shape u) ds.0) ds.1 (fresh_lively u) (tail vs) x.2))
+            λ s' r' z q' y. stay R (join (fresh_shape t' ∙ x.0) (y.0 ∙ join (fresh_shape u) refl), from_both R (fresh_lively t') y.1 (λ a b. (omega arith, (a, b.1))), y.2)
+        | Other ↦ stay R (join (fresh_shape t' ∙ x.0) (join (fresh_shape u) refl), both (know (omega arith)) (both (fresh_lively t') (both (fresh_lively u) (tail vs))), zero_time_lem)
       ]
       | Failure ↦ λ r t' q x. stay R (join x.0 refl, both (know (omega arith)) (both (head x.1) vs), x.2)
     ]
 
-    pub seq-pair : (e : Event) (ts : Forest) (n : ℕ) (p : R.Worlds) → Each D (shapes ts) → Known R ((n ≤ count ts) × Livelies ts) → Time R (dt e)
-        → Both R (sizesOf (shapes ts)) p (KeptAt (count ts) ts) (λ w. sequenceAt child n e ts w) (λ w. sequenceAt child' n e ts w)
-    unfolding sequenceAt
-    seq-pair e [] n p d v ev = stay R (refl, v, zero-time)
-    seq-pair e (t ∷ ts) zero p d v ev = seq-from e t ts p d.0 d.1 (head (tail v)) (tail (tail v)) ev
-    seq-pair e (t ∷ ts) (suc n) p d v ev = skip t ts (after R (seq-pair e ts n p d.1 (from R v (λ h. (le_of_suc-le-suc h.0, h.1.1))) ev)
-        λ s r z q y. stay R (join refl y.0, from-both R (head (tail v)) y.1 (λ a b. (omega arith, (a, b.1))), y.2))
+    pub seq_pair : (e : Event) (ts : Forest) (n : ℕ) (p : R.Worlds) → Each D (shapes ts) → Known R ((n ≤ count ts) × Livelies ts) → Time R (dt e)
+        → Both R (sizes_of (shapes ts)) p (KeptAt (count ts) ts) (λ w. sequence_at child n e ts w) (λ w. sequence_at child' n e ts w)
+    unfolding sequence_at
+    seq_pair e [] n p d v ev = stay R (refl, v, zero_time_lem)
+    seq_pair e (t ∷ ts) zero p d v ev = seq_from e t ts p d.0 d.1 (head (tail v)) (tail (tail v)) ev
+    seq_pair e (t ∷ ts) (suc n) p d v ev = skip t ts (after R (seq_pair e ts n p d.1 (from R v (λ h. (le_of_suc-le-suc h.0, h.1.1))) ev)
+        λ s r z q y. stay R (join refl y.0, from_both R (head (tail v)) y.1 (λ a b. (omega arith, (a, b.1))), y.2))
 
     -- ---- Memoryless
-    pub mem-pair : (e : Event) (ts : Forest) (p : R.Worlds) → Each D (shapes ts) → Time R (dt e)
-        → Both R (sizesOf (shapes ts)) p (Kept ts) (λ w. memoryless child e ts w) (λ w. memoryless child' e ts w)
+    pub mem_pair : (e : Event) (ts : Forest) (p : R.Worlds) → Each D (shapes ts) → Time R (dt e)
+        → Both R (sizes_of (shapes ts)) p (Kept ts) (λ w. memoryless child e ts w) (λ w. memoryless child' e ts w)
     unfolding memoryless
-    mem-pair e [] p d ev = stay R (refl, know tt, ev)
-    mem-pair e (t ∷ []) p d ev = then R (visit-fresh t e p d.0 ev) λ s. elim s [
-      | Running ↦ λ r t' q x. stay R (join x.0 refl, both (head x.1) (know tt), zero-time)
-      | Success ↦ λ r t' q x. stay R (join x.0 refl, both (head x.1) (know tt), rest-time r e x.2)
+    mem_pair e [] p d ev = stay R (refl, know tt, ev)
+    mem_pair e (t ∷ []) p d ev = then R (visit_fresh t e p d.0 ev) λ s. elim s [
+      | Running ↦ λ r t' q x. stay R (join x.0 refl, both (head x.1) (know tt), zero_time_lem)
+      | Success ↦ λ r t' q x. stay R (join x.0 refl, both (head x.1) (know tt), rest_time r e x.2)
       | Failure ↦ λ r t' q x. stay R (join x.0 refl, both (head x.1) (know tt), x.2)
     ]
-    mem-pair e (t ∷ u ∷ us) p d ev = then R (visit-fresh t e p d.0 ev) λ s. elim s [
-      | Running ↦ λ r t' q x. stay R (join x.0 (fresh-shapes (u ∷ us)), both (head x.1) (fresh-livelies (u ∷ us)), zero-time)
-      | Success ↦ λ r t' q x. after R (mem-pair (rest r e) (u ∷ us) q d.1 (rest-time r e x.2))
-          λ s' r' vs q' y. stay R (join (fresh-shape t' ∙ x.0) y.0, both (fresh-lively t') y.1, y.2)
-      | Failure ↦ λ r t' q x. stay R (join x.0 (fresh-shapes (u ∷ us)), both (head x.1) (fresh-livelies (u ∷ us)), x.2)
+    mem_pair e (t ∷ u ∷ us) p d ev = then R (visit_fresh t e p d.0 ev) λ s. elim s [
+      | Running ↦ λ r t' q x. stay R (join x.0 (fresh_shapes (u ∷ us)), both (head x.1) (fresh_livelies (u ∷ us)), zero_time_lem)
+      | Success ↦ λ r t' q x. after R (mem_pair (rest r e) (u ∷ us) q d.1 (rest_time r e x.2))
+          λ s' r' vs q' y. stay R (join (fresh_shape t' ∙ x.0) y.0, both (fresh_lively t') y.1, y.2)
+      | Failure ↦ λ r t' q x. stay R (join x.0 (fresh_shapes (u ∷ us)), both (head x.1) (fresh_livelies (u ∷ us)), x.2)
     ]
 
     -- ---- WhenAll
     -- a child that was ticked is live, and has no mark
     unmarked : {X : Type 0} (t' : Tree) → Known R (Lively t' × X) → Known R (choose (marked t') (Ended t') (Lively t'))
-    unmarked t' v = from R v (λ h. rw (live-unmarked R.terms.time t' h.0) h.0)
+    unmarked t' v = from R v (λ h. rw (live_unmarked R.terms.time t' h.0) h.0)
 
     all_from : (e : Event) (all : Bool) (least : Float) (ts : Forest) (p : R.Worlds) → Each D (shapes ts) → Known R (Marked ts) → Time R (dt e) → Time R least
-        → Both R (sizesOf (shapes ts)) p (KeptMarks ts) (λ w. whenAllFrom child e all least ts w) (λ w. whenAllFrom child' e all least ts w)
-    unfolding whenAllFrom
+        → Both R (sizes_of (shapes ts)) p (KeptMarks ts) (λ w. when_all_from child e all least ts w) (λ w. when_all_from child' e all least ts w)
+    unfolding when_all_from
     all_from e true least [] p d v ev el = stay R (refl, v, el)
-    all_from e false least [] p d v ev el = stay R (refl, v, zero-time)
+    all_from e false least [] p d v ev el = stay R (refl, v, zero_time_lem)
     all_from e all least (t ∷ ts) p d v ev el = either R (marked t)
         (λ m. skip t ts (after R (all_from e all least ts p d.1 (tail v) ev el) λ s r us q y. stay R (join refl y.0, both (head v) y.1, y.2)))
         (λ m. then R (visit t e p d.0 (from R v (λ h. rw m at h.0)) ev) λ s. elim s [
           | Running ↦ λ r t' q x. after R (all_from e false least ts q d.1 (tail v) ev el)
               λ s' r' us q' y. stay R (join x.0 y.0, both (unmarked t' x.1) y.1, y.2)
           | Success ↦ λ r t' q x. after R (all_from e all (smaller least r) ts q d.1 (tail v) ev (R.terms.least least r el x.2))
-              λ s' r' us q' y. stay R (join (mark-shape (fresh t') ∙ fresh-shape t' ∙ x.0) y.0, both (know (rw (mark-marked (fresh t')) (fresh-ended t'))) y.1, y.2)
+              λ s' r' us q' y. stay R (join (mark_shape (fresh t') ∙ fresh_shape t' ∙ x.0) y.0, both (know (rw (mark_marked (fresh t')) (fresh_ended t'))) y.1, y.2)
           | Failure ↦ λ r t' q x. stay R (join x.0 refl, both (unmarked t' x.1) (tail v), x.2)
         ])
 
-    pub all-pair : (e : Event) (ts : Forest) (p : R.Worlds) → Each D (shapes ts) → Known R (Marked ts) → Time R (dt e)
-        → Both R (sizesOf (shapes ts)) p (KeptMarks ts) (λ w. whenAll child (largest F) e ts w) (λ w. whenAll child' (largest F) e ts w)
-    unfolding whenAll
-    all-pair e [] p d v ev = stay R (refl, v, ev)
-    all-pair e (t ∷ ts) p d v ev = all_from e true (largest F) (t ∷ ts) p d v ev R.terms.most
+    pub all_pair : (e : Event) (ts : Forest) (p : R.Worlds) → Each D (shapes ts) → Known R (Marked ts) → Time R (dt e)
+        → Both R (sizes_of (shapes ts)) p (KeptMarks ts) (λ w. when_all child (largest F) e ts w) (λ w. when_all child' (largest F) e ts w)
+    unfolding when_all
+    all_pair e [] p d v ev = stay R (refl, v, ev)
+    all_pair e (t ∷ ts) p d v ev = all_from e true (largest F) (t ∷ ts) p d v ev R.terms.most
 
     -- ---- After
-    after-from : (e : Event) (nx : Bool) (least : Float) (ts : Forest) (p : R.Worlds) → Each D (shapes ts) → Known R (Livelies ts) → Time R (dt e) → Time R least
-        → Both R (sizesOf (shapes ts)) p (KeptAt (count ts) ts) (λ w. afterFrom child e nx least ts w) (λ w. afterFrom child' e nx least ts w)
-    unfolding afterFrom
-    after-from e true least [] p d v ev el = stay R (refl, both (know (omega arith)) v, el)
-    after-from e false least [] p d v ev el = stay R (refl, both (know (omega arith)) v, zero-time)
-    after-from e nx least (t ∷ ts) p d v ev el = then R (visit t e p d.0 (head v) ev) λ s. elim s [
-      | Running ↦ λ r t' q x. after R (after-from e false zeroTime ts q d.1 (tail v) ev zero-time)
+    after_from_lem : (e : Event) (nx : Bool) (least : Float) (ts : Forest) (p : R.Worlds) → Each D (shapes ts) → Known R (Livelies ts) → Time R (dt e) → Time R least
+        → Both R (sizes_of (shapes ts)) p (KeptAt (count ts) ts) (λ w. after_from child e nx least ts w) (λ w. after_from child' e nx least ts w)
+    unfolding after_from
+    after_from_lem e true least [] p d v ev el = stay R (refl, both (know (omega arith)) v, el)
+    after_from_lem e false least [] p d v ev el = stay R (refl, both (know (omega arith)) v, zero_time_lem)
+    after_from_lem e nx least (t ∷ ts) p d v ev el = then R (visit t e p d.0 (head v) ev) λ s. elim s [
+      | Running ↦ λ r t' q x. after R (after_from_lem e false zero_time ts q d.1 (tail v) ev zero_time_lem)
           λ s' r' z q' y. stay R (join x.0 y.0, both (know (omega arith)) (both (head x.1) (tail y.1)), y.2)
       | Failure ↦ λ r t' q x. stay R (join x.0 refl, both (know (omega arith)) (both (head x.1) (tail v)), x.2)
       | Success ↦ λ r t' q x. either R (nx && lt r least)
-          (λ m. after R (after-from e true r ts q d.1 (tail v) ev x.2)
-          λ s' r' z q' y. stay R (join x.0 y.0, from-both R x.1 y.1 (λ a b. (omega arith, (a.0, b.1))), y.2))
+          (λ m. after R (after_from_lem e true r ts q d.1 (tail v) ev x.2)
+          λ s' r' z q' y. stay R (join x.0 y.0, from_both R x.1 y.1 (λ a b. (omega arith, (a.0, b.1))), y.2))
           (λ m. stay R (join x.0 refl, both (know (omega arith)) (both (head x.1) (tail v)), R.terms.least least r el x.2))
     ]
 
-    pub after-pair : (e : Event) (ts : Forest) (n : ℕ) (p : R.Worlds) → Each D (shapes ts) → Known R ((n ≤ count ts) × Livelies ts) → Time R (dt e)
-        → Both R (sizesOf (shapes ts)) p (KeptAt (count ts) ts) (λ w. after_at child (largest F) n e ts w) (λ w. after_at child' (largest F) n e ts w)
+    pub after_pair : (e : Event) (ts : Forest) (n : ℕ) (p : R.Worlds) → Each D (shapes ts) → Known R ((n ≤ count ts) × Livelies ts) → Time R (dt e)
+        → Both R (sizes_of (shapes ts)) p (KeptAt (count ts) ts) (λ w. after_at child (largest F) n e ts w) (λ w. after_at child' (largest F) n e ts w)
     unfolding after_at
-    after-pair e ts zero p d v ev = after-from e true (largest F) ts p d (tail v) ev R.terms.most
-    after-pair e [] (suc n) p d v ev = stay R (refl, v, zero-time)
-    after-pair e (t ∷ ts) (suc n) p d v ev = skip t ts (after R (after-pair e ts n p d.1 (from R v (λ h. (le_of_suc-le-suc h.0, h.1.1))) ev)
-        λ s r z q y. stay R (join refl y.0, from-both R (head (tail v)) y.1 (λ a b. (omega arith, (a, b.1))), y.2))
+    after_pair e ts zero p d v ev = after_from_lem e true (largest F) ts p d (tail v) ev R.terms.most
+    after_pair e [] (suc n) p d v ev = stay R (refl, v, zero_time_lem)
+    after_pair e (t ∷ ts) (suc n) p d v ev = skip t ts (after R (after_pair e ts n p d.1 (from R v (λ h. (le_of_suc-le-suc h.0, h.1.1))) ev)
+        λ s r z q y. stay R (join refl y.0, from_both R (head (tail v)) y.1 (λ a b. (omega arith, (a, b.1))), y.2))

@@ -2,9 +2,9 @@
 use Rattle.std.specs.Prelude.{◌≡◌, refl, ℕ, zero, suc, ◌+◌, max, Float, true, false}
 use Rattle.std.proofs.Common.{sym, ap, ◌∙◌}
 use Rattle.rules.specs.declared.behavior.Kind.{Kind}
-use Rattle.rules.specs.Tree.{Tree, node, Forest, fresh, freshAll, size, sizes, depth, depths, mark, count, marked}
+use Rattle.rules.specs.Tree.{Tree, node, Forest, fresh, fresh_all, size, sizes, depth, depths, mark, count, marked}
 use Rattle.rules.specs.Tree
-use Rattle.rules.specs.Loops.{put, freshAt}
+use Rattle.rules.specs.Loops.{put, fresh_at}
 
 infixr 50 ◌∷◌
 mutual
@@ -26,40 +26,40 @@ abbrev mutual
 mutual
   unfolding fresh
 
-  pub fresh-shape : (t : Tree) → shape (fresh t) ≡ shape t
-  fresh-shape (node k n l c b ts) = ap (λ (z : Shapes). shp k n l z) (fresh-shapes ts)
+  pub fresh_shape : (t : Tree) → shape (fresh t) ≡ shape t
+  fresh_shape (node k n l c b ts) = ap (λ (z : Shapes). shp k n l z) (fresh_shapes ts)
 
-  pub fresh-shapes : (ts : Forest) → shapes (freshAll ts) ≡ shapes ts
-  fresh-shapes Tree.[] = refl
-  fresh-shapes (Tree.◌∷◌ t ts) = λ i. fresh-shape t i ∷ fresh-shapes ts i
+  pub fresh_shapes : (ts : Forest) → shapes (fresh_all ts) ≡ shapes ts
+  fresh_shapes Tree.[] = refl
+  fresh_shapes (Tree.◌∷◌ t ts) = λ i. fresh_shape t i ∷ fresh_shapes ts i
 
-pub mark-shape : (t : Tree) → shape (mark t) ≡ shape t
-mark-shape (node k n l c b ts) = refl
+pub mark_shape : (t : Tree) → shape (mark t) ≡ shape t
+mark_shape (node k n l c b ts) = refl
 
 -- the marks of a tree made fresh, and of one that has ended
 pub fresh_unmarked : (t : Tree) → marked (fresh t) ≡ false
 unfolding fresh
 fresh_unmarked (node k n l c b ts) = refl
 
-pub mark-marked : (t : Tree) → marked (mark t) ≡ true
-mark-marked (node k n l c b ts) = refl
+pub mark_marked : (t : Tree) → marked (mark t) ≡ true
+mark_marked (node k n l c b ts) = refl
 
 -- ---- how many nodes, how many children, how deep
 abbrev mutual
   pub size_of : Shape → ℕ
-  size_of (shp k n l ss) = suc (sizesOf ss)
+  size_of (shp k n l ss) = suc (sizes_of ss)
 
-  pub sizesOf : Shapes → ℕ
-  sizesOf [] = 0
-  sizesOf (s ∷ ss) = size_of s + sizesOf ss
+  pub sizes_of : Shapes → ℕ
+  sizes_of [] = 0
+  sizes_of (s ∷ ss) = size_of s + sizes_of ss
 
 abbrev mutual
   pub depth_of : Shape → ℕ
-  depth_of (shp k n l ss) = suc (depthsOf ss)
+  depth_of (shp k n l ss) = suc (depths_of ss)
 
-  pub depthsOf : Shapes → ℕ
-  depthsOf [] = 0
-  depthsOf (s ∷ ss) = max (depth_of s) (depthsOf ss)
+  pub depths_of : Shapes → ℕ
+  depths_of [] = 0
+  depths_of (s ∷ ss) = max (depth_of s) (depths_of ss)
 
 abbrev pub count_of : Shapes → ℕ
 count_of [] = 0
@@ -68,41 +68,41 @@ count_of (s ∷ ss) = suc (count_of ss)
 mutual
   unfolding size
 
-  pub size-of : (t : Tree) → size t ≡ size_of (shape t)
-  size-of (node k n l c b ts) = ap (λ (z : ℕ). suc z) (sizes-of ts)
+  pub size_of_lem : (t : Tree) → size t ≡ size_of (shape t)
+  size_of_lem (node k n l c b ts) = ap (λ (z : ℕ). suc z) (sizes_of_lem ts)
 
-  sizes-of : (ts : Forest) → sizes ts ≡ sizesOf (shapes ts)
-  sizes-of Tree.[] = refl
-  sizes-of (Tree.◌∷◌ t ts) = λ i. size-of t i + sizes-of ts i
+  sizes_of_lem : (ts : Forest) → sizes ts ≡ sizes_of (shapes ts)
+  sizes_of_lem Tree.[] = refl
+  sizes_of_lem (Tree.◌∷◌ t ts) = λ i. size_of_lem t i + sizes_of_lem ts i
 
 mutual
   unfolding depth
 
-  pub depth-of : (t : Tree) → depth t ≡ depth_of (shape t)
-  depth-of (node k n l c b ts) = ap (λ (z : ℕ). suc z) (depths-of ts)
+  pub depth_of_lem : (t : Tree) → depth t ≡ depth_of (shape t)
+  depth_of_lem (node k n l c b ts) = ap (λ (z : ℕ). suc z) (depths_of_lem ts)
 
-  depths-of : (ts : Forest) → depths ts ≡ depthsOf (shapes ts)
-  depths-of Tree.[] = refl
-  depths-of (Tree.◌∷◌ t ts) = λ i. max (depth-of t i) (depths-of ts i)
+  depths_of_lem : (ts : Forest) → depths ts ≡ depths_of (shapes ts)
+  depths_of_lem Tree.[] = refl
+  depths_of_lem (Tree.◌∷◌ t ts) = λ i. max (depth_of_lem t i) (depths_of_lem ts i)
 
-pub count-of : (ts : Forest) → count ts ≡ count_of (shapes ts)
-count-of Tree.[] = refl
-count-of (Tree.◌∷◌ t ts) = ap (λ (z : ℕ). suc z) (count-of ts)
+pub count_of_lem : (ts : Forest) → count ts ≡ count_of (shapes ts)
+count_of_lem Tree.[] = refl
+count_of_lem (Tree.◌∷◌ t ts) = ap (λ (z : ℕ). suc z) (count_of_lem ts)
 
-pub size-shape : (t u : Tree) → shape t ≡ shape u → size t ≡ size u
-size-shape t u e = size-of t ∙ ap size_of e ∙ sym (size-of u)
+pub size_shape : (t u : Tree) → shape t ≡ shape u → size t ≡ size u
+size_shape t u e = size_of_lem t ∙ ap size_of e ∙ sym (size_of_lem u)
 
-pub depth-shape : (t u : Tree) → shape t ≡ shape u → depth t ≡ depth u
-depth-shape t u e = depth-of t ∙ ap depth_of e ∙ sym (depth-of u)
+pub depth_shape : (t u : Tree) → shape t ≡ shape u → depth t ≡ depth u
+depth_shape t u e = depth_of_lem t ∙ ap depth_of e ∙ sym (depth_of_lem u)
 
-pub count-shape : (ts us : Forest) → shapes ts ≡ shapes us → count ts ≡ count us
-count-shape ts us e = count-of ts ∙ ap count_of e ∙ sym (count-of us)
+pub count_shape : (ts us : Forest) → shapes ts ≡ shapes us → count ts ≡ count us
+count_shape ts us e = count_of_lem ts ∙ ap count_of e ∙ sym (count_of_lem us)
 
 -- ---- one child made fresh, and a loop's body after a success
-pub fresh-at-shapes : (ts : Forest) (p : ℕ) → shapes (freshAt p ts) ≡ shapes ts
-fresh-at-shapes Tree.[] p = refl
-fresh-at-shapes (Tree.◌∷◌ t ts) zero = λ i. fresh-shape t i ∷ shapes ts
-fresh-at-shapes (Tree.◌∷◌ t ts) (suc p) = λ i. shape t ∷ fresh-at-shapes ts p i
+pub fresh_at_shapes : (ts : Forest) (p : ℕ) → shapes (fresh_at p ts) ≡ shapes ts
+fresh_at_shapes Tree.[] p = refl
+fresh_at_shapes (Tree.◌∷◌ t ts) zero = λ i. fresh_shape t i ∷ shapes ts
+fresh_at_shapes (Tree.◌∷◌ t ts) (suc p) = λ i. shape t ∷ fresh_at_shapes ts p i
 
-pub moved-shapes : (ts : Forest) (p q : ℕ) (t : Tree) → shapes (put p t ts) ≡ shapes ts → shapes (freshAt q (freshAt p (put p t ts))) ≡ shapes ts
-moved-shapes ts p q t e = fresh-at-shapes (freshAt p (put p t ts)) q ∙ fresh-at-shapes (put p t ts) p ∙ e
+pub moved_shapes : (ts : Forest) (p q : ℕ) (t : Tree) → shapes (put p t ts) ≡ shapes ts → shapes (fresh_at q (fresh_at p (put p t ts))) ≡ shapes ts
+moved_shapes ts p q t e = fresh_at_shapes (fresh_at p (put p t ts)) q ∙ fresh_at_shapes (put p t ts) p ∙ e

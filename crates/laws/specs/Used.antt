@@ -8,9 +8,9 @@ use Rattle.rules.specs.declared.event.Event.{Event}
 use Rattle.rules.specs.Tree.{Tree}
 use Rattle.rules.specs.Outcome.{world, Out, done, asks, short}
 use Rattle.rules.specs.State.{tick}
-use Rattle.laws.specs.Alone.{Answers, AfterTick, tick-keeps}
+use Rattle.laws.specs.Alone.{Answers, AfterTick, tick_keeps}
 use Rattle.laws.specs.PairDrivers.{Same}
-use Rattle.laws.specs.Asking.{Answered, Took, answer-taken}
+use Rattle.laws.specs.Asking.{Answered, Took, answer_taken}
 
 longer : (a : Status × Float) (more l : Answers) → more ≡ l ++ List.◌∷◌ a more → ⊥
 longer a more l e = clash (length more) (length l) (ap length e ∙ length-append l (List.◌∷◌ a more))
@@ -21,7 +21,7 @@ longer a more l e = clash (length more) (length l) (ap length e ∙ length-appen
 module _ (F : Format) (d : ℕ) (t : Tree) (e : Event) (f : ℕ) (s : Status) (r : Float) (t' : Tree) (f' : ℕ) where
   without : (used left : Answers) → tick F d t e (world f (used ++ left)) ≡ done s r t' (world f' left) → tick F d t e (world f used) ≡ done s r t' (world f' List.[])
   without used List.[] q = rw (append-nil used) at q
-  without used (List.◌∷◌ a more) q = go (tick F d t e (world f used)) (answer-taken a more F d t e f used)
+  without used (List.◌∷◌ a more) q = go (tick F d t e (world f used)) (answer_taken a more F d t e f used)
     where
       go : (o : Out Tree) → Answered a more F o (tick F d t e (world f (used ++ List.◌∷◌ a more))) → o ≡ done s r t' (world f' List.[])
       go (done s'' r'' t'' (world f'' List.[])) v = let z = sym v ∙ q in cc
@@ -29,9 +29,9 @@ module _ (F : Format) (d : ℕ) (t : Tree) (e : Event) (f : ℕ) (s : Status) (r
       go (asks n x) v = let z : Took a more F (done s r t' (world f' (List.◌∷◌ a more))) = subst (Took a more F) q v in absurd (longer a more z.0 z.1)
       go short v = cc
 
-  pub used-alone : (ans left : Answers) → tick F d t e (world f ans) ≡ done s r t' (world f' left) → tick F d t e (world f (take (length ans - length left) ans)) ≡ done s r t' (world f' List.[])
-  used-alone ans left q =
-      let k : AfterTick (world f ans) (Same t) (done s r t' (world f' left)) = subst (AfterTick (world f ans) (Same t)) q (tick-keeps F d t e (world f ans)) in
+  pub used_alone : (ans left : Answers) → tick F d t e (world f ans) ≡ done s r t' (world f' left) → tick F d t e (world f (take (length ans - length left) ans)) ≡ done s r t' (world f' List.[])
+  used_alone ans left q =
+      let k : AfterTick (world f ans) (Same t) (done s r t' (world f' left)) = subst (AfterTick (world f ans) (Same t)) q (tick_keeps F d t e (world f ans)) in
       let used : Answers = k.0.1.0 in
       let split : ans ≡ used ++ left = k.0.1.1 in
       rw (split, count (length (used ++ left)) (length left) (length used) (length-append used left), take_at used left (length used) refl) (without used left (rw (← split) q))

@@ -11,11 +11,11 @@ use Rattle.rules.specs.declared.answer.Answer.TheVariants.{Ticked, Asked, Finish
 use Rattle.rules.specs.Tree.{Tree, fresh, size}
 use Rattle.rules.specs.Outcome.{Out}
 use Rattle.rules.specs.Table.{Table, good, bad, table}
-use Rattle.rules.specs.Cells.{Found, faulty, none, badCell}
-use Rattle.rules.specs.Call.{Given, Left, badAnswer, timeAllowed, refused, walked, tooShort, onTable, onInputs, walkFrom, tickCall, restartCall}
-use Rattle.laws.specs.Shape.{shape, fresh-shape}
-use Rattle.laws.specs.Memory.{held, held-shape}
-use Rattle.laws.specs.Tables.{fresh-fine}
+use Rattle.rules.specs.Cells.{Found, faulty, none, bad_cell}
+use Rattle.rules.specs.Call.{Given, Left, bad_answer, time_allowed, refused, walked, too_short, on_table, on_inputs, walk_from, tick_call, restart_call}
+use Rattle.laws.specs.Shape.{shape, fresh_shape}
+use Rattle.laws.specs.Memory.{held, held_shape}
+use Rattle.laws.specs.Tables.{fresh_fine}
 
 -- a tick or, with a tree that starts fresh, a restart; and all that it is given
 pub record Call : Type 0 where
@@ -28,39 +28,39 @@ ticks g = record { given' = g; fresh = false }
 abbrev pub restarts : Given → Call
 restarts g = record { given' = g; fresh = true }
 
-abbrev pub leftBy : Format → Call → Left
-leftBy F a = cond a.fresh (restartCall F a.given') (tickCall F a.given')
+abbrev pub left_by : Format → Call → Left
+left_by F a = cond a.fresh (restart_call F a.given') (tick_call F a.given')
 
 -- the tree that the cells at entry hold
-abbrev pub heldBy : Tree → Given → Tree
-heldBy t g = held t g.cells'
+abbrev pub held_by : Tree → Given → Tree
+held_by t g = held t g.cells'
 
 -- the tree that the walk starts from, and the walk
 abbrev pub start_of : Tree → Call → Tree
-start_of t a = cond a.fresh (fresh t) (heldBy t a.given')
+start_of t a = cond a.fresh (fresh t) (held_by t a.given')
 
 abbrev pub walk : Format → Tree → Call → Out Tree
-walk F t a = walkFrom F a.given' (start_of t a)
+walk F t a = walk_from F a.given' (start_of t a)
 
-abbrev pub walkedBy : Format → Tree → Call → Left
-walkedBy F t a = walked a.given' (heldBy t a.given') (walk F t a)
+abbrev pub walked_by : Format → Tree → Call → Left
+walked_by F t a = walked a.given' (held_by t a.given') (walk F t a)
 
-pub start-shape : (t : Tree) (a : Call) → shape (start_of t a) ≡ shape t
-start-shape t a = on a.fresh
+pub start_shape : (t : Tree) (a : Call) → shape (start_of t a) ≡ shape t
+start_shape t a = on a.fresh
   where
-    on : (b : Bool) → shape (cond b (fresh t) (heldBy t a.given')) ≡ shape t
-    on true = fresh-shape t
-    on false = held-shape t a.given'.cells'
+    on : (b : Bool) → shape (cond b (fresh t) (held_by t a.given')) ≡ shape t
+    on true = fresh_shape t
+    on false = held_shape t a.given'.cells'
 
 -- a call that came to its walk: the table is good, the memory long enough, every cell that the walk starts from allowed, the time and the answers
 -- too, and the tree of a tick has not finished
 pub record Walked (a : Call) (t : Tree) : Type 0 where
-  pub table-good : table a.given'.kinds a.given'.ns a.given'.limits ≡ good t
-  pub long-enough : tooShort a.given' (size t) ≡ false
-  pub cells-good : (at : ℕ) × (badCell false false 0 (start_of t a) ≡ none at)
-  pub time-good : timeAllowed a.given'.event ≡ true
-  pub answers-good : (i : ℕ) × (badAnswer 0 a.given'.statuses a.given'.leftovers ≡ none i)
-  pub not-finished : a.fresh ≡ false → a.given'.record'.finished ≡ false
+  pub table_good : table a.given'.kinds a.given'.ns a.given'.limits ≡ good t
+  pub long_enough : too_short a.given' (size t) ≡ false
+  pub cells_good : (at : ℕ) × (bad_cell false false 0 (start_of t a) ≡ none at)
+  pub time_good : time_allowed a.given'.event ≡ true
+  pub answers_good : (i : ℕ) × (bad_answer 0 a.given'.statuses a.given'.leftovers ≡ none i)
+  pub not_finished : a.fresh ≡ false → a.given'.record'.finished ≡ false
 
 abbrev pub NotWalked : Answer → Type 0
 NotWalked (Ticked s r v u) = ⊥
@@ -80,28 +80,28 @@ Why a (Ticked s r v u) = ⊥
 Why a (Asked n x) = ⊥
 Why a OutOfFuel = ⊥
 Why a (BadTable p) = table a.given'.kinds a.given'.ns a.given'.limits ≡ bad p
-Why a TooShort = (t : Tree) × (table a.given'.kinds a.given'.ns a.given'.limits ≡ good t) × (tooShort a.given' (size t) ≡ true)
-Why a (BadCell p) = (t : Tree) × (table a.given'.kinds a.given'.ns a.given'.limits ≡ good t) × (tooShort a.given' (size t) ≡ false)
-    × (badCell false false 0 (heldBy t a.given') ≡ faulty p) × (a.fresh ≡ false)
-Why a BadTime = timeAllowed a.given'.event ≡ false
-Why a (BadAnswer i) = badAnswer 0 a.given'.statuses a.given'.leftovers ≡ faulty i
+Why a TooShort = (t : Tree) × (table a.given'.kinds a.given'.ns a.given'.limits ≡ good t) × (too_short a.given' (size t) ≡ true)
+Why a (BadCell p) = (t : Tree) × (table a.given'.kinds a.given'.ns a.given'.limits ≡ good t) × (too_short a.given' (size t) ≡ false)
+    × (bad_cell false false 0 (held_by t a.given') ≡ faulty p) × (a.fresh ≡ false)
+Why a BadTime = time_allowed a.given'.event ≡ false
+Why a (BadAnswer i) = bad_answer 0 a.given'.statuses a.given'.leftovers ≡ faulty i
 Why a Finished = (a.given'.record'.finished ≡ true) × (a.fresh ≡ false)
 Why a NoRoom = ⊥
 
-pub not-walked : (a : Call) (b : Answer) → Why a b → NotWalked b
-not-walked a (Ticked s r v u) h = h
-not-walked a (Asked n x) h = h
-not-walked a OutOfFuel h = h
-not-walked a (BadTable p) h = tt
-not-walked a TooShort h = tt
-not-walked a (BadCell p) h = tt
-not-walked a NoRoom h = tt
-not-walked a BadTime h = tt
-not-walked a (BadAnswer i) h = tt
-not-walked a Finished h = tt
+pub not_walked : (a : Call) (b : Answer) → Why a b → NotWalked b
+not_walked a (Ticked s r v u) h = h
+not_walked a (Asked n x) h = h
+not_walked a OutOfFuel h = h
+not_walked a (BadTable p) h = tt
+not_walked a TooShort h = tt
+not_walked a (BadCell p) h = tt
+not_walked a NoRoom h = tt
+not_walked a BadTime h = tt
+not_walked a (BadAnswer i) h = tt
+not_walked a Finished h = tt
 
 pub data View (F : Format) (a : Call) : Left → Type 0 where
-  walking : (t : Tree) → Walked a t → View F a (walkedBy F t a)
+  walking : (t : Tree) → Walked a t → View F a (walked_by F t a)
   refusing : (b : Answer) → Why a b → View F a (refused a.given' b)
 
 module _ (F : Format) where
@@ -110,58 +110,58 @@ module _ (F : Format) where
     abbrev g : Given
     g = a.given'
 
-    on-inputs : (due : Left) → (timeAllowed g.event ≡ true → (i : ℕ) → badAnswer 0 g.statuses g.leftovers ≡ none i → View F a due) → View F a (onInputs g due)
-    on-inputs due f = by-time (timeAllowed g.event) refl
+    on_inputs_lem : (due : Left) → (time_allowed g.event ≡ true → (i : ℕ) → bad_answer 0 g.statuses g.leftovers ≡ none i → View F a due) → View F a (on_inputs g due)
+    on_inputs_lem due f = by_time (time_allowed g.event) refl
       where
-        by-answers : timeAllowed g.event ≡ true → (o : Found) → badAnswer 0 g.statuses g.leftovers ≡ o
+        by_answers : time_allowed g.event ≡ true → (o : Found) → bad_answer 0 g.statuses g.leftovers ≡ o
             → View F a (elim o [ faulty i ↦ refused g (BadAnswer i) | none _ ↦ due ])
-        by-answers time (faulty i) e = refusing (BadAnswer i) e
-        by-answers time (none i) e = f time i e
+        by_answers time (faulty i) e = refusing (BadAnswer i) e
+        by_answers time (none i) e = f time i e
 
-        by-time : (b : Bool) → timeAllowed g.event ≡ b
-            → View F a (cond b (elim (badAnswer 0 g.statuses g.leftovers) [ faulty i ↦ refused g (BadAnswer i) | none _ ↦ due ]) (refused g BadTime))
-        by-time true e = by-answers e (badAnswer 0 g.statuses g.leftovers) refl
-        by-time false e = refusing BadTime e
+        by_time : (b : Bool) → time_allowed g.event ≡ b
+            → View F a (cond b (elim (bad_answer 0 g.statuses g.leftovers) [ faulty i ↦ refused g (BadAnswer i) | none _ ↦ due ]) (refused g BadTime))
+        by_time true e = by_answers e (bad_answer 0 g.statuses g.leftovers) refl
+        by_time false e = refusing BadTime e
 
-    on-table : (due : Tree → Left) → ((t : Tree) → table g.kinds g.ns g.limits ≡ good t → tooShort g (size t) ≡ false → View F a (due t)) → View F a (onTable g due)
-    on-table due f = by-table (table g.kinds g.ns g.limits) refl
+    on_table_lem : (due : Tree → Left) → ((t : Tree) → table g.kinds g.ns g.limits ≡ good t → too_short g (size t) ≡ false → View F a (due t)) → View F a (on_table g due)
+    on_table_lem due f = by_table (table g.kinds g.ns g.limits) refl
       where
-        by_length : (t : Tree) → table g.kinds g.ns g.limits ≡ good t → (b : Bool) → tooShort g (size t) ≡ b → View F a (cond b (refused g TooShort) (due t))
+        by_length : (t : Tree) → table g.kinds g.ns g.limits ≡ good t → (b : Bool) → too_short g (size t) ≡ b → View F a (cond b (refused g TooShort) (due t))
         by_length t e true s = refusing TooShort (t, e, s)
         by_length t e false s = f t e s
 
-        by-table : (o : Table) → table g.kinds g.ns g.limits ≡ o
-            → View F a (elim o [ bad p ↦ refused g (BadTable p) | good t ↦ cond (tooShort g (size t)) (refused g TooShort) (due t) ])
-        by-table (good t) e = by_length t e (tooShort g (size t)) refl
-        by-table (bad p) e = refusing (BadTable p) e
+        by_table : (o : Table) → table g.kinds g.ns g.limits ≡ o
+            → View F a (elim o [ bad p ↦ refused g (BadTable p) | good t ↦ cond (too_short g (size t)) (refused g TooShort) (due t) ])
+        by_table (good t) e = by_length t e (too_short g (size t)) refl
+        by_table (bad p) e = refusing (BadTable p) e
 
   -- ---- each call
-  by-finished : (g : Given) (t : Tree) → (g.record'.finished ≡ false → Walked (ticks g) t) → (b : Bool) → g.record'.finished ≡ b
-      → View F (ticks g) (cond b (refused g Finished) (walkedBy F t (ticks g)))
-  by-finished g t w true e = refusing Finished (e, refl)
-  by-finished g t w false e = walking t (w e)
+  by_finished : (g : Given) (t : Tree) → (g.record'.finished ≡ false → Walked (ticks g) t) → (b : Bool) → g.record'.finished ≡ b
+      → View F (ticks g) (cond b (refused g Finished) (walked_by F t (ticks g)))
+  by_finished g t w true e = refusing Finished (e, refl)
+  by_finished g t w false e = walking t (w e)
 
-  by-cells : (g : Given) (t : Tree) → table g.kinds g.ns g.limits ≡ good t → tooShort g (size t) ≡ false → (f : Found) → badCell false false 0 (heldBy t g) ≡ f
+  by_cells : (g : Given) (t : Tree) → table g.kinds g.ns g.limits ≡ good t → too_short g (size t) ≡ false → (f : Found) → bad_cell false false 0 (held_by t g) ≡ f
       → View F (ticks g) (elim f [
         | faulty p ↦ refused g (BadCell p)
-        | none _ ↦ onInputs g (cond g.record'.finished (refused g Finished) (walkedBy F t (ticks g)))
+        | none _ ↦ on_inputs g (cond g.record'.finished (refused g Finished) (walked_by F t (ticks g)))
       ])
-  by-cells g t e s (faulty p) c = refusing (BadCell p) (t, e, s, c, refl)
-  by-cells g t e s (none at) c = on-inputs (ticks g) _ λ time i ans.
-      by-finished g t (λ unfinished. record { table-good = e; long-enough = s; cells-good = (at, c); time-good = time; answers-good = (i, ans); not-finished = λ e. unfinished })
+  by_cells g t e s (faulty p) c = refusing (BadCell p) (t, e, s, c, refl)
+  by_cells g t e s (none at) c = on_inputs_lem (ticks g) _ λ time i ans.
+      by_finished g t (λ unfinished. record { table_good = e; long_enough = s; cells_good = (at, c); time_good = time; answers_good = (i, ans); not_finished = λ e. unfinished })
       g.record'.finished refl
 
-  pub view : (a : Call) → View F a (leftBy F a)
-  unfolding tickCall restartCall
+  pub view : (a : Call) → View F a (left_by F a)
+  unfolding tick_call restart_call
   view a = on a.given' a.fresh
     where
-      on : (g : Given) (fresh : Bool) → View F (record { given' = g; fresh = fresh }) (leftBy F (record { given' = g; fresh = fresh }))
-      on g false = on-table (ticks g) _ λ t e s. by-cells g t e s (badCell false false 0 (heldBy t g)) refl
-      on g true = on-table (restarts g) _ λ t e s. on-inputs (restarts g) _ λ time i ans. walking t (record {
-        table-good = e;
-        long-enough = s;
-        cells-good = fresh-fine t false 0;
-        time-good = time;
-        answers-good = (i, ans);
-        not-finished = λ q. absurd (subst T q tt);
+      on : (g : Given) (fresh : Bool) → View F (record { given' = g; fresh = fresh }) (left_by F (record { given' = g; fresh = fresh }))
+      on g false = on_table_lem (ticks g) _ λ t e s. by_cells g t e s (bad_cell false false 0 (held_by t g)) refl
+      on g true = on_table_lem (restarts g) _ λ t e s. on_inputs_lem (restarts g) _ λ time i ans. walking t (record {
+        table_good = e;
+        long_enough = s;
+        cells_good = fresh_fine t false 0;
+        time_good = time;
+        answers_good = (i, ans);
+        not_finished = λ q. absurd (subst T q tt);
       })

@@ -1,7 +1,7 @@
 -- Many visits at once: what they come to, one after the other.
 use Rattle.std.specs.Prelude.{◌≡◌, List, ℕ, ◌+◌, Float}
 use Rattle.std.specs.Float.{binary64}
-use Rattle.rules.specs.Tree.{zeroTime}
+use Rattle.rules.specs.Tree.{zero_time}
 use Rattle.work.specs.declared.result.Seen.TheVariants.{Running}
 use Rattle.work.specs.Word.{mark_of}
 use Rattle.work.specs.Array.{word_at, end_of}
@@ -14,6 +14,6 @@ pub data Waiting (limits : List Float) (dt : Float) : ℕ → ℕ → List ℕ �
   more : {q r : ℕ} {ws ws₁ ws₂ : List ℕ} {ts ts₁ ts₂ : List Float}
       → end_of ws q ≡ q + 1
       → mark_of (word_at ws q) ≡ 0
-      → ((a : List ℕ) (b : List Float) (tick : Visitor) → visit binary64 (lent limits a b) tick q dt ws ts ≡ out Running zeroTime ws₁ ts₁)
+      → ((a : List ℕ) (b : List Float) (tick : Visitor) → visit binary64 (lent limits a b) tick q dt ws ts ≡ out Running zero_time ws₁ ts₁)
       → Waiting limits dt (q + 1) r ws₁ ts₁ ws₂ ts₂
       → Waiting limits dt q r ws ts ws₂ ts₂

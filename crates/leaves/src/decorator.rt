@@ -1,7 +1,7 @@
 // Decorators: Invert, AlwaysSucceed and Timeout, each once its child has given a result.
 ghost use Rattle.std.specs.Prelude.{◌≡◌, List, ℕ, ◌<◌, Float};
 ghost use Rattle.std.specs.Float.{binary64};
-ghost use Rattle.work.specs.Flat.{out, lent, and_then, timesOut, decorated};
+ghost use Rattle.work.specs.Flat.{out, lent, and_then, times_out, decorated};
 
 use rules::Kind;
 use work::{Result, Seen, kind_of, number_at, passed, put_time, time_at, waiting};
@@ -9,7 +9,7 @@ use work::{Result, Seen, kind_of, number_at, passed, put_time, time_at, waiting}
 // The time goes on while the child is Running.
 fn timed(work: &[u32; 260], limits: &&[f64], times: &mut [f64], p: usize, dt: f64) -> Result
     requires { p < 256 }
-    ensures { (a : List ℕ) (b : List Float) → timesOut binary64 (lent limits.now.now a b) p dt work.now times.old
+    ensures { (a : List ℕ) (b : List Float) → times_out binary64 (lent limits.now.now a b) p dt work.now times.old
         ≡ out result.seen result.left work.now times.new }
 {
     let limit = number_at(limits, p);

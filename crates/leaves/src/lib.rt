@@ -4,7 +4,7 @@ mod waits;
 
 ghost use Rattle.std.specs.Prelude.{◌≡◌, List, ℕ, ◌<◌, Float};
 ghost use Rattle.std.specs.Float.{binary64};
-ghost use Rattle.work.specs.Flat.{out, lent, wait, action, leaf, visitLeaf};
+ghost use Rattle.work.specs.Flat.{out, lent, wait, action, leaf, visit_leaf};
 
 pub use decorator::decorated;
 use rules::{Kind, cleaned};
@@ -104,7 +104,7 @@ pub fn visit_leaf(
     dt: f64,
 ) -> Result
     requires { p < 256 }
-    ensures { visitLeaf binary64 (lent limits.now.now statuses.now.now leftovers.now.now) kind p dt work.old
+    ensures { visit_leaf binary64 (lent limits.now.now statuses.now.now leftovers.now.now) kind p dt work.old
         times.old ≡ out result.seen result.left work.new times.new }
 {
     let fuel = work[FUEL];

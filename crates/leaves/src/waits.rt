@@ -2,9 +2,9 @@
 ghost use Rattle.std.specs.Prelude.{◌≡◌, true, false, List, ℕ, ◌+◌, ◌≤◌, ◌<◌, Float, length};
 ghost use Rattle.std.specs.Float.{binary64};
 ghost use Rattle.std.specs.Float.Ieee.{add, lt};
-ghost use Rattle.rules.specs.Tree.{zeroTime};
+ghost use Rattle.rules.specs.Tree.{zero_time};
 ghost use Rattle.work.specs.declared.result.Seen.TheVariants.{Running};
-ghost use Rattle.work.specs.Array.{timeAt};
+ghost use Rattle.work.specs.Array.{time_at};
 ghost use Rattle.work.specs.Flat.{Visitor, out, lent, visit};
 ghost use Rattle.leaves.specs.Waiting.{Waiting};
 
@@ -14,7 +14,7 @@ use work::{FUEL, Seen, kind_of, put_time, time_at, updates, with_seen, words_of}
 // A limit as it is lent: where it is only compared, the sign of zero makes no difference.
 fn limit_at(limits: &&[f64], p: usize) -> f64
     requires { p < 4294967296 }
-    ensures { result ≡ timeAt limits.now.now p }
+    ensures { result ≡ time_at limits.now.now p }
 {
     if p < limits.len() { limits[p] } else { 0.0 }
 }
@@ -29,7 +29,7 @@ pub fn keeps_waiting(
 ) -> bool
     requires { p < 256 }
     ensures times_value { result ≡ true → (a : List ℕ) (b : List Float) (tick : Visitor) → visit binary64 (lent limits.now.now a b) tick p dt work.old
-        times.old ≡ out Running zeroTime work.new times.new }
+        times.old ≡ out Running zero_time work.new times.new }
     ensures work_unchanged { result ≡ false → (work.new ≡ work.old) × (times.new ≡ times.old) }
 {
     let w = work[p];
@@ -59,7 +59,7 @@ pub fn keeps_waiting(
 // Whether none of sixteen Waits reaches its limit.
 fn none_ends(limits: &&[f64], times: &[f64], at: usize, dt: f64) -> bool
     requires { (at + 16 ≤ length limits.now.now) × (at + 16 ≤ length times.now) }
-    ensures { result ≡ true → (j : ℕ) → j < 16 → lt (add binary64 (timeAt times.now (at + j)) dt) (timeAt limits.now.now (at + j)) ≡ true }
+    ensures { result ≡ true → (j : ℕ) → j < 16 → lt (add binary64 (time_at times.now (at + j)) dt) (time_at limits.now.now (at + j)) ≡ true }
 {
     let mut none = true;
     let mut i = 0;

@@ -60,28 +60,28 @@ abbrev pub RecordS : {n : ℕ} → Slot n
 RecordS = plain (λ _. R)
 
 -- what a call returned, and its two parts, as machine values
-abbrev pub machTold : Told → Val
-machTold r = LL.val D.the_type D'.the_laws r
+abbrev pub mach_told : Told → Val
+mach_told r = LL.val D.the_type D'.the_laws r
 
-abbrev pub machSaid : Said → Val
-machSaid s = LL.val S.the_type S'.the_laws s
+abbrev pub mach_said : Said → Val
+mach_said s = LL.val S.the_type S'.the_laws s
 
-pub owed_said : (r : Told) → Is D.the_row r (machTold r ∷ []) → Is S.the_row r.said (machSaid r.said ∷ [])
+pub owed_said : (r : Told) → Is D.the_row r (mach_told r ∷ []) → Is S.the_row r.said (mach_said r.said ∷ [])
 owed_said r is = (LL.owed D.the_type D'.the_laws r _ is).0
 
-pub owed-record : (r : Told) → Is D.the_row r (machTold r ∷ []) → Is R r.«record» (mach r.«record» ∷ [])
-owed-record r is = (LL.owed D.the_type D'.the_laws r _ is).1.0
+pub owed_record : (r : Told) → Is D.the_row r (mach_told r ∷ []) → Is R r.«record» (mach r.«record» ∷ [])
+owed_record r is = (LL.owed D.the_type D'.the_laws r _ is).1.0
 
 -- each is a value of its type
 module _ {M : Type 1} {𝓤 : Ura M} (𝓛 : Logic 𝓤) where
-  pub typed-record : (h : Record) → Is R h (mach h ∷ []) → Holds (has_ty T'.mir (mach h)) × WT (mach h)
-  typed-record h is = ((LL.lawful T.the_type T'.the_laws 𝓛).typed h _ is).0
+  pub typed_record : (h : Record) → Is R h (mach h ∷ []) → Holds (has_ty T'.mir (mach h)) × WT (mach h)
+  typed_record h is = ((LL.lawful T.the_type T'.the_laws 𝓛).typed h _ is).0
 
-  pub typed-said : (s : Said) → Is S.the_row s (machSaid s ∷ []) → Holds (has_ty S'.mir (machSaid s)) × WT (machSaid s)
-  typed-said s is = ((LL.lawful S.the_type S'.the_laws 𝓛).typed s _ is).0
+  pub typed_said : (s : Said) → Is S.the_row s (mach_said s ∷ []) → Holds (has_ty S'.mir (mach_said s)) × WT (mach_said s)
+  typed_said s is = ((LL.lawful S.the_type S'.the_laws 𝓛).typed s _ is).0
 
-  pub typed-told : (r : Told) → Is D.the_row r (machTold r ∷ []) → Holds (has_ty D'.mir (machTold r)) × WT (machTold r)
-  typed-told r is = ((LL.lawful D.the_type D'.the_laws 𝓛).typed r _ is).0
+  pub typed_told : (r : Told) → Is D.the_row r (mach_told r ∷ []) → Holds (has_ty D'.mir (mach_told r)) × WT (mach_told r)
+  typed_told r is = ((LL.lawful D.the_type D'.the_laws 𝓛).typed r _ is).0
 
 abbrev pub flag : Bool → Opd
 flag true = opd_true
@@ -113,20 +113,20 @@ module _ {n : ℕ} where
   rest [] = []
   rest (s ∷ ss) = ss
 
-  abbrev pub said-of : (ss : List (Slot n)) (ks : Kepts ss) → Stays ss ks
-  said-of [] ks = tt
-  said-of (s ∷ ss) ks =
-      (record { fit = λ κs x f. Unit {0}; has = λ κs x f vs. left ((s.row κs).exit ks.0) x f }, said-of ss ks.1)
+  abbrev pub said_of_lem : (ss : List (Slot n)) (ks : Kepts ss) → Stays ss ks
+  said_of_lem [] ks = tt
+  said_of_lem (s ∷ ss) ks =
+      (record { fit = λ κs x f. Unit {0}; has = λ κs x f vs. left ((s.row κs).exit ks.0) x f }, said_of_lem ss ks.1)
 
   pub said_fits :
       (κs : Lfts n) (ss : List (Slot n)) (ks : Kepts ss) (a : Denots (types_at ss κs)) (ws : Fins κs ss ks a) →
-      fits_of κs ss ks (said-of ss ks) a ws
+      fits_of κs ss ks (said_of_lem ss ks) a ws
   said_fits κs [] ks a ws = tt
   said_fits κs (s ∷ ss) ks a ws = (tt, said_fits κs ss ks.1 a.1 ws.1)
 
   pub said_goes :
       {M : Type 1} {𝓤 : Ura M} (𝓛 : Logic 𝓤) (ss : List (Slot n)) (ks : Kepts ss) →
-      AllGo 𝓛 n ss ks (said-of ss ks)
+      AllGo 𝓛 n ss ks (said_of_lem ss ks)
   said_goes 𝓛 [] ks = tt
   said_goes 𝓛 (s ∷ ss) ks =
       ((λ κs x f vs ok. 𝓛.laws.⇛_intro (sem 𝓛 (left ((s.row κs).exit ks.0) x f))), said_goes 𝓛 ss ks.1)
@@ -255,8 +255,8 @@ module _ {M : Type 1} {𝓤 : Ura M} {𝓛 : Logic 𝓤} {K : Type 0} where
   pub returned :
       K → {Γ : List (Item 𝓤)} {C : Calls 𝓤 H} {Λ : Loops 𝓤 H} {E : Env 𝓤 H} {d : Place} {rest : Code} {q : Post 𝓤 H} {w : Val} {Ws : Type 0}
       (toks : SProp 𝓤) (said : Ws → Fml) (Q : Told → Ws → SProp 𝓤) →
-      ((r : Told) (ws : Ws) → Is D.the_row r (machTold r ∷ []) →
-      Seq K 𝓛 (raw toks ∷ ‵ (said ws) ∷ raw (Q r ws) ∷ Γ) (lands C Λ E d (machTold r) rest q)) →
+      ((r : Told) (ws : Ws) → Is D.the_row r (mach_told r ∷ []) →
+      Seq K 𝓛 (raw toks ∷ ‵ (said ws) ∷ raw (Q r ws) ∷ Γ) (lands C Λ E d (mach_told r) rest q)) →
       Seq K 𝓛 (raw (H.⇛ (ex 𝓤 (λ (r : Told).
       sep 𝓤 (sep 𝓤 toks (sem 𝓛 ((D.the_row).own_val r (w ∷ [])))) (ex 𝓤 (λ (ws : Ws). sep 𝓤 (sem 𝓛 (fsep ftrue (fsep ftrue (said ws)))) (Q r ws)))))) ∷ Γ)
       (lands C Λ E d w rest q)

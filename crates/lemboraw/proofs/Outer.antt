@@ -33,15 +33,15 @@ use denote.Triple.Spec.{Meets, triple_of}
 use denote.Triple.Walked.{Stays, stay_ref, Goes-ref, walk_of, Walks, ends_at, walked, walk_Meets}
 use Rattle.rules.specs.declared.answer.Said.{Said}
 use Rattle.host.specs.declared.Told.{Told}
-use Rattle.lemboraw.proofs.Lend.{◌▸◌, R, RecordS, mach, owed-record, owed_said, typed-record, typed-said, typed-told, slice_fits}
-use Rattle.lemboraw.proofs.Lend.{up_from, allocated, paired, rest, said-of, said_fits, said_goes, locals, free, flagged, arg, lent, borrowed, given_back, asked, returned, ends}
+use Rattle.lemboraw.proofs.Lend.{◌▸◌, R, RecordS, mach, owed_record, owed_said, typed_record, typed_said, typed_told, slice_fits}
+use Rattle.lemboraw.proofs.Lend.{up_from, allocated, paired, rest, said_of_lem, said_fits, said_goes, locals, free, flagged, arg, lent, borrowed, given_back, asked, returned, ends}
 use Rattle.lemboraw.proofs.Shape as shape
 use Rattle.lemboraw.specs.contracts.lemboraw_tick as outer
 use Rattle.lemboraw.specs.contracts.value.deep_said as core
 
 -- the record's reference is still owned at exit; what the callee said of the rest is all that is had of it
 abbrev stayed : Stays (outer.ended).signature.params (outer.ended).kept
-stayed = (stay_ref (0 ∷ []) tt RecordS, said-of (rest (outer.ended).signature.params) (outer.ended).kept.1)
+stayed = (stay_ref (0 ∷ []) tt RecordS, said_of_lem (rest (outer.ended).signature.params) (outer.ended).kept.1)
 
 abbrev spelled : (κs : Lfts 15) → Spells (types_at (outer.signature).params κs)
 spelled κs =
@@ -80,8 +80,8 @@ module _ {M : Type 1} (𝓤 : Ura M) where
   abbrev inner : Inner → Clauses 𝓤 core.ended
   inner c κs a = record { ghost = Unit {0}; requires = λ g. emp 𝓤; ensures = λ g r e. c κs a r e }
 
-  abbrev whole-call : Whole → Clauses 𝓤 outer.ended
-  whole-call c κs a = record { ghost = Unit {0}; requires = λ g. emp 𝓤; ensures = λ g r e. c κs a r e }
+  abbrev whole_call_lem : Whole → Clauses 𝓤 outer.ended
+  whole_call_lem c κs a = record { ghost = Unit {0}; requires = λ g. emp 𝓤; ensures = λ g r e. c κs a r e }
 
 -- a walk of its MIR, by the function that it calls
 module _ {M : Type 1} {𝓤 : Ura M} (𝓛 : Logic 𝓤) (#core : Name) (f : Bool) (gives : Inner 𝓤) (owes : Whole 𝓤)
@@ -94,11 +94,11 @@ module _ {M : Type 1} {𝓤 : Ura M} (𝓛 : Logic 𝓤) (#core : Name) (f : Boo
   Core = triple_of 𝓛 core.signature (closing 𝓛 core.ended (inner 𝓤 gives))
 
   module _ (κs : Lfts 15) (qs : Shares 15) (bounds : AllOutlive 15 (outer.signature).outlives κs) (a : Args outer.signature κs) where
-    abbrev y : (walk_of 𝓛 outer.ended stayed (whole-call 𝓤 owes)).Ghost
+    abbrev y : (walk_of 𝓛 outer.ended stayed (whole_call_lem 𝓤 owes)).Ghost
     y = ((κs, qs, bounds, a, vals κs a), tt)
 
-    abbrev to-core : Core.Ghost
-    to-core = ((κs.1, qs.1, tt, inside f κs a, (vbool f ∷ [], (mach a.0.now ∷ [], (vals κs a).1))), tt)
+    abbrev to_core : Core.Ghost
+    to_core = ((κs.1, qs.1, tt, inside f κs a, (vbool f ∷ [], (mach a.0.now ∷ [], (vals κs a).1))), tt)
 
     -- what it says of the rest at exit, and what it ensures
     abbrev said : Lasts core.ended κs.1 (inside f κs a) → Fml
@@ -113,7 +113,7 @@ module _ {M : Type 1} {𝓤 : Ura M} (𝓛 : Logic 𝓤) (#core : Name) (f : Boo
       walk :
           ent 𝓤 (on_entry 𝓛 outer.signature κs qs a (vals κs a))
           (WpFn 𝓤 H C Λ (shape.deep f #core) (flat (types_at (outer.signature).params κs) (vals κs a))
-          ((walk_of 𝓛 outer.ended stayed (whole-call 𝓤 owes)).post y))
+          ((walk_of 𝓛 outer.ended stayed (whole_call_lem 𝓤 owes)).post y))
       walk =
           -- what is known of each parameter and of those behind it
           let kinds = are.1 in
@@ -157,7 +157,7 @@ module _ {M : Type 1} {𝓤 : Ura M} (𝓛 : Logic 𝓤) (#core : Name) (f : Boo
           pass0 ! $
           move ! (78 ∷ 79 ∷ 80 ∷ []) $ borrowed ! tt a.0.now a.0.ref_ptr.0 a.0.ref_ptr.1 (λ is. move ! (up_from 4 39) $
           -- [the locals; the record; its open borrow and two names; what frees the locals; tokens; what the rest owns]
-          assigns ! (of_opd ! (load ! (from ! (hop ! (look ! 1 refl) (stop !))) (look ! 39 refl))) (from ! (stop !)) (init ! 20 refl (typed-record 𝓛 a.0.now is)) $
+          assigns ! (of_opd ! (load ! (from ! (hop ! (look ! 1 refl) (stop !))) (look ! 39 refl))) (from ! (stop !)) (init ! 20 refl (typed_record 𝓛 a.0.now is)) $
           lent ! 5 21 refl refl refl refl refl refl refl refl tt tt times.0.0.1.0 $
           lent ! 6 23 refl refl refl refl refl refl refl refl tt tt places.0.0.1.0 $
           lent ! 7 25 refl refl refl refl refl refl refl refl tt tt marks.0.0.1.0 $
@@ -168,40 +168,40 @@ module _ {M : Type 1} {𝓤 : Ura M} (𝓛 : Logic 𝓤) (#core : Name) (f : Boo
           lent ! 12 35 refl refl refl refl refl refl refl refl tt tt spare-sinces.0.0.1.0 $
           lent ! 13 37 refl refl refl refl refl refl refl refl tt tt board.0.0.1.0 $
           move ! (82 ∷ 83 ∷ []) $ asked ! f a.0.now is $
-          calls_at ! fm Core known to-core
+          calls_at ! fm Core known to_core
           (flagged ! f (arg ! 20 refl (arg ! 2 refl (arg ! 3 refl (arg ! 4 refl (arg ! 22 refl (arg ! 24 refl (arg ! 26 refl (arg ! 28 refl (arg ! 30 refl
           (arg ! 32 refl (arg ! 34 refl (arg ! 36 refl (arg ! 38 refl (arg ! 14 refl (arg ! 15 refl (arg ! 16 refl (arg ! 17 refl (arg ! 18 refl
           (no_more !))))))))))))))))))))
           (λ w.
           returned ! (toks 𝓛 14 κs.1 qs.1) said Ensured (λ r ws is'. move ! (up_from 3 39) $
           -- [the locals; tokens; what is said of the rest; what is ensured; the record, its open borrow and two names; what frees the locals]
-          land ! (from ! (stop !)) (init ! 19 refl (typed-told 𝓛 r is')) $
+          land ! (from ! (stop !)) (init ! 19 refl (typed_told 𝓛 r is')) $
           assigns ! (of_opd ! (load ! (from ! (fld ! refl (stop !))) (look_in ! 19 (sub ! 1 refl (whole !))))) (from ! (hop ! (look ! 1 refl) (stop !)))
-          (store ! 42 refl (typed-record 𝓛 r.«record» (owed-record r is'))) $
-          assigns ! (of_opd ! (load ! (from ! (fld ! refl (stop !))) (look_in ! 19 (sub ! 0 refl (whole !))))) (from ! (stop !)) (init ! 0 refl (typed-said 𝓛 r.said (owed_said r is'))) $
-          move ! (42 ∷ 43 ∷ 44 ∷ 45 ∷ []) $ given_back ! tt r.«record» a.0.ptr.0 a.0.ptr.1 (owed-record r is') $
+          (store ! 42 refl (typed_record 𝓛 r.«record» (owed_record r is'))) $
+          assigns ! (of_opd ! (load ! (from ! (fld ! refl (stop !))) (look_in ! 19 (sub ! 0 refl (whole !))))) (from ! (stop !)) (init ! 0 refl (typed_said 𝓛 r.said (owed_said r is'))) $
+          move ! (42 ∷ 43 ∷ 44 ∷ 45 ∷ []) $ given_back ! tt r.«record» a.0.ptr.0 a.0.ptr.1 (owed_record r is') $
           returns ! (look ! 3 refl) $ move ! (paired 3 83 39) $
           free ! $ free ! $ free ! $ free ! $ free ! $ free ! $ free ! $ free ! $ free ! $ free ! $ free ! $ free ! $ free ! $ free ! $ free ! $ free ! $ free ! $ free ! $ free ! $ free ! $
           free ! $ free ! $ free ! $ free ! $ free ! $ free ! $ free ! $ free ! $ free ! $ free ! $ free ! $ free ! $ free ! $ free ! $ free ! $ free ! $ free ! $ free ! $ free ! $ free0 ! $
           -- [the record's reference: its name, its borrow, its token; tokens; what is said of the rest; what is ensured]
           move ! (5 ∷ []) $ use1 𝓛 (raw (owes κs a r.said (at_exit outer.ended κs a (r.«record», ws.1.1)))) (enough κs a r ws) $ move ! (1 ∷ 2 ∷ 3 ∷ 4 ∷ 5 ∷ 0 ∷ []) $
           suffices ! _
-          (ends_at 𝓛 outer.ended stayed (whole-call 𝓤 owes) y _ r.said (r.«record», ws.1.1)
+          (ends_at 𝓛 outer.ended stayed (whole_call_lem 𝓤 owes) y _ r.said (r.«record», ws.1.1)
           (tt, said_fits κs (rest (outer.ended).signature.params) (outer.ended).kept.1 a.1 ws.1.1)) $
           ends ! r.«record» a.0.ptr.0 a.0.ptr.1 r.said _ (owed_said r is')))))
 
   walks :
       (C : Calls 𝓤 H) (Λ : Loops 𝓤 H) → FmC 𝓤 H 𝓛.laws C → Triple 𝓤 (C #core) Core →
-      Walks 𝓛 outer.ended stayed (WpFn 𝓤 H C Λ (shape.deep f #core)) (whole-call 𝓤 owes)
+      Walks 𝓛 outer.ended stayed (WpFn 𝓤 H C Λ (shape.deep f #core)) (whole_call_lem 𝓤 owes)
   walks C Λ fm known =
-      walked 𝓛 outer.ended stayed (whole-call 𝓤 owes) (WpFn 𝓤 H C Λ (shape.deep f #core)) spelled
+      walked 𝓛 outer.ended stayed (whole_call_lem 𝓤 owes) (WpFn 𝓤 H C Λ (shape.deep f #core)) spelled
       tells
       (λ κs qs bounds a g are. via 𝓤 _ (fst∗ 𝓤 _ (emp 𝓤)) (walk κs qs bounds a C Λ fm known are))
 
   pub meets :
       (𝓣 : Tables 𝓤 H) → Triple 𝓤 (𝓣.C #core) Core →
-      Meets 𝓛 outer.signature (WpFn 𝓤 H 𝓣.C 𝓣.Λ (shape.deep f #core)) (closing 𝓛 outer.ended (whole-call 𝓤 owes))
+      Meets 𝓛 outer.signature (WpFn 𝓤 H 𝓣.C 𝓣.Λ (shape.deep f #core)) (closing 𝓛 outer.ended (whole_call_lem 𝓤 owes))
   meets 𝓣 known =
       walk_Meets 𝓛 outer.ended stayed
       (Goes-ref 𝓛 15 0 tt RecordS, said_goes 𝓛 (rest (outer.ended).signature.params) (outer.ended).kept.1)
-      (whole-call 𝓤 owes) (WpFn 𝓤 H 𝓣.C 𝓣.Λ (shape.deep f #core)) (WpFn-mono 𝓤 H 𝓛.laws 𝓣 (shape.deep f #core)) (walks 𝓣.C 𝓣.Λ (fm_of 𝓤 H 𝓛.laws 𝓣) known)
+      (whole_call_lem 𝓤 owes) (WpFn 𝓤 H 𝓣.C 𝓣.Λ (shape.deep f #core)) (WpFn-mono 𝓤 H 𝓛.laws 𝓣 (shape.deep f #core)) (walks 𝓣.C 𝓣.Λ (fm_of 𝓤 H 𝓛.laws 𝓣) known)

@@ -3,12 +3,12 @@ mod value;
 
 ghost use Rattle.std.specs.Prelude.{◌≡◌};
 ghost use Rattle.std.specs.Float.{binary64};
-ghost use Rattle.rules.specs.Outcome.{eventOf};
+ghost use Rattle.rules.specs.Outcome.{event_of};
 ghost use Rattle.rules.specs.Call.{run, given, age};
 ghost use Rattle.rules.specs.Levels.{levels};
-ghost use Rattle.rules.specs.Exchange.{room, givenExchange};
-ghost use Rattle.rules.specs.Bound.{boundCall};
-ghost use Rattle.host.specs.Host.{hostTick, hostRestart, hostLeft, hostTickFlat, hostRestartFlat, hostFlatLeft, hostExchange, hostExchanged, memoryOf, boundOf};
+ghost use Rattle.rules.specs.Exchange.{room, given_exchange};
+ghost use Rattle.rules.specs.Bound.{bound_call};
+ghost use Rattle.host.specs.Host.{host_tick, host_restart, host_left, host_tick_flat, host_restart_flat, host_flat_left, host_exchange, host_exchanged, memory_of, bound_of};
 
 use bound::finish_bound;
 use host::{Bound, bound_of, memory_of};
@@ -37,11 +37,11 @@ pub extern "C" fn lemboraw_tick(
     statuses: &[u8],
     leftovers: &[f64],
 ) -> Said
-    ensures { hostTick (given «record».old kinds.now ns.now limits.now
+    ensures { host_tick (given «record».old kinds.now ns.now limits.now
         (run times.old places.old marks.old sinces.old)
         (run spare_times.old spare_places.old spare_marks.old spare_sinces.old)
-        board.old (eventOf update dt) fuel statuses.now leftovers.now)
-        ≡ hostLeft result «record».new
+        board.old (event_of update dt) fuel statuses.now leftovers.now)
+        ≡ host_left result «record».new
         (run times.new places.new marks.new sinces.new)
         (run spare_times.new spare_places.new spare_marks.new spare_sinces.new)
         board.new }
@@ -94,11 +94,11 @@ pub extern "C" fn lemboraw_restart(
     statuses: &[u8],
     leftovers: &[f64],
 ) -> Said
-    ensures { hostRestart (given «record».old kinds.now ns.now limits.now
+    ensures { host_restart (given «record».old kinds.now ns.now limits.now
         (run times.old places.old marks.old sinces.old)
         (run spare_times.old spare_places.old spare_marks.old spare_sinces.old)
-        board.old (eventOf update dt) fuel statuses.now leftovers.now)
-        ≡ hostLeft result «record».new
+        board.old (event_of update dt) fuel statuses.now leftovers.now)
+        ≡ host_left result «record».new
         (run times.new places.new marks.new sinces.new)
         (run spare_times.new spare_places.new spare_marks.new spare_sinces.new)
         board.new }
@@ -155,12 +155,12 @@ pub extern "C" fn lemboraw_tick_flat(
     wholes: &mut [f64],
     rests: &mut [f64],
 ) -> Said
-    ensures { hostTickFlat (given «record».old kinds.now ns.now limits.now
+    ensures { host_tick_flat (given «record».old kinds.now ns.now limits.now
         (run times.old places.old marks.old sinces.old)
         (run spare_times.old spare_places.old spare_marks.old spare_sinces.old)
-        board.old (eventOf update dt) fuel statuses.now leftovers.now)
+        board.old (event_of update dt) fuel statuses.now leftovers.now)
         (levels opens.old counts.old wholes.old rests.old)
-        ≡ hostFlatLeft result «record».new
+        ≡ host_flat_left result «record».new
         (run times.new places.new marks.new sinces.new)
         (run spare_times.new spare_places.new spare_marks.new spare_sinces.new)
         board.new (levels opens.new counts.new wholes.new rests.new) }
@@ -220,12 +220,12 @@ pub extern "C" fn lemboraw_restart_flat(
     wholes: &mut [f64],
     rests: &mut [f64],
 ) -> Said
-    ensures { hostRestartFlat (given «record».old kinds.now ns.now limits.now
+    ensures { host_restart_flat (given «record».old kinds.now ns.now limits.now
         (run times.old places.old marks.old sinces.old)
         (run spare_times.old spare_places.old spare_marks.old spare_sinces.old)
-        board.old (eventOf update dt) fuel statuses.now leftovers.now)
+        board.old (event_of update dt) fuel statuses.now leftovers.now)
         (levels opens.old counts.old wholes.old rests.old)
-        ≡ hostFlatLeft result «record».new
+        ≡ host_flat_left result «record».new
         (run times.new places.new marks.new sinces.new)
         (run spare_times.new spare_places.new spare_marks.new spare_sinces.new)
         board.new (levels opens.new counts.new wholes.new rests.new) }
@@ -283,12 +283,12 @@ pub extern "C" fn lemboraw_exchange(
     room_marks: &mut [u8],
     room_sinces: &mut [u64],
 ) -> ExchangeSaid
-    ensures { hostExchange (givenExchange «record» kinds.now ns.now limits.now
+    ensures { host_exchange (given_exchange «record» kinds.now ns.now limits.now
         (run times.now places.now marks.now sinces.now) at
         new_kinds.now new_ns.now new_limits.now
         (room room_kinds.old room_ns.old room_limits.old room_times.old room_places.old
         room_marks.old room_sinces.old))
-        ≡ hostExchanged result (room room_kinds.new room_ns.new room_limits.new room_times.new
+        ≡ host_exchanged result (room room_kinds.new room_ns.new room_limits.new room_times.new
         room_places.new room_marks.new room_sinces.new) }
 {
     let answer = exchange::exchange(
@@ -326,7 +326,7 @@ pub extern "C" fn lemboraw_age(ticks: u64, since: u64) -> u64
 // The number of a kind with its memory on or off; a number that is no kind stays.
 #[unsafe(no_mangle)]
 pub extern "C" fn lemboraw_memory(kind: u8, on: bool) -> u8
-    ensures { result ≡ memoryOf kind on }
+    ensures { result ≡ memory_of kind on }
 {
     memory_of(kind, on)
 }
@@ -334,7 +334,7 @@ pub extern "C" fn lemboraw_memory(kind: u8, on: bool) -> u8
 // The finish bound of a table at a step.
 #[unsafe(no_mangle)]
 pub extern "C" fn lemboraw_bound(kinds: &[u8], ns: &[u16], limits: &[f64], step: f64) -> Bound
-    ensures { result ≡ boundOf (boundCall binary64 kinds.now ns.now limits.now step) }
+    ensures { result ≡ bound_of (bound_call binary64 kinds.now ns.now limits.now step) }
 {
     let answer = finish_bound(kinds, ns, limits, step);
     bound_of(answer)

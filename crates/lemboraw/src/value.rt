@@ -1,10 +1,10 @@
 // The call by value, in a host's numbers: the record comes and goes with the answer.
 ghost use Rattle.std.specs.Prelude.{◌≡◌};
-ghost use Rattle.rules.specs.Outcome.{eventOf};
+ghost use Rattle.rules.specs.Outcome.{event_of};
 ghost use Rattle.rules.specs.Call.{run, given};
-ghost use Rattle.rules.specs.Levels.{levels, withRoom};
+ghost use Rattle.rules.specs.Levels.{levels, with_room};
 ghost use Rattle.refusals.specs.Due.{call_of};
-ghost use Rattle.host.specs.Host.{told, hostLeft, toldFlat, hostFlatLeft};
+ghost use Rattle.host.specs.Host.{told, host_left, told_flat, host_flat_left};
 
 use call::value;
 use host::{Told, event_of, in_numbers};
@@ -36,12 +36,12 @@ pub fn flat_said(
     wholes: &mut [f64],
     rests: &mut [f64],
 ) -> Told
-    ensures { toldFlat (withRoom (call_of fresh) (given «record» kinds.now ns.now limits.now
+    ensures { told_flat (with_room (call_of fresh) (given «record» kinds.now ns.now limits.now
         (run times.old places.old marks.old sinces.old)
         (run spare_times.old spare_places.old spare_marks.old spare_sinces.old)
-        board.old (eventOf update dt) fuel statuses.now leftovers.now)
+        board.old (event_of update dt) fuel statuses.now leftovers.now)
         (levels opens.old counts.old wholes.old rests.old))
-        ≡ hostFlatLeft result.said result.«record»
+        ≡ host_flat_left result.said result.«record»
         (run times.new places.new marks.new sinces.new)
         (run spare_times.new spare_places.new spare_marks.new spare_sinces.new)
         board.new (levels opens.new counts.new wholes.new rests.new) }
@@ -100,8 +100,8 @@ pub fn deep_said(
     ensures { told (call_of fresh (given «record» kinds.now ns.now limits.now
         (run times.old places.old marks.old sinces.old)
         (run spare_times.old spare_places.old spare_marks.old spare_sinces.old)
-        board.old (eventOf update dt) fuel statuses.now leftovers.now))
-        ≡ hostLeft result.said result.«record»
+        board.old (event_of update dt) fuel statuses.now leftovers.now))
+        ≡ host_left result.said result.«record»
         (run times.new places.new marks.new sinces.new)
         (run spare_times.new spare_places.new spare_marks.new spare_sinces.new)
         board.new }

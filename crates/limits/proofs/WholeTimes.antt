@@ -4,7 +4,7 @@ use lib.Ieee.{Float, Format, nan, inf, fin, binary32, binary64, up, down, lt, fi
 use lib.Ieee.Bits.{is_true, of_bits-to_bits}
 use lib.Ieee.Fits.{and_l, and_r, down_pos, of_int-fits}
 use lib.Ieee.Back.{unsigned_back, Float-back_unsigned}
-use Rattle.rules.specs.Bound.{cap, num, wholeTime, within, ownTicks}
+use Rattle.rules.specs.Bound.{cap, num, whole_time, within, own_ticks}
 use Rattle.limits.specs.declared.whole.Whole.{Whole}
 use Rattle.limits.specs.declared.whole.Whole.TheVariants.{Yes, No}
 use Rattle.limits.specs.Whole.{whole_of}
@@ -21,9 +21,9 @@ below_no_nan y (inf s) e = tt
 below_no_nan y (fin s m d) e = tt
 
 -- ---- the largest whole time, in either format
-pub cap-most : (F : Format) → cap F ≤ 2 ^ 40
-cap-most binary32 = omega arith
-cap-most binary64 = omega arith
+pub cap_most : (F : Format) → cap F ≤ 2 ^ 40
+cap_most binary32 = omega arith
+cap_most binary64 = omega arith
 
 pub whole_float : (F : Format) (n : ℕ) → n ≤ cap F → T (in_float F (pos n))
 unfolding in_float
@@ -32,102 +32,102 @@ whole_float binary64 n h = le→leb n (2 ^ 53) (omega arith)
 
 module _ (F : Format) where
   -- ---- the parts of the test
-  whole_in : (x : Float) → T (wholeTime F x) → T (in_unsigned F 64 x)
-  unfolding wholeTime
+  whole_in : (x : Float) → T (whole_time F x) → T (in_unsigned F 64 x)
+  unfolding whole_time
   whole_in x h = and_l (in_unsigned F 64 x) (leb (num x) (cap F)) h
 
-  whole-small : (x : Float) → T (wholeTime F x) → num x ≤ cap F
-  unfolding wholeTime
-  whole-small x h = leb→le (num x) (cap F) (and_r (in_unsigned F 64 x) (leb (num x) (cap F)) h)
+  whole_small : (x : Float) → T (whole_time F x) → num x ≤ cap F
+  unfolding whole_time
+  whole_small x h = leb→le (num x) (cap F) (and_r (in_unsigned F 64 x) (leb (num x) (cap F)) h)
 
-  whole-no : (x : Float) → (T (wholeTime F x) → ⊥) → No ≡ whole_of F x
-  whole-no x = go (wholeTime F x)
+  whole_no : (x : Float) → (T (whole_time F x) → ⊥) → No ≡ whole_of F x
+  whole_no x = go (whole_time F x)
     where
       go : (b : Bool) → (T b → ⊥) → No ≡ cond b (Yes (num x)) No
       go true h = absurd (h tt)
       go false h = refl
 
-  in-no-nan : (x : Float) → T (in_unsigned F 64 x) → T (not (is_nan x))
+  in_no_nan : (x : Float) → T (in_unsigned F 64 x) → T (not (is_nan x))
   unfolding in_unsigned is_nan
-  in-no-nan nan h = absurd h
-  in-no-nan (inf s) h = tt
-  in-no-nan (fin s m e) h = tt
+  in_no_nan nan h = absurd h
+  in_no_nan (inf s) h = tt
+  in_no_nan (fin s m e) h = tt
 
   -- ---- the number as a float
   whole_back : (n : ℕ) → n ≤ cap F → T (in_unsigned F 64 (of_int F (pos n))) × (to_unsigned 64 (of_int F (pos n)) ≡ n)
-  whole_back n h = unsigned_back F 64 n (whole_float F n h) (omega (arith, cap-most F))
+  whole_back n h = unsigned_back F 64 n (whole_float F n h) (omega (arith, cap_most F))
 
-  pub whole-no-nan : (n : ℕ) → n ≤ cap F → T (not (is_nan (of_int F (pos n))))
-  whole-no-nan n h = in-no-nan (of_int F (pos n)) (whole_back n h).0
+  pub whole_no_nan : (n : ℕ) → n ≤ cap F → T (not (is_nan (of_int F (pos n))))
+  whole_no_nan n h = in_no_nan (of_int F (pos n)) (whole_back n h).0
 
   -- ---- the ways through the test
   module _ (x : Float) (n : ℕ) (f : T (fits F x)) (e : n ≡ to_unsigned 64 x) where
-    pub whole-yes : n ≤ cap F → to_bits F (of_int F (pos n)) ≡ to_bits F x → Yes n ≡ whole_of F x
-    unfolding wholeTime num
-    whole-yes h q =
+    pub whole_yes : n ≤ cap F → to_bits F (of_int F (pos n)) ≡ to_bits F x → Yes n ≡ whole_of F x
+    unfolding whole_time num
+    whole_yes h q =
         let back = of_bits-to_bits F (of_int F (pos n)) (of_int-fits F (pos n)) in
         let same : x ≡ of_int F (pos n) = sym (of_bits-to_bits F x f) ∙ ap (of_bits F) (sym q) ∙ back in
         let test : in_unsigned F 64 x ≡ true = is_true (in_unsigned F 64 x) (rw same (whole_back n h).0) in
         let small : leb n (cap F) ≡ true = le-leb n (cap F) h in
         rw (test, ← e, small)
 
-    pub whole-other : (to_bits F (of_int F (pos n)) ≡ to_bits F x → ⊥) → No ≡ whole_of F x
-    whole-other q = whole-no x (λ t. q (ap (to_bits F) (rw e (Float-back_unsigned F 64 x f (whole_in x t)).1)))
+    pub whole_other : (to_bits F (of_int F (pos n)) ≡ to_bits F x → ⊥) → No ≡ whole_of F x
+    whole_other q = whole_no x (λ t. q (ap (to_bits F) (rw e (Float-back_unsigned F 64 x f (whole_in x t)).1)))
 
-  pub whole-large : (x : Float) (n : ℕ) → n ≡ to_unsigned 64 x → cap F < n → No ≡ whole_of F x
+  pub whole_large : (x : Float) (n : ℕ) → n ≡ to_unsigned 64 x → cap F < n → No ≡ whole_of F x
   unfolding num
-  whole-large x n e h = whole-no x (λ t. not-le_of_lt h (rw e (whole-small x t)))
+  whole_large x n e h = whole_no x (λ t. not-le_of_lt h (rw e (whole_small x t)))
 
-  in-high : (x : Float) → T (in_unsigned F 64 x) → T (lt x (fin false 1 (pos 64)))
+  in_high : (x : Float) → T (in_unsigned F 64 x) → T (lt x (fin false 1 (pos 64)))
   unfolding in_unsigned lt
-  in-high nan t = absurd t
-  in-high (inf s) t = absurd t
-  in-high (fin true m e) t = absurd (and_r (whole F (fin true m e)) false t)
-  in-high (fin false m e) t =
+  in_high nan t = absurd t
+  in_high (inf s) t = absurd t
+  in_high (fin true m e) t = absurd (and_r (whole F (fin true m e)) false t)
+  in_high (fin false m e) t =
       let small : m * up e / down e < 2 ^ 64 = ltb→lt (m * up e / down e) (2 ^ 64) (and_r (whole F (fin false m e)) (ltb (m * up e / down e) (2 ^ 64)) t) in
       let cross : m * up e < 2 ^ 64 * down e = (div-lt_iff_lt-mul (down_pos e)).0 small in
       lt→ltb (m * up e * 1) (1 * 2 ^ 64 * down e) (omega arith)
 
-  in-low : (x : Float) → T (in_unsigned F 64 x) → T (lt (fin true 1 (pos 0)) x)
+  in_low : (x : Float) → T (in_unsigned F 64 x) → T (lt (fin true 1 (pos 0)) x)
   unfolding in_unsigned lt
-  in-low nan t = absurd t
-  in-low (inf s) t = absurd t
-  in-low (fin true m e) t = absurd (and_r (whole F (fin true m e)) false t)
-  in-low (fin false m e) t = lt→ltb 0 (1 * 2 ^ 0 * down e + m * up e * 1) (omega (arith, down_pos e))
+  in_low nan t = absurd t
+  in_low (inf s) t = absurd t
+  in_low (fin true m e) t = absurd (and_r (whole F (fin true m e)) false t)
+  in_low (fin false m e) t = lt→ltb 0 (1 * 2 ^ 0 * down e + m * up e * 1) (omega (arith, down_pos e))
 
-  pub whole-high : (x : Float) → lt x (fin false 1 (pos 64)) ≡ false → No ≡ whole_of F x
-  whole-high x h = whole-no x (λ t. subst T h (in-high x (whole_in x t)))
+  pub whole_high : (x : Float) → lt x (fin false 1 (pos 64)) ≡ false → No ≡ whole_of F x
+  whole_high x h = whole_no x (λ t. subst T h (in_high x (whole_in x t)))
 
-  pub whole-low : (x : Float) → lt (fin true 1 (pos 0)) x ≡ false → No ≡ whole_of F x
-  whole-low x h = whole-no x (λ t. subst T h (in-low x (whole_in x t)))
+  pub whole_low : (x : Float) → lt (fin true 1 (pos 0)) x ≡ false → No ≡ whole_of F x
+  whole_low x h = whole_no x (λ t. subst T h (in_low x (whole_in x t)))
 
   -- ---- the ticks of a limit, w being what is found of it
   module _ (x : Float) (w : Whole) (e : w ≡ whole_of F x) where
-    pub whole-known : (n : ℕ) → w ≡ Yes n → (wholeTime F x ≡ true) × (n ≡ num x) × (n ≤ cap F)
-    whole-known n q = go (wholeTime F x) refl (whole-small x) (sym q ∙ e)
+    pub whole_known : (n : ℕ) → w ≡ Yes n → (whole_time F x ≡ true) × (n ≡ num x) × (n ≤ cap F)
+    whole_known n q = go (whole_time F x) refl (whole_small x) (sym q ∙ e)
       where
         go :
-            (b : Bool) → wholeTime F x ≡ b → (T b → num x ≤ cap F) → Yes n ≡ cond b (Yes (num x)) No →
-            (wholeTime F x ≡ true) × (n ≡ num x) × (n ≤ cap F)
+            (b : Bool) → whole_time F x ≡ b → (T b → num x ≤ cap F) → Yes n ≡ cond b (Yes (num x)) No →
+            (whole_time F x ≡ true) × (n ≡ num x) × (n ≤ cap F)
         go true t h f = let q : n ≡ num x = cc in (t, q, rw q (h tt))
         go false t h f = let z : ◌≡◌ {A = ℕ} 0 1 = cc in absurd (omega arith)
 
-    pub whole-some : (n : ℕ) → w ≡ Yes n → wholeTime F x ≡ true
-    whole-some n q = (whole-known n q).0
+    pub whole_some : (n : ℕ) → w ≡ Yes n → whole_time F x ≡ true
+    whole_some n q = (whole_known n q).0
 
-    pub whole-none : w ≡ No → wholeTime F x ≡ false
-    whole-none q = go (wholeTime F x) (sym q ∙ e)
+    pub whole_none : w ≡ No → whole_time F x ≡ false
+    whole_none q = go (whole_time F x) (sym q ∙ e)
       where
         go : (b : Bool) → No ≡ cond b (Yes (num x)) No → b ≡ false
         go true f = let z : ◌≡◌ {A = ℕ} 0 1 = cc in absurd (omega arith)
         go false f = refl
 
-    pub no-ticks : (r s : Ticks) → w ≡ No → wholeTime F x ≡ true → r ≡ s
-    no-ticks r s q h = let n = whole-none q in let z : ◌≡◌ {A = ℕ} 0 1 = cc in absurd (omega arith)
+    pub no_ticks : (r s : Ticks) → w ≡ No → whole_time F x ≡ true → r ≡ s
+    no_ticks r s q h = let n = whole_none q in let z : ◌≡◌ {A = ℕ} 0 1 = cc in absurd (omega arith)
 
     module _ (d l : ℕ) (q : w ≡ Yes l) (r : Ticks) where
-      pub ticks-one : (l + (d - 1)) / d < 1 → r ≡ clipped (within 1) → r ≡ clipped (within (ownTicks d x))
-      ticks-one h f = let m : max 1 ((l + (d - 1)) / d) ≡ 1 = omega arith in rw (← (whole-known l q).1, m) f
+      pub ticks_one : (l + (d - 1)) / d < 1 → r ≡ clipped (within 1) → r ≡ clipped (within (own_ticks d x))
+      ticks_one h f = let m : max 1 ((l + (d - 1)) / d) ≡ 1 = omega arith in rw (← (whole_known l q).1, m) f
 
-      pub ticks-more : 1 ≤ (l + (d - 1)) / d → r ≡ clipped (within ((l + (d - 1)) / d)) → r ≡ clipped (within (ownTicks d x))
-      ticks-more h f = let m : max 1 ((l + (d - 1)) / d) ≡ (l + (d - 1)) / d = omega arith in rw (← (whole-known l q).1, m) f
+      pub ticks_more : 1 ≤ (l + (d - 1)) / d → r ≡ clipped (within ((l + (d - 1)) / d)) → r ≡ clipped (within (own_ticks d x))
+      ticks_more h f = let m : max 1 ((l + (d - 1)) / d) ≡ (l + (d - 1)) / d = omega arith in rw (← (whole_known l q).1, m) f

@@ -3,7 +3,7 @@ ghost use Rattle.std.specs.Prelude.{◌≡◌};
 ghost use Rattle.std.specs.Float.{binary64};
 ghost use Rattle.rules.specs.Table.{cleaned};
 ghost use Rattle.limits.specs.Ticks.{lim, clipped};
-ghost use Rattle.limits.specs.Node.{join_of, noneL, joinL, Alone, Together, rowBounded};
+ghost use Rattle.limits.specs.Node.{join_of, none_l, join_l, Alone, Together, row_bounded};
 
 use crate::ticks::Ticks;
 use crate::whole::Whole;
@@ -34,7 +34,7 @@ impl Join {
 
     // The ticks of no node.
     pub fn none(self) -> Ticks
-        ensures { result ≡ clipped (noneL self) }
+        ensures { result ≡ clipped (none_l self) }
     {
         match self {
             Join::Sum => Ticks::Within(0),
@@ -46,7 +46,7 @@ impl Join {
 
     // One node more.
     pub fn with(self, all: Ticks, one: Ticks) -> Ticks
-        ensures { result ≡ clipped (joinL self (lim all) (lim one)) }
+        ensures { result ≡ clipped (join_l self (lim all) (lim one)) }
     {
         match self {
             Join::Sum => all.sum(one),
@@ -86,7 +86,7 @@ pub fn together(kind: Kind, own: Ticks, first: Ticks, rest: Ticks) -> Ticks
 
 // A whole limit, where the kind has one, and no After without children.
 pub fn bounded(kind: Kind, n: u16, limit: f64) -> bool
-    ensures { result ≡ rowBounded binary64 kind n (cleaned limit) }
+    ensures { result ≡ row_bounded binary64 kind n (cleaned limit) }
 {
     if kind.timed() {
         match Whole::of_limit(limit) {

@@ -1,7 +1,7 @@
 // A number of ticks, or none. Numbers above 2^53 are all one, the first of them, so that no sum or
 // product wraps and each is still larger than every number that is told.
 ghost use Rattle.std.specs.Prelude.{◌≡◌};
-ghost use Rattle.rules.specs.Bound.{within, sum_l, maxL, minL, timesL, told};
+ghost use Rattle.rules.specs.Bound.{within, sum_l, max_l, min_l, times_l, told};
 ghost use Rattle.limits.specs.Ticks.{lim, clipped};
 
 use rules::BoundAnswer;
@@ -44,7 +44,7 @@ impl Ticks {
     }
 
     pub fn larger(self, other: Ticks) -> Ticks
-        ensures { result ≡ clipped (maxL (lim self) (lim other)) }
+        ensures { result ≡ clipped (max_l (lim self) (lim other)) }
     {
         match self {
             Ticks::Never => Ticks::Never,
@@ -56,7 +56,7 @@ impl Ticks {
     }
 
     pub fn product(self, other: Ticks) -> Ticks
-        ensures { result ≡ clipped (timesL (lim self) (lim other)) }
+        ensures { result ≡ clipped (times_l (lim self) (lim other)) }
     {
         match self {
             Ticks::Never => Ticks::Never,
@@ -78,7 +78,7 @@ impl Ticks {
 
     // The smallest that one has.
     pub fn smaller(self, other: Ticks) -> Ticks
-        ensures { result ≡ clipped (minL (lim self) (lim other)) }
+        ensures { result ≡ clipped (min_l (lim self) (lim other)) }
     {
         match self {
             Ticks::Never => match other {

@@ -2,7 +2,7 @@
 ghost use Rattle.std.specs.Prelude.{◌≡◌, ◌^◌, ◌≤◌, true};
 ghost use Rattle.std.specs.Float.{binary64};
 ghost use Rattle.rules.specs.Table.{cleaned};
-ghost use Rattle.rules.specs.Bound.{wholeTime, within, ownTicks};
+ghost use Rattle.rules.specs.Bound.{whole_time, within, own_ticks};
 ghost use Rattle.limits.specs.Ticks.{clipped};
 ghost use Rattle.limits.specs.Whole.{whole_of};
 
@@ -48,7 +48,7 @@ impl Whole {
 // "Wait and Timeout's own limit L: the larger of 1 and L/d rounded up".
 pub fn own_ticks(limit: f64, step: u64) -> Ticks
     requires { (1 ≤ step) × (step ≤ 2 ^ 40) }
-    ensures { wholeTime binary64 (cleaned limit) ≡ true → result ≡ clipped (within (ownTicks step (cleaned limit))) }
+    ensures { whole_time binary64 (cleaned limit) ≡ true → result ≡ clipped (within (own_ticks step (cleaned limit))) }
 {
     match Whole::of_limit(limit) {
         Whole::No => Ticks::Never,

@@ -12,18 +12,18 @@ use lib.Ieee.{Float}
 use lib.ListN.{length, get_or, set, drop}
 use lib.Seq.{get_or-set_same, get_or-set_other, drop-drop}
 use Rattle.rules.specs.declared.behavior.Kind.{Kind}
-use Rattle.rules.specs.Kinds.{marksChildren}
+use Rattle.rules.specs.Kinds.{marks_children}
 use Rattle.rules.specs.Tree.{Cell, Tree, node, Forest, [], ◌∷◌, size, sizes}
-use Rattle.rules.specs.Cells.{cells, withCells, withCellsAll, cellAllowed, endedIn, Found, faulty, none, badCell, badCells}
+use Rattle.rules.specs.Cells.{cells, with_cells, with_cells_all, cell_allowed, ended_in, Found, faulty, none, bad_cell, bad_cells}
 use Rattle.tables.proofs.Scan.{Frame, frame, onto, made}
 use Rattle.cells.proofs.Held.{cell_at, drop_cells}
 use Rattle.cells.specs.Check.{first_of}
-use Rattle.load.specs.Trees.{drop-with}
+use Rattle.load.specs.Trees.{drop_with}
 
 -- a bad cell stays the first
-first-stays : (s : ℕ) (fine : Bool) (q : ℕ) → s < 256 → first_of s fine q ≡ s
-first-stays s true q h = refl
-first-stays s false q h = rw (ne_eqb s 256 (omega arith))
+first_stays : (s : ℕ) (fine : Bool) (q : ℕ) → s < 256 → first_of s fine q ≡ s
+first_stays s true q h = refl
+first_stays s false q h = rw (ne_eqb s 256 (omega arith))
 
 -- s is the place of a bad cell, or 256 where there is none before `stop`
 abbrev pub Agrees : ℕ → Found → ℕ → Type 0
@@ -48,23 +48,23 @@ module _ (times : List Float) (places marks : List ℕ) where
   -- the first bad cell once a tree is passed that begins at q, from what was the first before it
   unfoldable mutual
     pub pass : Bool → Bool → ℕ → Tree → ℕ → ℕ
-    pass e m q (node k n l c b ts) s = passAll (e || endedIn (cell q)) (marksChildren k) (suc q) ts (first_of s (cellAllowed e m k n (cell q)) q)
+    pass e m q (node k n l c b ts) s = pass_all (e || ended_in (cell q)) (marks_children k) (suc q) ts (first_of s (cell_allowed e m k n (cell q)) q)
 
-    pub passAll : Bool → Bool → ℕ → Forest → ℕ → ℕ
-    passAll e m q [] s = s
-    passAll e m q (t ∷ ts) s = passAll e m (q + size t) ts (pass e m q t s)
+    pub pass_all : Bool → Bool → ℕ → Forest → ℕ → ℕ
+    pass_all e m q [] s = s
+    pass_all e m q (t ∷ ts) s = pass_all e m (q + size t) ts (pass e m q t s)
 
   mutual
     unfolding pass
 
-    pass-stays : (t : Tree) (e m : Bool) (q s : ℕ) → s < 256 → pass e m q t s ≡ s
-    pass-stays (node k n l c b ts) e m q s h =
-        ap (passAll (e || endedIn (cell q)) (marksChildren k) (suc q) ts) (first-stays s (cellAllowed e m k n (cell q)) q h)
-        ∙ all_stay ts (e || endedIn (cell q)) (marksChildren k) (suc q) s h
+    pass_stays : (t : Tree) (e m : Bool) (q s : ℕ) → s < 256 → pass e m q t s ≡ s
+    pass_stays (node k n l c b ts) e m q s h =
+        ap (pass_all (e || ended_in (cell q)) (marks_children k) (suc q) ts) (first_stays s (cell_allowed e m k n (cell q)) q h)
+        ∙ all_stay ts (e || ended_in (cell q)) (marks_children k) (suc q) s h
 
-    all_stay : (ts : Forest) (e m : Bool) (q s : ℕ) → s < 256 → passAll e m q ts s ≡ s
+    all_stay : (ts : Forest) (e m : Bool) (q s : ℕ) → s < 256 → pass_all e m q ts s ≡ s
     all_stay [] e m q s h = refl
-    all_stay (t ∷ ts) e m q s h = ap (passAll e m (q + size t) ts) (pass-stays t e m q s h) ∙ all_stay ts e m (q + size t) s h
+    all_stay (t ∷ ts) e m q s h = ap (pass_all e m (q + size t) ts) (pass_stays t e m q s h) ∙ all_stay ts e m (q + size t) s h
 
   -- ---- it is the rules' smallest bad cell
   join : (f : Found) (rest : ℕ → Found) (then : ℕ → ℕ) (s stop end : ℕ)
@@ -75,172 +75,172 @@ module _ (times : List Float) (places marks : List ℕ) where
   join (faulty p) rest then s stop end (e, h) stays more = (ap then e ∙ stays p h, h)
   join (none at) rest then s stop end (e, i) stays more = rw (e, i) more
 
-  at-node : (b : Bool) (f : Found) (then : ℕ → ℕ) (q end : ℕ)
+  at_node : (b : Bool) (f : Found) (then : ℕ → ℕ) (q end : ℕ)
       → q < 256
       → ((p : ℕ) → p < 256 → then p ≡ p)
       → Agrees (then 256) f end
       → Agrees (then (first_of 256 b q)) (cond b f (faulty q)) end
-  at-node true f then q end h stays more = more
-  at-node false f then q end h stays more = (stays q h, h)
+  at_node true f then q end h stays more = more
+  at_node false f then q end h stays more = (stays q h, h)
 
   mutual
-    unfolding pass badCell withCells size
+    unfolding pass bad_cell with_cells size
 
-    pass-is : (t : Tree) (e m : Bool) (q : ℕ) → q + size t ≤ length run → q + size t ≤ 256
-        → Agrees (pass e m q t 256) (badCell e m q (withCells t (drop q run)).0) (q + size t)
-    pass-is (node k n l c b ts) e m q long low =
-        let inner = all-is ts (e || endedIn (cell q)) (marksChildren k) (suc q) (omega arith) (omega arith) in
+    pass_is : (t : Tree) (e m : Bool) (q : ℕ) → q + size t ≤ length run → q + size t ≤ 256
+        → Agrees (pass e m q t 256) (bad_cell e m q (with_cells t (drop q run)).0) (q + size t)
+    pass_is (node k n l c b ts) e m q long low =
+        let inner = all_is ts (e || ended_in (cell q)) (marks_children k) (suc q) (omega arith) (omega arith) in
         let end : suc q + sizes ts ≡ q + suc (sizes ts) = omega arith in
-        rw (drop_cells times places marks q (omega arith)) (at-node (cellAllowed e m k n (cell q))
-        (badCells (e || endedIn (cell q)) (marksChildren k) (suc q) (withCellsAll ts (drop (suc q) run)).0)
-        (passAll (e || endedIn (cell q)) (marksChildren k) (suc q) ts) q (q + suc (sizes ts)) (omega arith)
-        (λ p h. all_stay ts (e || endedIn (cell q)) (marksChildren k) (suc q) p h) (rw end at inner))
+        rw (drop_cells times places marks q (omega arith)) (at_node (cell_allowed e m k n (cell q))
+        (bad_cells (e || ended_in (cell q)) (marks_children k) (suc q) (with_cells_all ts (drop (suc q) run)).0)
+        (pass_all (e || ended_in (cell q)) (marks_children k) (suc q) ts) q (q + suc (sizes ts)) (omega arith)
+        (λ p h. all_stay ts (e || ended_in (cell q)) (marks_children k) (suc q) p h) (rw end at inner))
 
-    all-is : (ts : Forest) (e m : Bool) (q : ℕ) → q + sizes ts ≤ length run → q + sizes ts ≤ 256
-        → Agrees (passAll e m q ts 256) (badCells e m q (withCellsAll ts (drop q run)).0) (q + sizes ts)
-    all-is [] e m q long low = (refl, sym (add-zero q))
-    all-is (t ∷ ts) e m q long low =
-        let first = pass-is t e m q (omega arith) (omega arith) in
-        let rest = all-is ts e m (q + size t) (omega arith) (omega arith) in
-        let cut : (withCells t (drop q run)).1 ≡ drop (q + size t) run = drop-with t (drop q run) ∙ drop-drop (size t) q run in
+    all_is : (ts : Forest) (e m : Bool) (q : ℕ) → q + sizes ts ≤ length run → q + sizes ts ≤ 256
+        → Agrees (pass_all e m q ts 256) (bad_cells e m q (with_cells_all ts (drop q run)).0) (q + sizes ts)
+    all_is [] e m q long low = (refl, sym (add-zero q))
+    all_is (t ∷ ts) e m q long low =
+        let first = pass_is t e m q (omega arith) (omega arith) in
+        let rest = all_is ts e m (q + size t) (omega arith) (omega arith) in
+        let cut : (with_cells t (drop q run)).1 ≡ drop (q + size t) run = drop_with t (drop q run) ∙ drop-drop (size t) q run in
         let end : q + size t + sizes ts ≡ q + (size t + sizes ts) = omega arith in
-        let more = subst (λ (cs : List Cell). Agrees (passAll e m (q + size t) ts 256) (badCells e m (q + size t) (withCellsAll ts cs).0) (q + (size t + sizes ts)))
+        let more = subst (λ (cs : List Cell). Agrees (pass_all e m (q + size t) ts 256) (bad_cells e m (q + size t) (with_cells_all ts cs).0) (q + (size t + sizes ts)))
         (sym cut) (rw end at rest) in
-        join (badCell e m q (withCells t (drop q run)).0) (λ at. badCells e m at (withCellsAll ts (withCells t (drop q run)).1).0)
-        (passAll e m (q + size t) ts) (pass e m q t 256) (q + size t) (q + (size t + sizes ts)) first
+        join (bad_cell e m q (with_cells t (drop q run)).0) (λ at. bad_cells e m at (with_cells_all ts (with_cells t (drop q run)).1).0)
+        (pass_all e m (q + size t) ts) (pass e m q t 256) (q + size t) (q + (size t + sizes ts)) first
         (λ p h. all_stay ts e m (q + size t) p h) more
 
   -- what is found of the whole tree
   pub finds : (t : Tree) (s : ℕ) → size t ≤ length run → size t ≤ 256 → s ≡ pass false false 0 t 256
-      → Agrees s (badCell false false 0 (withCells t run).0) (size t)
+      → Agrees s (bad_cell false false 0 (with_cells t run).0) (size t)
   finds t s long low e =
       let zero : 0 + size t ≡ size t = omega arith in
-      rw e (rw zero at (pass-is t false false 0 (omega arith) (omega arith)))
+      rw e (rw zero at (pass_is t false false 0 (omega arith) (omega arith)))
 
   -- ---- children that are read, the last first
-  sizes-onto : (kids ts : Forest) → sizes (onto kids ts) ≡ sizes (onto kids []) + sizes ts
+  sizes_onto : (kids ts : Forest) → sizes (onto kids ts) ≡ sizes (onto kids []) + sizes ts
   unfolding size
-  sizes-onto [] ts = omega arith
-  sizes-onto (t ∷ kids) ts = omega (arith, sizes-onto kids (t ∷ ts), sizes-onto kids (t ∷ []))
+  sizes_onto [] ts = omega arith
+  sizes_onto (t ∷ kids) ts = omega (arith, sizes_onto kids (t ∷ ts), sizes_onto kids (t ∷ []))
 
-  pass-onto : (kids ts : Forest) (e m : Bool) (q s : ℕ)
-      → passAll e m q (onto kids ts) s ≡ passAll e m (q + sizes (onto kids [])) ts (passAll e m q (onto kids []) s)
+  pass_onto : (kids ts : Forest) (e m : Bool) (q s : ℕ)
+      → pass_all e m q (onto kids ts) s ≡ pass_all e m (q + sizes (onto kids [])) ts (pass_all e m q (onto kids []) s)
   unfolding pass size
-  pass-onto [] ts e m q s = rw (add-zero q)
-  pass-onto (t ∷ kids) ts e m q s =
-      let all = pass-onto kids (t ∷ ts) e m q s in
-      let one = pass-onto kids (t ∷ []) e m q s in
-      let place : q + sizes (onto kids []) + size t ≡ q + sizes (onto kids (t ∷ [])) = omega (arith, sizes-onto kids (t ∷ [])) in
+  pass_onto [] ts e m q s = rw (add-zero q)
+  pass_onto (t ∷ kids) ts e m q s =
+      let all = pass_onto kids (t ∷ ts) e m q s in
+      let one = pass_onto kids (t ∷ []) e m q s in
+      let place : q + sizes (onto kids []) + size t ≡ q + sizes (onto kids (t ∷ [])) = omega (arith, sizes_onto kids (t ∷ [])) in
       all ∙ rw (one, place)
 
   -- ---- what the frames say of the next child's cell: whether it is below an ended child, and whether it may be marked
   abbrev pub ended_of : List Frame → Bool
   ended_of List.[] = false
-  ended_of (List.◌∷◌ (frame p k n l kids m) σ) = ended_of σ || endedIn (cell p)
+  ended_of (List.◌∷◌ (frame p k n l kids m) σ) = ended_of σ || ended_in (cell p)
 
-  abbrev pub mayOf : List Frame → Bool
-  mayOf List.[] = false
-  mayOf (List.◌∷◌ (frame p k n l kids m) σ) = marksChildren k
+  abbrev pub may_of : List Frame → Bool
+  may_of List.[] = false
+  may_of (List.◌∷◌ (frame p k n l kids m) σ) = marks_children k
 
   -- s is the first bad cell before `at`
   abbrev Celled : List Frame → ℕ → ℕ → Type 0
   Celled List.[] s at = s ≡ 256
   Celled (List.◌∷◌ (frame p k n l kids m) σ) s at =
       (s₀ : ℕ) × (Celled σ s₀ p × ((suc p + sizes (onto kids []) ≡ at) ×
-      (s ≡ passAll (ended_of σ || endedIn (cell p)) (marksChildren k) (suc p) (onto kids []) (first_of s₀ (cellAllowed (ended_of σ) (mayOf σ) k n (cell p)) p))))
+      (s ≡ pass_all (ended_of σ || ended_in (cell p)) (marks_children k) (suc p) (onto kids []) (first_of s₀ (cell_allowed (ended_of σ) (may_of σ) k n (cell p)) p))))
 
   -- the code's arrays have for each open node what is said around it
   abbrev Flags : List Bool → List Bool → List Frame → Type 0
   Flags under may List.[] = Unit {0}
-  Flags under may (List.◌∷◌ f σ) = (get_or under (length σ) false ≡ ended_of σ) × ((get_or may (length σ) false ≡ mayOf σ) × Flags under may σ)
+  Flags under may (List.◌∷◌ f σ) = (get_or under (length σ) false ≡ ended_of σ) × ((get_or may (length σ) false ≡ may_of σ) × Flags under may σ)
 
   -- what is known where a tree is next, and where one is read
   pub record Known (under may : List Bool) (ended mayEnd : Bool) (s at : ℕ) (σ : List Frame) : Type 0 where
     cells_are : Celled σ s at
     flags : Flags under may σ
-    pub is-ended : ended ≡ ended_of σ
-    pub is-may : mayEnd ≡ mayOf σ
+    pub is_ended : ended ≡ ended_of σ
+    pub is_may : mayEnd ≡ may_of σ
 
   pub record Done (under may : List Bool) (ended mayEnd : Bool) (s : ℕ) (t : Tree) (q : ℕ) (σ : List Frame) : Type 0 where
     before : ℕ
     cells_are : Celled σ before q
-    passes : s ≡ pass (ended_of σ) (mayOf σ) q t before
+    passes : s ≡ pass (ended_of σ) (may_of σ) q t before
     flags : Flags under may σ
-    is-ended : ended ≡ ended_of σ
-    is-may : mayEnd ≡ mayOf σ
+    is_ended : ended ≡ ended_of σ
+    is_may : mayEnd ≡ may_of σ
 
-  pub first-known : (under may : List Bool) → Known under may false false 256 0 List.[]
-  first-known under may = record { cells_are = refl; flags = tt; is-ended = refl; is-may = refl }
+  pub first_known : (under may : List Bool) → Known under may false false 256 0 List.[]
+  first_known under may = record { cells_are = refl; flags = tt; is_ended = refl; is_may = refl }
 
-  flags-keep : (under may : List Bool) (i : ℕ) (a b : Bool) (σ : List Frame) → length σ ≤ i → Flags under may σ → Flags (set under i a) (set may i b) σ
-  flags-keep under may i a b List.[] h f = tt
-  flags-keep under may i a b (List.◌∷◌ g σ) h (u, (y, f)) = (
+  flags_keep : (under may : List Bool) (i : ℕ) (a b : Bool) (σ : List Frame) → length σ ≤ i → Flags under may σ → Flags (set under i a) (set may i b) σ
+  flags_keep under may i a b List.[] h f = tt
+  flags_keep under may i a b (List.◌∷◌ g σ) h (u, (y, f)) = (
     get_or-set_other under i (length σ) a false (omega arith) ∙ u,
-    (get_or-set_other may i (length σ) b false (omega arith) ∙ y, flags-keep under may i a b σ (omega arith) f),
+    (get_or-set_other may i (length σ) b false (omega arith) ∙ y, flags_keep under may i a b σ (omega arith) f),
   )
 
   module _ {under may : List Bool} {ended mayEnd : Bool} {s at : ℕ} where
     -- the cell at `at` is looked at
-    module _ (k : Kind) (n : ℕ) (l : Float) (fine : Bool) (is : fine ≡ cellAllowed ended mayEnd k n (cell at)) where
-      looked : (σ : List Frame) → Known under may ended mayEnd s at σ → fine ≡ cellAllowed (ended_of σ) (mayOf σ) k n (cell at)
-      looked σ h = is ∙ (let a = h.is-ended in let b = h.is-may in cc)
+    module _ (k : Kind) (n : ℕ) (l : Float) (fine : Bool) (is : fine ≡ cell_allowed ended mayEnd k n (cell at)) where
+      looked : (σ : List Frame) → Known under may ended mayEnd s at σ → fine ≡ cell_allowed (ended_of σ) (may_of σ) k n (cell at)
+      looked σ h = is ∙ (let a = h.is_ended in let b = h.is_may in cc)
 
-      pub leaf-done : (σ : List Frame) → Known under may ended mayEnd s at σ → Done under may ended mayEnd (first_of s fine at) (made k n l []) at σ
+      pub leaf_done : (σ : List Frame) → Known under may ended mayEnd s at σ → Done under may ended mayEnd (first_of s fine at) (made k n l []) at σ
       unfolding pass
-      leaf-done σ h = record {
+      leaf_done σ h = record {
         before = s;
         cells_are = h.cells_are;
         passes = ap (λ (b : Bool). first_of s b at) (looked σ h);
         flags = h.flags;
-        is-ended = h.is-ended;
-        is-may = h.is-may;
+        is_ended = h.is_ended;
+        is_may = h.is_may;
       }
 
       pub opened : (open' m : ℕ) (σ : List Frame) → open' ≡ length σ → open' < length under → open' < length may
           → Known under may ended mayEnd s at σ
-          → Known (set under open' ended) (set may open' mayEnd) (ended || endedIn (cell at)) (marksChildren k) (first_of s fine at) (at + 1)
+          → Known (set under open' ended) (set may open' mayEnd) (ended || ended_in (cell at)) (marks_children k) (first_of s fine at) (at + 1)
           (List.◌∷◌ (frame at k n l [] m) σ)
       unfolding pass size
       opened open' m σ lev a b h = record {
         cells_are = (s, (h.cells_are, (omega arith, ap (λ (b : Bool). first_of s b at) (looked σ h))));
         flags = (
-          subst (λ (i : ℕ). get_or (set under open' ended) i false ≡ ended_of σ) lev (get_or-set_same under open' ended false a ∙ h.is-ended),
+          subst (λ (i : ℕ). get_or (set under open' ended) i false ≡ ended_of σ) lev (get_or-set_same under open' ended false a ∙ h.is_ended),
           (
-            subst (λ (i : ℕ). get_or (set may open' mayEnd) i false ≡ mayOf σ) lev (get_or-set_same may open' mayEnd false b ∙ h.is-may),
-            flags-keep under may open' ended mayEnd σ (omega arith) h.flags,
+            subst (λ (i : ℕ). get_or (set may open' mayEnd) i false ≡ may_of σ) lev (get_or-set_same may open' mayEnd false b ∙ h.is_may),
+            flags_keep under may open' ended mayEnd σ (omega arith) h.flags,
           ),
         );
-        is-ended = ap (λ (b : Bool). b || endedIn (cell at)) h.is-ended;
-        is-may = refl;
+        is_ended = ap (λ (b : Bool). b || ended_in (cell at)) h.is_ended;
+        is_may = refl;
       }
 
   module _ {under may : List Bool} {ended mayEnd : Bool} {s : ℕ} where
     module _ (p : ℕ) (k : Kind) (n : ℕ) (l : Float) (kids : Forest) (m : ℕ) (σ : List Frame) (t : Tree) (q : ℕ)
         (h : Done under may ended mayEnd s t q (List.◌∷◌ (frame p k n l kids m) σ)) where
       -- the children up to t
-      upto : s ≡ passAll (ended_of σ || endedIn (cell p)) (marksChildren k) (suc p) (onto kids (t ∷ []))
-          (first_of h.cells_are.0 (cellAllowed (ended_of σ) (mayOf σ) k n (cell p)) p)
+      upto : s ≡ pass_all (ended_of σ || ended_in (cell p)) (marks_children k) (suc p) (onto kids (t ∷ []))
+          (first_of h.cells_are.0 (cell_allowed (ended_of σ) (may_of σ) k n (cell p)) p)
       unfolding pass
       upto =
           let c = h.cells_are in
-          let first = first_of c.0 (cellAllowed (ended_of σ) (mayOf σ) k n (cell p)) p in
-          let all = pass-onto kids (t ∷ []) (ended_of σ || endedIn (cell p)) (marksChildren k) (suc p) first in
+          let first = first_of c.0 (cell_allowed (ended_of σ) (may_of σ) k n (cell p)) p in
+          let all = pass_onto kids (t ∷ []) (ended_of σ || ended_in (cell p)) (marks_children k) (suc p) first in
           h.passes ∙ rw (c.1.1.1, ← c.1.1.0) (sym all)
 
       pub next_known : (at m' : ℕ) → at ≡ q + size t → Known under may ended mayEnd s at (List.◌∷◌ (frame p k n l (t ∷ kids) m') σ)
       unfolding size
       next_known at m' e =
           let c = h.cells_are in
-          let place : suc p + sizes (onto kids (t ∷ [])) ≡ at = omega (arith, e, c.1.1.0, sizes-onto kids (t ∷ [])) in
-          record { cells_are = (c.0, (c.1.0, (place, upto))); flags = h.flags; is-ended = h.is-ended; is-may = h.is-may }
+          let place : suc p + sizes (onto kids (t ∷ [])) ≡ at = omega (arith, e, c.1.1.0, sizes_onto kids (t ∷ [])) in
+          record { cells_are = (c.0, (c.1.0, (place, upto))); flags = h.flags; is_ended = h.is_ended; is_may = h.is_may }
 
-      pub close-done : (open' : ℕ) → open' - 1 ≡ length σ
+      pub close_done : (open' : ℕ) → open' - 1 ≡ length σ
           → Done under may (get_or under (open' - 1) false) (get_or may (open' - 1) false) s (made k n l (onto kids (t ∷ []))) p σ
       unfolding pass
-      close-done open' top =
+      close_done open' top =
           let c = h.cells_are in
           let f = h.flags in
-          rw top (record { before = c.0; cells_are = c.1.0; passes = upto; flags = f.1.1; is-ended = f.0; is-may = f.1.0 })
+          rw top (record { before = c.0; cells_are = c.1.0; passes = upto; flags = f.1.1; is_ended = f.0; is_may = f.1.0 })
 
-  pub root-passes : {under may : List Bool} {ended mayEnd : Bool} {s : ℕ} (t : Tree) → Done under may ended mayEnd s t 0 List.[] → s ≡ pass false false 0 t 256
-  root-passes {s} t h = rw (← h.cells_are) h.passes
+  pub root_passes : {under may : List Bool} {ended mayEnd : Bool} {s : ℕ} (t : Tree) → Done under may ended mayEnd s t 0 List.[] → s ≡ pass false false 0 t 256
+  root_passes {s} t h = rw (← h.cells_are) h.passes

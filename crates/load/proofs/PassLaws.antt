@@ -13,8 +13,8 @@ use lib.ListN.{length, get_or, set, length-set}
 use lib.Seq.{get_or-set_same, get_or-set_other}
 use Rattle.rules.specs.declared.behavior.Kind.TheVariants.{Wait}
 use Rattle.rules.specs.Kinds.{kind_of}
-use Rattle.rules.specs.Table.{cleaned, number, zeroBits, rowAllowed}
-use Rattle.rules.specs.Cells.{cell_of, elapsed, inUse, cellAllowed}
+use Rattle.rules.specs.Table.{cleaned, number, zero_bits, row_allowed}
+use Rattle.rules.specs.Cells.{cell_of, elapsed, in_use, cell_allowed}
 use Rattle.refine.specs.Words.{pack}
 use Rattle.load.specs.Scans.{PlainWait, Passes}
 
@@ -39,29 +39,29 @@ between (fin true (suc m) e) a b =
 
 -- ---- the cell of a Wait without a place
 module _ (m : Bool) (x : Float) (k : ℕ) where
-  pub unmarked : k ≡ 0 → elapsed x ≡ inUse m Wait 0 (cell_of x 0 k)
+  pub unmarked : k ≡ 0 → elapsed x ≡ in_use m Wait 0 (cell_of x 0 k)
   unmarked h = rw h (sym (and-true (elapsed x)))
 
   none : (a b : Bool) → false ≡ a && false && b && true
   none true b = refl
   none false b = refl
 
-  pub may-not : (k ≡ 0 → ⊥) → m ≡ false → false ≡ inUse m Wait 0 (cell_of x 0 k)
-  may-not h e = rw (ne_eqb k 0 h, e) (none (eqb k 1) (zeroBits x))
+  pub may_not : (k ≡ 0 → ⊥) → m ≡ false → false ≡ in_use m Wait 0 (cell_of x 0 k)
+  may_not h e = rw (ne_eqb k 0 h, e) (none (eqb k 1) (zero_bits x))
 
-  pub no-mark : (k ≡ 0 → ⊥) → (k ≡ 1 → ⊥) → false ≡ inUse m Wait 0 (cell_of x 0 k)
-  no-mark h g = rw (ne_eqb k 0 h, ne_eqb k 1 g)
+  pub no_mark : (k ≡ 0 → ⊥) → (k ≡ 1 → ⊥) → false ≡ in_use m Wait 0 (cell_of x 0 k)
+  no_mark h g = rw (ne_eqb k 0 h, ne_eqb k 1 g)
 
-  pub marked : k ≡ 1 → m ≡ true → zeroBits x ≡ inUse m Wait 0 (cell_of x 0 k)
-  marked h e = rw (h, e) (sym (and-true (zeroBits x)))
+  pub marked : k ≡ 1 → m ≡ true → zero_bits x ≡ in_use m Wait 0 (cell_of x 0 k)
+  marked h e = rw (h, e) (sym (and-true (zero_bits x)))
 
-pub plain : (m : Bool) (k n p : ℕ) (l x : Float) (mark : ℕ) → k + n + p ≤ 0 → number (cleaned l) ≡ true → inUse m Wait 0 (cell_of x 0 mark) ≡ true → PlainWait m k n l x p mark
-unfolding rowAllowed cellAllowed kind_of
+pub plain : (m : Bool) (k n p : ℕ) (l x : Float) (mark : ℕ) → k + n + p ≤ 0 → number (cleaned l) ≡ true → in_use m Wait 0 (cell_of x 0 mark) ≡ true → PlainWait m k n l x p mark
+unfolding row_allowed cell_allowed kind_of
 plain m k n p l x mark z a b =
     let k-zero : k ≡ 0 = omega arith in
     let n-zero : n ≡ 0 = omega arith in
     let p-zero : p ≡ 0 = omega arith in
-    record { code = k-zero; at-start = p-zero; row = rw (k-zero, n-zero, a); cell = rw (k-zero, p-zero) b }
+    record { code = k-zero; at_start = p-zero; row = rw (k-zero, n-zero, a); cell = rw (k-zero, p-zero) b }
 
 -- ---- no Wait yet
 pub passes_none : {kinds ns : List ℕ} {limits times : List Float} {places marks : List ℕ} {m : Bool} {ws : List ℕ} {from to : ℕ}
@@ -105,8 +105,8 @@ module _ {kinds ns : List ℕ} {limits times : List Float} {places marks : List 
   module _ (h : Passes kinds ns limits times places marks m ws₀ ws from to at) (inside : at < to) (low : to ≤ 256)
       (here : PlainWait m (get_or kinds at 0) (get_or ns at 0) (get_or limits at nan) (get_or times at nan) (get_or places at 0) (get_or marks at 0))
       (w : ℕ) (is : w ≡ pack 0 0 0 (get_or marks at 0) false 0) where
-    long-at : at < length ws
-    long-at = omega (arith, h.long)
+    long_at : at < length ws
+    long_at = omega (arith, h.long)
 
     upto : (i : ℕ) → i < at + 1 → (P : ℕ → Type 0) → (i < at → P i) → P at → P i
     upto i a P f g = go (eqb i at) refl
@@ -115,11 +115,11 @@ module _ {kinds ns : List ℕ} {limits times : List Float} {places marks : List 
         go true e = let z = eqb-true i at e in rw z g
         go false e = f (omega (arith, eqb-false i at e))
 
-    word-here : get_or (set ws at w) at 0 ≡ pack 0 (get_or kinds at 0) (get_or places at 0) (get_or marks at 0) false 0
-    word-here = rw (here.code, here.at-start) (get_or-set_same ws at w 0 long-at ∙ is)
+    word_here : get_or (set ws at w) at 0 ≡ pack 0 (get_or kinds at 0) (get_or places at 0) (get_or marks at 0) false 0
+    word_here = rw (here.code, here.at_start) (get_or-set_same ws at w 0 long_at ∙ is)
 
-    pub passes-more : Passes kinds ns limits times places marks m ws₀ (set ws at w) from to (at + 1)
-    passes-more = record {
+    pub passes_more : Passes kinds ns limits times places marks m ws₀ (set ws at w) from to (at + 1)
+    passes_more = record {
       lower = omega (arith, h.lower);
       upper = omega arith;
       long = length-set ws at w ∙ h.long;
@@ -127,7 +127,7 @@ module _ {kinds ns : List ℕ} {limits times : List Float} {places marks : List 
           (λ j. PlainWait m (get_or kinds j 0) (get_or ns j 0) (get_or limits j nan) (get_or times j nan) (get_or places j 0) (get_or marks j 0)) (λ z. h.plain i a z) here;
       word = λ i a b. upto i b
           (λ j. get_or (set ws at w) j 0 ≡ pack 0 (get_or kinds j 0) (get_or places j 0) (get_or marks j 0) false 0)
-          (λ z. get_or-set_other ws at i w 0 (omega (arith, z)) ∙ h.word i a z) word-here;
+          (λ z. get_or-set_other ws at i w 0 (omega (arith, z)) ∙ h.word i a z) word_here;
       before = λ i a. get_or-set_other ws at i w 0 (omega (arith, a, h.lower)) ∙ h.before i a;
       behind = λ i a. get_or-set_other ws at i w 0 (omega (arith, a)) ∙ h.behind i (omega (arith, a));
     }

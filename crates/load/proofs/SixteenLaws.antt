@@ -15,16 +15,16 @@ use lib.ListN.{length, get_or, set, length-set}
 use lib.Seq.{get_or-set_same, get_or-set_other}
 use Rattle.rules.specs.Table.{cleaned, number}
 use Rattle.rules.specs.Cells.{elapsed}
-use Rattle.tables.proofs.Bits.{elapsed-bits}
-use Rattle.work.proofs.Laws.{or-first, or-second}
+use Rattle.tables.proofs.Bits.{elapsed_bits}
+use Rattle.work.proofs.Laws.{or_first, or_second}
 use Rattle.refine.specs.Words.{pack}
 use Rattle.load.specs.Scans.{PlainWait, Passes}
 use Rattle.load.specs.Sixteens.{Covers, Bare, Timed, Groups, Cleared}
 use Rattle.load.proofs.PassLaws.{plain, unmarked}
 
 -- ---- a fold by `|` is above each
-pub covers-none : {xs : List ℕ} {at all : ℕ} → Covers xs at 0 all
-covers-none = record { each = λ k h. absurd (omega arith) }
+pub covers_none : {xs : List ℕ} {at all : ℕ} → Covers xs at 0 all
+covers_none = record { each = λ k h. absurd (omega arith) }
 
 covers_more : {xs : List ℕ} {at n a b : ℕ} → Covers xs at n a → a ≤ b → get_or xs (at + n) 0 ≤ b → Covers xs at (n + 1) b
 covers_more {xs} {at} {n} {a} {b} h l here = record { each = below_more (λ k. get_or xs (at + k) 0 ≤ b) n (λ k i. let e = h.each k i in omega arith) here }
@@ -33,27 +33,27 @@ abbrev folded : List ℕ → List ℕ → ℕ → ℕ → ℕ → ℕ
 folded xs ys at n all = bit_or (bit_or all (get_or xs (at + n) 0)) (get_or ys (at + n) 0)
 
 module _ {xs ys : List ℕ} {at n all : ℕ} where
-  pub covers-both : Covers xs at n all → Covers ys at n all → (Covers xs at (n + 1) (folded xs ys at n all)) × (Covers ys at (n + 1) (folded xs ys at n all))
-  covers-both a b =
+  pub covers_both : Covers xs at n all → Covers ys at n all → (Covers xs at (n + 1) (folded xs ys at n all)) × (Covers ys at (n + 1) (folded xs ys at n all))
+  covers_both a b =
       let x = get_or xs (at + n) 0 in
       let y = get_or ys (at + n) 0 in
-      let p = or-first all x in
-      let q = or-second all x in
-      let r = or-first (bit_or all x) y in
-      (covers_more a (omega arith) (omega arith), covers_more b (omega arith) (or-second (bit_or all x) y))
+      let p = or_first all x in
+      let q = or_second all x in
+      let r = or_first (bit_or all x) y in
+      (covers_more a (omega arith) (omega arith), covers_more b (omega arith) (or_second (bit_or all x) y))
 
-pub covers-zero : {xs : List ℕ} {at n all : ℕ} → Covers xs at n all → all ≤ 0 → (k : ℕ) → k < n → get_or xs (at + k) 0 ≡ 0
-covers-zero c z k h = let e = c.each k h in omega arith
+pub covers_zero : {xs : List ℕ} {at n all : ℕ} → Covers xs at n all → all ≤ 0 → (k : ℕ) → k < n → get_or xs (at + k) 0 ≡ 0
+covers_zero c z k h = let e = c.each k h in omega arith
 
 -- ---- a time that is at most a limit, which is below infinity
 abbrev infinity : Float
 infinity = of_bits binary64 0x7ff0000000000000
 
-pub le-no-nan : (x y : Float) → le x y ≡ true → T (not (is_nan x))
+pub le_no_nan : (x y : Float) → le x y ≡ true → T (not (is_nan x))
 unfolding le lt eq is_nan
-le-no-nan nan y e = absurd (false≢true e)
-le-no-nan (inf s) y e = tt
-le-no-nan (fin s m d) y e = tt
+le_no_nan nan y e = absurd (false≢true e)
+le_no_nan (inf s) y e = tt
+le_no_nan (fin s m d) y e = tt
 
 above_zero : (a b : ℕ) → 0 < b → eqb a b && (false || eqb a 0) ≡ true → ⊥
 above_zero a b h e = go (eqb a b) refl e
@@ -63,27 +63,27 @@ above_zero a b h e = go (eqb a b) refl e
     go true z f = let x = eqb-true a b z in let y = eqb-true a 0 f in omega arith
 
 -- no limit below zero is above a time
-pub limit-good : (x y : Float) → elapsed x ≡ true → le x y ≡ true → lt y infinity ≡ true → number (cleaned y) ≡ true
+pub limit_good : (x y : Float) → elapsed x ≡ true → le x y ≡ true → lt y infinity ≡ true → number (cleaned y) ≡ true
 unfolding le lt eq of_bits of_fields
-limit-good nan y w a b = absurd (false≢true w)
-limit-good (inf true) y w a b = absurd (false≢true w)
-limit-good (fin true n c) y w a b = absurd (false≢true w)
-limit-good (inf false) nan w a b = absurd (false≢true a)
-limit-good (inf false) (inf true) w a b = absurd (false≢true a)
-limit-good (inf false) (inf false) w a b = absurd (false≢true b)
-limit-good (inf false) (fin s m d) w a b = absurd (false≢true a)
-limit-good (fin false n c) nan w a b = absurd (false≢true a)
-limit-good (fin false n c) (inf true) w a b = absurd (false≢true a)
-limit-good (fin false n c) (inf false) w a b = absurd (false≢true b)
-limit-good (fin false n c) (fin s zero d) w a b = refl
-limit-good (fin false n c) (fin false (suc m) d) w a b = refl
-limit-good (fin false n c) (fin true (suc m) d) w a b =
+limit_good nan y w a b = absurd (false≢true w)
+limit_good (inf true) y w a b = absurd (false≢true w)
+limit_good (fin true n c) y w a b = absurd (false≢true w)
+limit_good (inf false) nan w a b = absurd (false≢true a)
+limit_good (inf false) (inf true) w a b = absurd (false≢true a)
+limit_good (inf false) (inf false) w a b = absurd (false≢true b)
+limit_good (inf false) (fin s m d) w a b = absurd (false≢true a)
+limit_good (fin false n c) nan w a b = absurd (false≢true a)
+limit_good (fin false n c) (inf true) w a b = absurd (false≢true a)
+limit_good (fin false n c) (inf false) w a b = absurd (false≢true b)
+limit_good (fin false n c) (fin s zero d) w a b = refl
+limit_good (fin false n c) (fin false (suc m) d) w a b = refl
+limit_good (fin false n c) (fin true (suc m) d) w a b =
     absurd (above_zero (n * up c * down d) (suc m * up d * down c) (mul-pos (mul-pos (zero-lt-suc m) (up_pos d)) (down_pos c)) a)
 
 pub timed : (x y : Float) → T (fits binary64 x) → le x y ≡ true → lt y infinity ≡ true → to_bits binary64 x < 0x8000000000000000 → Timed y x
 timed x y ok a b h =
-    let w = elapsed-bits x ok (le-no-nan x y a) ∙ lt-ltb _ _ h in
-    record { limits = limit-good x y w a b; waited = w }
+    let w = elapsed_bits x ok (le_no_nan x y a) ∙ lt-ltb _ _ h in
+    record { limits = limit_good x y w a b; waited = w }
 
 -- ---- the groups, one after the other
 -- what is known before the times are looked at; `any` tells whether some group may be plain
@@ -121,9 +121,9 @@ module _ {kinds ns places marks : List ℕ} {last : ℕ} {groups : List Bool} {a
           go true t = let z = eqb-true a b t in rw z h
           go false t = f (λ e. sym (get_or-set_other groups b a true false (eqb-false a b t)) ∙ e)
 
-  pub groups-timed : {limits times : List Float} → ((i : ℕ) → i < last → Timed (get_or limits i nan) (get_or times i nan))
+  pub groups_timed : {limits times : List Float} → ((i : ℕ) → i < last → Timed (get_or limits i nan) (get_or times i nan))
       → Groups kinds ns limits times places marks groups
-  groups-timed h = record {
+  groups_timed h = record {
     long = s.long;
     bare = s.bare;
     timed = λ b i e k z. h (16 * b + 1 + k) (omega (arith, z, s.inside b i e));
@@ -140,8 +140,8 @@ groups_none l h = record {
 }
 
 -- ---- words that are set to 0
-pub cleared-none : {ws : List ℕ} {at : ℕ} → length ws ≡ 260 → Cleared ws ws at 0
-cleared-none l = record { long = l; zeros = λ k h. absurd (omega arith); before = λ i h. refl; behind = λ i h. refl }
+pub cleared_none : {ws : List ℕ} {at : ℕ} → length ws ≡ 260 → Cleared ws ws at 0
+cleared_none l = record { long = l; zeros = λ k h. absurd (omega arith); before = λ i h. refl; behind = λ i h. refl }
 
 pub cleared_more : {ws₀ ws : List ℕ} {at n : ℕ} → Cleared ws₀ ws at n → at + n < 260 → Cleared ws₀ (set ws (at + n) 0) at (n + 1)
 cleared_more {ws₀} {ws} {at} {n} c room = record {
@@ -154,33 +154,33 @@ cleared_more {ws₀} {ws} {at} {n} c room = record {
 }
 
 -- ---- sixteen Waits more
-bare-plain : (kinds ns : List ℕ) (limits times : List Float) (places marks : List ℕ) (i : ℕ) (m : Bool)
+bare_plain : (kinds ns : List ℕ) (limits times : List Float) (places marks : List ℕ) (i : ℕ) (m : Bool)
     → Bare kinds ns places marks i
     → Timed (get_or limits i nan) (get_or times i nan)
     → PlainWait m (get_or kinds i 0) (get_or ns i 0) (get_or limits i nan) (get_or times i nan) (get_or places i 0) (get_or marks i 0)
-bare-plain kinds ns limits times places marks i m b t =
-    plain m _ _ _ _ _ _ (omega (arith, b.kind, b.leaf, b.at-start)) t.limits
+bare_plain kinds ns limits times places marks i m b t =
+    plain m _ _ _ _ _ _ (omega (arith, b.kind, b.leaf, b.at_start)) t.limits
     (sym (unmarked m (get_or times i nan) (get_or marks i 0) b.unmarked) ∙ t.waited)
 
-bare-word : {kinds ns places marks : List ℕ} {i : ℕ} → Bare kinds ns places marks i → 0 ≡ pack 0 (get_or kinds i 0) (get_or places i 0) (get_or marks i 0) false 0
+bare_word : {kinds ns places marks : List ℕ} {i : ℕ} → Bare kinds ns places marks i → 0 ≡ pack 0 (get_or kinds i 0) (get_or places i 0) (get_or marks i 0) false 0
 unfolding pack
-bare-word b = rw (b.kind, b.at-start, b.unmarked)
+bare_word b = rw (b.kind, b.at_start, b.unmarked)
 
 module _ {kinds ns : List ℕ} {limits times : List Float} {places marks : List ℕ} {m : Bool} {ws₀ ws ws' : List ℕ} {from to at : ℕ} {groups : List Bool} where
-  pub passes-sixteen : Passes kinds ns limits times places marks m ws₀ ws from to at
+  pub passes_sixteen : Passes kinds ns limits times places marks m ws₀ ws from to at
       → at + 16 ≤ to → to ≤ 256 → at % 16 ≡ 1
       → Groups kinds ns limits times places marks groups → get_or groups (at / 16) false ≡ true → Cleared ws ws' at 16
       → Passes kinds ns limits times places marks m ws₀ ws' from to (at + 16)
-  passes-sixteen h room low first g e c = record {
+  passes_sixteen h room low first g e c = record {
     lower = omega (arith, h.lower);
     upper = room;
     long = c.long;
-    plain = λ i a b. in-run i b
+    plain = λ i a b. in_run i b
         (λ j. PlainWait m (get_or kinds j 0) (get_or ns j 0) (get_or limits j nan) (get_or times j nan) (get_or places j 0) (get_or marks j 0))
-        (λ z. h.plain i a z) (λ k z. bare-plain kinds ns limits times places marks (at + k) m (bare k z) (good k z));
-    word = λ i a b. in-run i b
+        (λ z. h.plain i a z) (λ k z. bare_plain kinds ns limits times places marks (at + k) m (bare k z) (good k z));
+    word = λ i a b. in_run i b
         (λ j. get_or ws' j 0 ≡ pack 0 (get_or kinds j 0) (get_or places j 0) (get_or marks j 0) false 0)
-        (λ z. c.before i z ∙ h.word i a z) (λ k z. c.zeros k z ∙ bare-word (bare k z));
+        (λ z. c.before i z ∙ h.word i a z) (λ k z. c.zeros k z ∙ bare_word (bare k z));
     before = λ i a. c.before i (omega (arith, a, h.lower)) ∙ h.before i a;
     behind = λ i a. c.behind i a ∙ h.behind i (omega (arith, a));
   }
@@ -194,8 +194,8 @@ module _ {kinds ns : List ℕ} {limits times : List Float} {places marks : List 
       good : (k : ℕ) → k < 16 → Timed (get_or limits (at + k) nan) (get_or times (at + k) nan)
       good k z = rw is (g.timed (at / 16) (omega arith) e k z)
 
-      in-run : (i : ℕ) → i < at + 16 → (P : ℕ → Type 0) → (i < at → P i) → ((k : ℕ) → k < 16 → P (at + k)) → P i
-      in-run i b P f s = go (ltb i at) refl
+      in_run : (i : ℕ) → i < at + 16 → (P : ℕ → Type 0) → (i < at → P i) → ((k : ℕ) → k < 16 → P (at + k)) → P i
+      in_run i b P f s = go (ltb i at) refl
         where
           go : (t : Bool) → ltb i at ≡ t → P i
           go true t = f (ltb-true i at t)

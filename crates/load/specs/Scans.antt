@@ -4,31 +4,31 @@ use Rattle.std.specs.Float.{nan}
 use Rattle.rules.specs.Kinds.{kind_of}
 use Rattle.rules.specs.Tree.{Tree, size, depth}
 use Rattle.rules.specs.Table.{cleaned, good, bad, rows, table}
-use Rattle.rules.specs.Cells.{cell_of, cellAllowed, cells, withCells, Found, faulty, none, badCell}
+use Rattle.rules.specs.Cells.{cell_of, cell_allowed, cells, with_cells, Found, faulty, none, bad_cell}
 use Rattle.tables.specs.declared.table.Row.TheVariants.{Children}
-use Rattle.tables.specs.Checks.{rowOf}
+use Rattle.tables.specs.Checks.{row_of}
 use Rattle.tables.specs.At.{At}
 use Rattle.refine.specs.Words.{pack}
 use Rattle.load.specs.declared.pass.Scanned.{Scanned}
 use Rattle.load.specs.declared.pass.Scanned.TheVariants.{Bad, Faulty, Good}
-use Rattle.load.specs.Load.{loadWords}
+use Rattle.load.specs.Load.{load_words}
 
 -- places or marks that words are made of: those that are lent, or none
-abbrev pub startFrom : Bool → ℕ → List ℕ → List ℕ
-startFrom fresh n xs = cond fresh (replicate n 0) xs
+abbrev pub start_from : Bool → ℕ → List ℕ → List ℕ
+start_from fresh n xs = cond fresh (replicate n 0) xs
 
-abbrev pub scannedAs : ℕ → ℕ → Scanned
-scannedAs s n = cond (eqb s 256) (Good n) (Faulty s)
+abbrev pub scanned_as : ℕ → ℕ → Scanned
+scanned_as s n = cond (eqb s 256) (Good n) (Faulty s)
 
-abbrev pub withBelow : ℕ → ℕ → ℕ
-withBelow w b = w / 256 * 256 + b % 256
+abbrev pub with_below : ℕ → ℕ → ℕ
+with_below w b = w / 256 * 256 + b % 256
 
 -- a Wait without a place whose limit and cell are good, where no ended child is above it
 pub record PlainWait (mayEnd : Bool) (kind n : ℕ) (limit time : Float) (place mark : ℕ) : Type 0 where
   pub code : kind ≡ 0
-  pub at-start : place ≡ 0
-  pub row : rowOf kind n (cleaned limit) ≡ Children 0
-  pub cell : cellAllowed false mayEnd (kind_of kind) n (cell_of time place mark) ≡ true
+  pub at_start : place ≡ 0
+  pub row : row_of kind n (cleaned limit) ≡ Children 0
+  pub cell : cell_allowed false mayEnd (kind_of kind) n (cell_of time place mark) ≡ true
 
 module _ (kinds ns : List ℕ) (limits : List Float) (times : List Float) (places marks : List ℕ) where
   -- from `from` to r, at most to `to`, plain Waits stand, and their words; all others stay
@@ -45,19 +45,19 @@ module _ (kinds ns : List ℕ) (limits : List Float) (times : List Float) (place
   pub record Lent (n : ℕ) : Type 0 where
     pub nodes : n ≡ length (rows kinds ns limits)
     pub times_long : n ≤ length times
-    pub places-long : n ≤ length places
-    pub marks-long : n ≤ length marks
+    pub places_long : n ≤ length places
+    pub marks_long : n ≤ length marks
 
   -- the smallest bad cell of the tree with the lent cells
   abbrev pub found : Tree → Found
-  found t = badCell false false 0 (withCells t (cells times places marks)).0
+  found t = bad_cell false false 0 (with_cells t (cells times places marks)).0
 
   -- a tree whose smallest bad cell is at p
   pub record Fault (p : ℕ) : Type 0 where
     pub tree : Tree
     pub is : table kinds ns limits ≡ good tree
     pub sized : size tree ≡ length (rows kinds ns limits)
-    pub bad-at : found tree ≡ faulty p
+    pub bad_at : found tree ≡ faulty p
 
   -- a tree of n nodes without a bad cell, and its words over those that stood there; a tree that starts fresh has no cells to look at
   pub record Accepted (fresh : Bool) (ws₀ ws : List ℕ) (n : ℕ) : Type 0 where
@@ -71,7 +71,7 @@ module _ (kinds ns : List ℕ) (limits : List Float) (times : List Float) (place
     pub stands : At kinds ns limits ends 0 tree
     pub behind : ℕ
     pub fine : fresh ≡ false → found tree ≡ none behind
-    pub words : ws ≡ loadWords fresh kinds ends (startFrom fresh n places) (startFrom fresh n marks) 0 n ws₀
+    pub words : ws ≡ load_words fresh kinds ends (start_from fresh n places) (start_from fresh n marks) 0 n ws₀
 
   -- only a tree that does not start fresh can have a bad cell
   abbrev pub Scans : Bool → List ℕ → List ℕ → Scanned → Type 0

@@ -12,7 +12,7 @@ pub record Covers (xs : List ℕ) (at n all : ℕ) : Type 0 where
 pub record Bare (kinds ns places marks : List ℕ) (i : ℕ) : Type 0 where
   pub kind : get_or kinds i 0 ≡ 0
   pub leaf : get_or ns i 0 ≡ 0
-  pub at-start : get_or places i 0 ≡ 0
+  pub at_start : get_or places i 0 ≡ 0
   pub unmarked : get_or marks i 0 ≡ 0
 
 -- a Wait's limit, and the time of one that has no mark

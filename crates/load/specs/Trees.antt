@@ -14,132 +14,132 @@ use Rattle.rules.specs.declared.behavior.Kind.TheVariants.{Wait, WaitForever, Ac
 use Rattle.rules.specs.declared.behavior.Kind.TheVariants.{Select, If, Sequence, MemorylessSequence, MemorylessSelector}
 use Rattle.rules.specs.declared.behavior.Kind.TheVariants.{While, WhileAll, WhenAll, WhenAny, After, Race}
 use Rattle.rules.specs.Kinds.{code, kind_of, fewest, most, children, timed}
-use Rattle.rules.specs.Codes.{code-kind}
-use Rattle.rules.specs.Tree.{Cell, freshCell, newCell, Tree, node, Forest, [], ◌∷◌, size, sizes, count}
-use Rattle.rules.specs.Table.{zeroBits, countAllowed, limitAllowed, rowAllowed}
-use Rattle.rules.specs.Cells.{cells, withCells, withCellsAll, elapsed, lastPlace, cellAllowed, Found, faulty, none, badCell, badCells}
-use Rattle.rules.specs.Cells as inCell
+use Rattle.rules.specs.Codes.{code_kind}
+use Rattle.rules.specs.Tree.{Cell, fresh_cell, new_cell, Tree, node, Forest, [], ◌∷◌, size, sizes, count}
+use Rattle.rules.specs.Table.{zero_bits, count_allowed, limit_allowed, row_allowed}
+use Rattle.rules.specs.Cells.{cells, with_cells, with_cells_all, elapsed, last_place, cell_allowed, Found, faulty, none, bad_cell, bad_cells}
+use Rattle.rules.specs.Cells as in_cell
 use Rattle.tables.specs.At.{Row, At, Ats}
-use Rattle.refine.specs.Words.{pack, words, wordsAll, bit, behind, working, Fits, FitsAll, Holds, HoldsAll}
+use Rattle.refine.specs.Words.{pack, words, words_all, bit, behind, working, Fits, FitsAll, Holds, HoldsAll}
 use Rattle.refine.specs.Words as refined
-use Rattle.load.specs.Load.{loadWords}
+use Rattle.load.specs.Load.{load_words}
 
 -- ---- kinds and their numbers
-last-place : (k : Kind) (n : ℕ) → fewest k ≤ children k n → lastPlace k n ≤ children k n
-last-place Wait n h = omega arith
-last-place WaitForever n h = omega arith
-last-place Action n h = omega arith
-last-place Invert n h = omega arith
-last-place AlwaysSucceed n h = omega arith
-last-place Timeout n h = omega arith
-last-place Select n h = omega arith
-last-place If n h = omega arith
-last-place Sequence n h = omega arith
-last-place MemorylessSequence n h = omega arith
-last-place MemorylessSelector n h = omega arith
-last-place While n h = omega arith
-last-place WhileAll n h = omega arith
-last-place WhenAll n h = omega arith
-last-place WhenAny n h = omega arith
-last-place After n h = omega arith
-last-place Race n h = omega arith
+last_place_lem : (k : Kind) (n : ℕ) → fewest k ≤ children k n → last_place k n ≤ children k n
+last_place_lem Wait n h = omega arith
+last_place_lem WaitForever n h = omega arith
+last_place_lem Action n h = omega arith
+last_place_lem Invert n h = omega arith
+last_place_lem AlwaysSucceed n h = omega arith
+last_place_lem Timeout n h = omega arith
+last_place_lem Select n h = omega arith
+last_place_lem If n h = omega arith
+last_place_lem Sequence n h = omega arith
+last_place_lem MemorylessSequence n h = omega arith
+last_place_lem MemorylessSelector n h = omega arith
+last_place_lem While n h = omega arith
+last_place_lem WhileAll n h = omega arith
+last_place_lem WhenAll n h = omega arith
+last_place_lem WhenAny n h = omega arith
+last_place_lem After n h = omega arith
+last_place_lem Race n h = omega arith
 
 record Counted (k : Kind) (n : ℕ) : Type 0 where
   enough : fewest k ≤ children k n
   few : children k n ≤ most k
 
-allowed : (x n : ℕ) (l : Float) → rowAllowed x n l ≡ true → (x ≤ 16) × Counted (kind_of x) n
-unfolding rowAllowed
+allowed : (x n : ℕ) (l : Float) → row_allowed x n l ≡ true → (x ≤ 16) × Counted (kind_of x) n
+unfolding row_allowed
 allowed x n l h =
     let k = kind_of x in
-    let a = (and-eq-true_iff (leb x 16) (countAllowed k n)).0 ((and-eq-true_iff (leb x 16 && countAllowed k n) (limitAllowed k l)).0 h).0 in
+    let a = (and-eq-true_iff (leb x 16) (count_allowed k n)).0 ((and-eq-true_iff (leb x 16 && count_allowed k n) (limit_allowed k l)).0 h).0 in
     let b = (and-eq-true_iff (leb (fewest k) (children k n)) (leb (children k n) (most k))).0 a.1 in
     (leb-true x 16 a.0, record { enough = leb-true (fewest k) (children k n) b.0; few = leb-true (children k n) (most k) b.1 })
 
 -- ---- cells
-allowed-cell : (ended mayEnd : Bool) (k : Kind) (n : ℕ) (c : Cell) → cellAllowed ended mayEnd k n c ≡ true → (c.place ≤ lastPlace k n) × (c.mark < 2)
-unfolding cellAllowed
-allowed-cell true mayEnd k n c h =
-    let a = (and-eq-true_iff (zeroBits c.time && eqb c.place 0) (eqb c.mark 0)).0 h in
-    let b = (and-eq-true_iff (zeroBits c.time) (eqb c.place 0)).0 a.0 in
+allowed_cell : (ended mayEnd : Bool) (k : Kind) (n : ℕ) (c : Cell) → cell_allowed ended mayEnd k n c ≡ true → (c.place ≤ last_place k n) × (c.mark < 2)
+unfolding cell_allowed
+allowed_cell true mayEnd k n c h =
+    let a = (and-eq-true_iff (zero_bits c.time && eqb c.place 0) (eqb c.mark 0)).0 h in
+    let b = (and-eq-true_iff (zero_bits c.time) (eqb c.place 0)).0 a.0 in
     (omega (arith, eqb-true c.place 0 b.1), omega (arith, eqb-true c.mark 0 a.1))
-allowed-cell false mayEnd k n c h = go (eqb c.mark 0) refl h
+allowed_cell false mayEnd k n c h = go (eqb c.mark 0) refl h
   where
     go : (b : Bool) → eqb c.mark 0 ≡ b
         → cond b
-        (cond (timed k) (elapsed c.time) (zeroBits c.time) && leb c.place (lastPlace k n))
-        (eqb c.mark 1 && mayEnd && zeroBits c.time && eqb c.place 0) ≡ true
-        → (c.place ≤ lastPlace k n) × (c.mark < 2)
+        (cond (timed k) (elapsed c.time) (zero_bits c.time) && leb c.place (last_place k n))
+        (eqb c.mark 1 && mayEnd && zero_bits c.time && eqb c.place 0) ≡ true
+        → (c.place ≤ last_place k n) × (c.mark < 2)
     go true e h = (
-      leb-true c.place (lastPlace k n) ((and-eq-true_iff (cond (timed k) (elapsed c.time) (zeroBits c.time)) (leb c.place (lastPlace k n))).0 h).1,
+      leb-true c.place (last_place k n) ((and-eq-true_iff (cond (timed k) (elapsed c.time) (zero_bits c.time)) (leb c.place (last_place k n))).0 h).1,
       omega (arith, eqb-true c.mark 0 e),
     )
     go false e h =
-        let x = (and-eq-true_iff (eqb c.mark 1 && mayEnd && zeroBits c.time) (eqb c.place 0)).0 h in
-        let y = (and-eq-true_iff (eqb c.mark 1 && mayEnd) (zeroBits c.time)).0 x.0 in
+        let x = (and-eq-true_iff (eqb c.mark 1 && mayEnd && zero_bits c.time) (eqb c.place 0)).0 h in
+        let y = (and-eq-true_iff (eqb c.mark 1 && mayEnd) (zero_bits c.time)).0 x.0 in
         let z = (and-eq-true_iff (eqb c.mark 1) mayEnd).0 y.0 in
         (omega (arith, eqb-true c.place 0 x.1), omega (arith, eqb-true c.mark 1 z.0))
 
 never : {A : Type 0} (p m : ℕ) → faulty p ≡ none m → A
 never p m h = absurd (let z : ◌≡◌ {A = ℕ} 0 1 = cc in omega arith)
 
-allowed-if : (b : Bool) (f : Found) (at m : ℕ) → cond b f (faulty at) ≡ none m → (b ≡ true) × (f ≡ none m)
-allowed-if true f at m h = (refl, h)
-allowed-if false f at m h = never at m h
+allowed_if : (b : Bool) (f : Found) (at m : ℕ) → cond b f (faulty at) ≡ none m → (b ≡ true) × (f ≡ none m)
+allowed_if true f at m h = (refl, h)
+allowed_if false f at m h = never at m h
 
 -- nothing bad in the first, and then nothing in what is behind it
-none-twice : (f : Found) (rest : ℕ → Found) (m : ℕ)
+none_twice : (f : Found) (rest : ℕ → Found) (m : ℕ)
     → elim f [ faulty p ↦ faulty p | none at ↦ rest at ] ≡ none m
     → (at : ℕ) × ((f ≡ none at) × (rest at ≡ none m))
-none-twice (faulty p) rest m h = never p m h
-none-twice (none at) rest m h = (at, (refl, h))
+none_twice (faulty p) rest m h = never p m h
+none_twice (none at) rest m h = (at, (refl, h))
 
 -- ---- the cells of a run
-count-with : (ts : Forest) (cs : List Cell) → count (withCellsAll ts cs).0 ≡ count ts
-unfolding withCells
-count-with [] cs = refl
-count-with (t ∷ ts) cs = ap (λ (z : ℕ). suc z) (count-with ts (withCells t cs).1)
+count_with : (ts : Forest) (cs : List Cell) → count (with_cells_all ts cs).0 ≡ count ts
+unfolding with_cells
+count_with [] cs = refl
+count_with (t ∷ ts) cs = ap (λ (z : ℕ). suc z) (count_with ts (with_cells t cs).1)
 
 mutual
-  unfolding withCells size
+  unfolding with_cells size
 
-  size-with : (t : Tree) (cs : List Cell) → size (withCells t cs).0 ≡ size t
-  size-with (node k n l c b ts) List.[] = refl
-  size-with (node k n l c b ts) (List.◌∷◌ c' cs) = ap (λ (z : ℕ). suc z) (sizes-with ts cs)
+  size_with : (t : Tree) (cs : List Cell) → size (with_cells t cs).0 ≡ size t
+  size_with (node k n l c b ts) List.[] = refl
+  size_with (node k n l c b ts) (List.◌∷◌ c' cs) = ap (λ (z : ℕ). suc z) (sizes_with ts cs)
 
-  sizes-with : (ts : Forest) (cs : List Cell) → sizes (withCellsAll ts cs).0 ≡ sizes ts
-  sizes-with [] cs = refl
-  sizes-with (t ∷ ts) cs = λ i. size-with t cs i + sizes-with ts (withCells t cs).1 i
+  sizes_with : (ts : Forest) (cs : List Cell) → sizes (with_cells_all ts cs).0 ≡ sizes ts
+  sizes_with [] cs = refl
+  sizes_with (t ∷ ts) cs = λ i. size_with t cs i + sizes_with ts (with_cells t cs).1 i
 
 mutual
-  unfolding withCells size
+  unfolding with_cells size
 
-  pub drop-with : (t : Tree) (cs : List Cell) → (withCells t cs).1 ≡ drop (size t) cs
-  drop-with (node k n l c b ts) List.[] = refl
-  drop-with (node k n l c b ts) (List.◌∷◌ c' cs) = drops-with ts cs
+  pub drop_with : (t : Tree) (cs : List Cell) → (with_cells t cs).1 ≡ drop (size t) cs
+  drop_with (node k n l c b ts) List.[] = refl
+  drop_with (node k n l c b ts) (List.◌∷◌ c' cs) = drops_with ts cs
 
-  drops-with : (ts : Forest) (cs : List Cell) → (withCellsAll ts cs).1 ≡ drop (sizes ts) cs
-  drops-with [] cs = refl
-  drops-with (t ∷ ts) cs = drops-with ts (withCells t cs).1 ∙ ap (λ (l : List Cell). drop (sizes ts) l) (drop-with t cs) ∙ drop-drop (sizes ts) (size t) cs
+  drops_with : (ts : Forest) (cs : List Cell) → (with_cells_all ts cs).1 ≡ drop (sizes ts) cs
+  drops_with [] cs = refl
+  drops_with (t ∷ ts) cs = drops_with ts (with_cells t cs).1 ∙ ap (λ (l : List Cell). drop (sizes ts) l) (drop_with t cs) ∙ drop-drop (sizes ts) (size t) cs
 
-long-cells : (n : ℕ) (xs : List Float) (ps ms : List ℕ) → n ≤ length xs → n ≤ length ps → n ≤ length ms → n ≤ length (cells xs ps ms)
+long_cells : (n : ℕ) (xs : List Float) (ps ms : List ℕ) → n ≤ length xs → n ≤ length ps → n ≤ length ms → n ≤ length (cells xs ps ms)
 unfolding cells
-long-cells zero xs ps ms a b c = omega arith
-long-cells (suc n) List.[] ps ms a b c = absurd (omega arith)
-long-cells (suc n) (List.◌∷◌ x xs) List.[] ms a b c = absurd (omega arith)
-long-cells (suc n) (List.◌∷◌ x xs) (List.◌∷◌ p ps) List.[] a b c = absurd (omega arith)
-long-cells (suc n) (List.◌∷◌ x xs) (List.◌∷◌ p ps) (List.◌∷◌ m ms) a b c = omega (arith, long-cells n xs ps ms (omega arith) (omega arith) (omega arith))
+long_cells zero xs ps ms a b c = omega arith
+long_cells (suc n) List.[] ps ms a b c = absurd (omega arith)
+long_cells (suc n) (List.◌∷◌ x xs) List.[] ms a b c = absurd (omega arith)
+long_cells (suc n) (List.◌∷◌ x xs) (List.◌∷◌ p ps) List.[] a b c = absurd (omega arith)
+long_cells (suc n) (List.◌∷◌ x xs) (List.◌∷◌ p ps) (List.◌∷◌ m ms) a b c = omega (arith, long_cells n xs ps ms (omega arith) (omega arith) (omega arith))
 
 -- what the word of a cell is loaded from
 record CellAt (c : Cell) (anew : Bool) (ps ms : List ℕ) (q : ℕ) : Type 0 where
-  place : inCell.place_of c 0 ≡ get_or ps q 0
-  mark : inCell.mark_of c 0 ≡ get_or ms q 0
-  made : inCell.anewOf c 0 ≡ anew
+  place : in_cell.place_of c 0 ≡ get_or ps q 0
+  mark : in_cell.mark_of c 0 ≡ get_or ms q 0
+  made : in_cell.anew_of c 0 ≡ anew
 
 pub record Loads (anew : Bool) (ps ms : List ℕ) (run : List Cell) : Type 0 where
-  at : (q : ℕ) → q < length run → CellAt (get_or run q newCell) anew ps ms q
+  at : (q : ℕ) → q < length run → CellAt (get_or run q new_cell) anew ps ms q
 
-cell_at : (q : ℕ) (xs : List Float) (ps ms : List ℕ) → q < length (cells xs ps ms) → CellAt (get_or (cells xs ps ms) q newCell) false ps ms q
+cell_at : (q : ℕ) (xs : List Float) (ps ms : List ℕ) → q < length (cells xs ps ms) → CellAt (get_or (cells xs ps ms) q new_cell) false ps ms q
 unfolding cells
 cell_at q List.[] ps ms h = absurd (omega arith)
 cell_at q (List.◌∷◌ x xs) List.[] ms h = absurd (omega arith)
@@ -149,162 +149,162 @@ cell_at (suc q) (List.◌∷◌ x xs) (List.◌∷◌ p ps) (List.◌∷◌ m ms
     let r = cell_at q xs ps ms (omega arith) in record { place = r.place; mark = r.mark; made = r.made }
 
 -- cells as they are lent, and those of a tree that is made fresh
-pub lent-loads : (xs : List Float) (ps ms : List ℕ) → Loads false ps ms (cells xs ps ms)
-lent-loads xs ps ms = record { at = λ q h. cell_at q xs ps ms h }
+pub lent_loads : (xs : List Float) (ps ms : List ℕ) → Loads false ps ms (cells xs ps ms)
+lent_loads xs ps ms = record { at = λ q h. cell_at q xs ps ms h }
 
-pub fresh-loads : (n : ℕ) → Loads true (replicate n 0) (replicate n 0) (replicate n freshCell)
-fresh-loads n = record { at = λ q h. there q (omega (arith, h, length-replicate n freshCell)) }
+pub fresh_loads : (n : ℕ) → Loads true (replicate n 0) (replicate n 0) (replicate n fresh_cell)
+fresh_loads n = record { at = λ q h. there q (omega (arith, h, length-replicate n fresh_cell)) }
   where
-    there : (q : ℕ) → q < n → CellAt (get_or (replicate n freshCell) q newCell) true (replicate n 0) (replicate n 0) q
+    there : (q : ℕ) → q < n → CellAt (get_or (replicate n fresh_cell) q new_cell) true (replicate n 0) (replicate n 0) q
     there q h =
         let zero = sym (get_or-replicate {A = ℕ} n q 0 0 h) in
-        rw (get_or-replicate n q freshCell newCell h) (record { place = zero; mark = zero; made = refl })
+        rw (get_or-replicate n q fresh_cell new_cell h) (record { place = zero; mark = zero; made = refl })
 
 -- ---- a tree that stands in the table
 module _ (kinds ns : List ℕ) (limits : List Float) (ends : List ℕ) where
   mutual
     unfolding size
 
-    at-end : (q : ℕ) (t : Tree) → At kinds ns limits ends q t → get_or ends q 0 ≡ q + size t
-    at-end q (node k n l c b ts) v = omega (arith, ats-end (suc q) ts (get_or ends q 0) v.1)
+    at_end : (q : ℕ) (t : Tree) → At kinds ns limits ends q t → get_or ends q 0 ≡ q + size t
+    at_end q (node k n l c b ts) v = omega (arith, ats_end (suc q) ts (get_or ends q 0) v.1)
 
-    ats-end : (q : ℕ) (ts : Forest) (stop : ℕ) → Ats kinds ns limits ends q ts stop → stop ≡ q + sizes ts
-    ats-end q [] stop v = omega (arith, v)
-    ats-end q (t ∷ ts) stop v = omega (arith, at-end q t v.0, ats-end (get_or ends q 0) ts stop v.1)
+    ats_end : (q : ℕ) (ts : Forest) (stop : ℕ) → Ats kinds ns limits ends q ts stop → stop ≡ q + sizes ts
+    ats_end q [] stop v = omega (arith, v)
+    ats_end q (t ∷ ts) stop v = omega (arith, at_end q t v.0, ats_end (get_or ends q 0) ts stop v.1)
 
   mutual
-    unfolding withCells
+    unfolding with_cells
 
-    at_with : (q : ℕ) (t : Tree) (cs : List Cell) → At kinds ns limits ends q t → At kinds ns limits ends q (withCells t cs).0
+    at_with : (q : ℕ) (t : Tree) (cs : List Cell) → At kinds ns limits ends q t → At kinds ns limits ends q (with_cells t cs).0
     at_with q (node k n l c b ts) List.[] v = v
-    at_with q (node k n l c b ts) (List.◌∷◌ c' cs) v = (rw (count-with ts cs) v.0, ats-with (suc q) ts cs (get_or ends q 0) v.1)
+    at_with q (node k n l c b ts) (List.◌∷◌ c' cs) v = (rw (count_with ts cs) v.0, ats_with (suc q) ts cs (get_or ends q 0) v.1)
 
-    ats-with : (q : ℕ) (ts : Forest) (cs : List Cell) (stop : ℕ) → Ats kinds ns limits ends q ts stop → Ats kinds ns limits ends q (withCellsAll ts cs).0 stop
-    ats-with q [] cs stop v = v
-    ats-with q (t ∷ ts) cs stop v = (at_with q t cs v.0, ats-with (get_or ends q 0) ts (withCells t cs).1 stop v.1)
+    ats_with : (q : ℕ) (ts : Forest) (cs : List Cell) (stop : ℕ) → Ats kinds ns limits ends q ts stop → Ats kinds ns limits ends q (with_cells_all ts cs).0 stop
+    ats_with q [] cs stop v = v
+    ats_with q (t ∷ ts) cs stop v = (at_with q t cs v.0, ats_with (get_or ends q 0) ts (with_cells t cs).1 stop v.1)
 
   module _ (q : ℕ) (k : Kind) (n : ℕ) (l : Float) (many : ℕ) (r : Row kinds ns limits q k n l many) where
-    row-code : get_or kinds q 0 ≡ code k
-    row-code = sym (code-kind (get_or kinds q 0) (allowed (get_or kinds q 0) n l r.allowed).0) ∙ ap (λ (k : Kind). code k) r.kind
+    row_code : get_or kinds q 0 ≡ code k
+    row_code = sym (code_kind (get_or kinds q 0) (allowed (get_or kinds q 0) n l r.allowed).0) ∙ ap (λ (k : Kind). code k) r.kind
 
-    row-counted : Counted k n
-    row-counted = subst (λ (k : Kind). Counted k n) r.kind (allowed (get_or kinds q 0) n l r.allowed).1
+    row_counted : Counted k n
+    row_counted = subst (λ (k : Kind). Counted k n) r.kind (allowed (get_or kinds q 0) n l r.allowed).1
 
-    row-held : refined.Row ns limits q k n l many
-    row-held = record {
+    row_held : refined.Row ns limits q k n l many
+    row_held = record {
       number = r.number;
       limit = r.limit;
-      enough = omega (arith, r.kids, row-counted.enough);
-      few = omega (arith, r.kids, row-counted.few);
+      enough = omega (arith, r.kids, row_counted.enough);
+      few = omega (arith, r.kids, row_counted.few);
     }
 
   mutual
     unfolding Holds
 
-    at-holds : (q : ℕ) (t : Tree) → At kinds ns limits ends q t → Holds ns limits q t
-    at-holds q (node k n l c b ts) v = (row-held q k n l (count ts) v.0, ats-hold (suc q) ts (get_or ends q 0) v.1)
+    at_holds : (q : ℕ) (t : Tree) → At kinds ns limits ends q t → Holds ns limits q t
+    at_holds q (node k n l c b ts) v = (row_held q k n l (count ts) v.0, ats_hold (suc q) ts (get_or ends q 0) v.1)
 
-    ats-hold : (q : ℕ) (ts : Forest) (stop : ℕ) → Ats kinds ns limits ends q ts stop → HoldsAll ns limits q ts
-    ats-hold q [] stop v = tt
-    ats-hold q (t ∷ ts) stop v = (at-holds q t v.0, rw (at-end q t v.0) at (ats-hold (get_or ends q 0) ts stop v.1))
+    ats_hold : (q : ℕ) (ts : Forest) (stop : ℕ) → Ats kinds ns limits ends q ts stop → HoldsAll ns limits q ts
+    ats_hold q [] stop v = tt
+    ats_hold q (t ∷ ts) stop v = (at_holds q t v.0, rw (at_end q t v.0) at (ats_hold (get_or ends q 0) ts stop v.1))
 
   mutual
-    unfolding badCell Fits
+    unfolding bad_cell Fits
 
-    at-fits : (q : ℕ) (t : Tree) (ended mayEnd : Bool) (at m : ℕ) → At kinds ns limits ends q t → badCell ended mayEnd at t ≡ none m → Fits t
-    at-fits q (node k n l c b ts) ended mayEnd at m v h =
-        let a = allowed-if (cellAllowed ended mayEnd k n c) _ at m h in
-        let small = allowed-cell ended mayEnd k n c a.0 in
+    at_fits : (q : ℕ) (t : Tree) (ended mayEnd : Bool) (at m : ℕ) → At kinds ns limits ends q t → bad_cell ended mayEnd at t ≡ none m → Fits t
+    at_fits q (node k n l c b ts) ended mayEnd at m v h =
+        let a = allowed_if (cell_allowed ended mayEnd k n c) _ at m h in
+        let small = allowed_cell ended mayEnd k n c a.0 in
         let r = v.0 in
-        ((omega (arith, small.0, r.kids, last-place k n (row-counted q k n l (count ts) r).enough), small.1), ats-fit (suc q) ts (get_or ends q 0) _ _ (suc at) m v.1 a.1)
+        ((omega (arith, small.0, r.kids, last_place_lem k n (row_counted q k n l (count ts) r).enough), small.1), ats_fit (suc q) ts (get_or ends q 0) _ _ (suc at) m v.1 a.1)
 
-    ats-fit : (q : ℕ) (ts : Forest) (stop : ℕ) (ended mayEnd : Bool) (at m : ℕ) → Ats kinds ns limits ends q ts stop → badCells ended mayEnd at ts ≡ none m → FitsAll ts
-    ats-fit q [] stop ended mayEnd at m v h = tt
-    ats-fit q (t ∷ ts) stop ended mayEnd at m v h =
-        let s = none-twice (badCell ended mayEnd at t) (λ (at : ℕ). badCells ended mayEnd at ts) m h in
-        (at-fits q t ended mayEnd at s.0 v.0 s.1.0, ats-fit (get_or ends q 0) ts stop ended mayEnd s.0 m v.1 s.1.1)
+    ats_fit : (q : ℕ) (ts : Forest) (stop : ℕ) (ended mayEnd : Bool) (at m : ℕ) → Ats kinds ns limits ends q ts stop → bad_cells ended mayEnd at ts ≡ none m → FitsAll ts
+    ats_fit q [] stop ended mayEnd at m v h = tt
+    ats_fit q (t ∷ ts) stop ended mayEnd at m v h =
+        let s = none_twice (bad_cell ended mayEnd at t) (λ (at : ℕ). bad_cells ended mayEnd at ts) m h in
+        (at_fits q t ended mayEnd at s.0 v.0 s.1.0, ats_fit (get_or ends q 0) ts stop ended mayEnd s.0 m v.1 s.1.1)
 
   pub holds : (t : Tree) (cs : List Cell)
       → At kinds ns limits ends 0 t
-      → Holds ns limits 0 (withCells t cs).0
-  holds t cs v = at-holds 0 (withCells t cs).0 (at_with 0 t cs v)
+      → Holds ns limits 0 (with_cells t cs).0
+  holds t cs v = at_holds 0 (with_cells t cs).0 (at_with 0 t cs v)
 
   pub fits : (t : Tree) (cs : List Cell) (m : ℕ)
       → At kinds ns limits ends 0 t
-      → badCell false false 0 (withCells t cs).0 ≡ none m
-      → Fits (withCells t cs).0
-  fits t cs m v h = at-fits 0 (withCells t cs).0 false false 0 m (at_with 0 t cs v) h
+      → bad_cell false false 0 (with_cells t cs).0 ≡ none m
+      → Fits (with_cells t cs).0
+  fits t cs m v h = at_fits 0 (with_cells t cs).0 false false 0 m (at_with 0 t cs v) h
 
 -- ---- the words that are loaded
 module _ (anew : Bool) (kinds ends places marks : List ℕ) where
   abbrev word_for : ℕ → ℕ
   word_for q = pack (get_or ends q 0 - (q + 1)) (get_or kinds q 0) (get_or places q 0) (get_or marks q 0) anew 0
 
-  abbrev wordsFrom : ℕ → ℕ → List ℕ
-  wordsFrom q zero = List.[]
-  wordsFrom q (suc n) = List.◌∷◌ (word_for q) (wordsFrom (q + 1) n)
+  abbrev words_from : ℕ → ℕ → List ℕ
+  words_from q zero = List.[]
+  words_from q (suc n) = List.◌∷◌ (word_for q) (words_from (q + 1) n)
 
-  words-length : (n q : ℕ) → length (wordsFrom q n) ≡ n
-  words-length zero q = refl
-  words-length (suc n) q = ap (λ (z : ℕ). suc z) (words-length n (q + 1))
+  words_length : (n q : ℕ) → length (words_from q n) ≡ n
+  words_length zero q = refl
+  words_length (suc n) q = ap (λ (z : ℕ). suc z) (words_length n (q + 1))
 
-  words-add : (n q m : ℕ) → wordsFrom q (n + m) ≡ wordsFrom q n ++ wordsFrom (q + n) m
-  words-add zero q m = rw (zero-add m, add-zero q)
-  words-add (suc n) q m =
+  words_add : (n q m : ℕ) → words_from q (n + m) ≡ words_from q n ++ words_from (q + n) m
+  words_add zero q m = rw (zero-add m, add-zero q)
+  words_add (suc n) q m =
       let e : q + 1 + n ≡ q + suc n = omega arith in
-      rw (suc-add n m) (ap (λ (l : List ℕ). List.◌∷◌ (word_for q) l) (words-add n (q + 1) m ∙ ap (λ (z : ℕ). wordsFrom (q + 1) n ++ wordsFrom z m) e))
+      rw (suc-add n m) (ap (λ (l : List ℕ). List.◌∷◌ (word_for q) l) (words_add n (q + 1) m ∙ ap (λ (z : ℕ). words_from (q + 1) n ++ words_from z m) e))
 
-  load-run : (n q : ℕ) (pre mid post : List ℕ) → length pre ≡ q → length mid ≡ n
-      → loadWords anew kinds ends places marks q n (pre ++ (mid ++ post)) ≡ pre ++ (wordsFrom q n ++ post)
-  unfolding loadWords
-  load-run zero q pre List.[] post a b = refl
-  load-run zero q pre (List.◌∷◌ x mid) post a b = absurd (omega arith)
-  load-run (suc n) q pre List.[] post a b = absurd (omega arith)
-  load-run (suc n) q pre (List.◌∷◌ x mid) post a b =
+  load_run : (n q : ℕ) (pre mid post : List ℕ) → length pre ≡ q → length mid ≡ n
+      → load_words anew kinds ends places marks q n (pre ++ (mid ++ post)) ≡ pre ++ (words_from q n ++ post)
+  unfolding load_words
+  load_run zero q pre List.[] post a b = refl
+  load_run zero q pre (List.◌∷◌ x mid) post a b = absurd (omega arith)
+  load_run (suc n) q pre List.[] post a b = absurd (omega arith)
+  load_run (suc n) q pre (List.◌∷◌ x mid) post a b =
       let w = word_for q in
       let one : List ℕ = List.◌∷◌ w List.[] in
-      ap (λ (l : List ℕ). loadWords anew kinds ends places marks (q + 1) n l) (set_at pre x (mid ++ post) w q a ∙ sym (append_snoc pre w (mid ++ post)))
-      ∙ load-run n (q + 1) (pre ++ one) mid post (omega (arith, length-append pre one)) (omega arith)
-      ∙ append_snoc pre w (wordsFrom (q + 1) n ++ post)
+      ap (λ (l : List ℕ). load_words anew kinds ends places marks (q + 1) n l) (set_at pre x (mid ++ post) w q a ∙ sym (append_snoc pre w (mid ++ post)))
+      ∙ load_run n (q + 1) (pre ++ one) mid post (omega (arith, length-append pre one)) (omega arith)
+      ∙ append_snoc pre w (words_from (q + 1) n ++ post)
 
   module _ (ns : List ℕ) (limits : List Float) (run : List Cell) (loads : Loads anew places marks run) where
     mutual
-      unfolding words withCells size
+      unfolding words with_cells size
 
-      words-with : (q : ℕ) (t : Tree) (cs : List Cell) (post : List ℕ)
+      words_with : (q : ℕ) (t : Tree) (cs : List Cell) (post : List ℕ)
           → At kinds ns limits ends q t
           → cs ≡ drop q run
           → q + size t ≤ length run
-          → words (withCells t cs).0 post ≡ wordsFrom q (size t) ++ post
-      words-with q (node k n l c b ts) List.[] post v e h = absurd (omega (arith, ap length e, length-drop q run))
-      words-with q (node k n l c b ts) (List.◌∷◌ c' cs) post v e h =
-          let cut : List.◌∷◌ c' cs ≡ List.◌∷◌ (get_or run q newCell) (drop (suc q) run) = e ∙ drop-cons run q newCell (omega arith) in
-          let first : c' ≡ get_or run q newCell = cc in
+          → words (with_cells t cs).0 post ≡ words_from q (size t) ++ post
+      words_with q (node k n l c b ts) List.[] post v e h = absurd (omega (arith, ap length e, length-drop q run))
+      words_with q (node k n l c b ts) (List.◌∷◌ c' cs) post v e h =
+          let cut : List.◌∷◌ c' cs ≡ List.◌∷◌ (get_or run q new_cell) (drop (suc q) run) = e ∙ drop-cons run q new_cell (omega arith) in
+          let first : c' ≡ get_or run q new_cell = cc in
           let rest : cs ≡ drop (suc q) run = cc in
           let there = loads.at q (omega arith) in
-          let below : sizes (withCellsAll ts cs).0 ≡ get_or ends q 0 - (q + 1) = omega (arith, sizes-with ts cs, ats-end kinds ns limits ends (suc q) ts (get_or ends q 0) v.1) in
-          let kind : code k ≡ get_or kinds q 0 = sym (row-code kinds ns limits ends q k n l (count ts) v.0) in
-          let place : inCell.place_of c' 0 ≡ get_or places q 0 = ap (λ (c : Cell). inCell.place_of c 0) first ∙ there.place in
-          let mark : inCell.mark_of c' 0 ≡ get_or marks q 0 = ap (λ (c : Cell). inCell.mark_of c 0) first ∙ there.mark in
-          let made : inCell.anewOf c' 0 ≡ anew = ap (λ (c : Cell). inCell.anewOf c 0) first ∙ there.made in
-          let behind : wordsAll (withCellsAll ts cs).0 post ≡ wordsFrom (q + 1) (sizes ts) ++ post = rw add-one (words-all-with (suc q) ts cs (get_or ends q 0) post v.1 rest (omega arith)) in
+          let below : sizes (with_cells_all ts cs).0 ≡ get_or ends q 0 - (q + 1) = omega (arith, sizes_with ts cs, ats_end kinds ns limits ends (suc q) ts (get_or ends q 0) v.1) in
+          let kind : code k ≡ get_or kinds q 0 = sym (row_code kinds ns limits ends q k n l (count ts) v.0) in
+          let place : in_cell.place_of c' 0 ≡ get_or places q 0 = ap (λ (c : Cell). in_cell.place_of c 0) first ∙ there.place in
+          let mark : in_cell.mark_of c' 0 ≡ get_or marks q 0 = ap (λ (c : Cell). in_cell.mark_of c 0) first ∙ there.mark in
+          let made : in_cell.anew_of c' 0 ≡ anew = ap (λ (c : Cell). in_cell.anew_of c 0) first ∙ there.made in
+          let behind : words_all (with_cells_all ts cs).0 post ≡ words_from (q + 1) (sizes ts) ++ post = rw add-one (words_all_with (suc q) ts cs (get_or ends q 0) post v.1 rest (omega arith)) in
           λ i. List.◌∷◌ (pack (below i) (kind i) (place i) (mark i) (made i) 0) (behind i)
 
-      words-all-with : (q : ℕ) (ts : Forest) (cs : List Cell) (stop : ℕ) (post : List ℕ)
+      words_all_with : (q : ℕ) (ts : Forest) (cs : List Cell) (stop : ℕ) (post : List ℕ)
           → Ats kinds ns limits ends q ts stop
           → cs ≡ drop q run
           → q + sizes ts ≤ length run
-          → wordsAll (withCellsAll ts cs).0 post ≡ wordsFrom q (sizes ts) ++ post
-      words-all-with q [] cs stop post v e h = refl
-      words-all-with q (t ∷ ts) cs stop post v e h =
-          let end = at-end kinds ns limits ends q t v.0 in
-          let dropped = drop-with t cs ∙ ap (λ (l : List Cell). drop (size t) l) e ∙ drop-drop (size t) q run in
-          let rest : (withCells t cs).1 ≡ drop (get_or ends q 0) run = dropped ∙ ap (λ (z : ℕ). drop z run) (sym end) in
-          words-with q t cs (wordsAll (withCellsAll ts (withCells t cs).1).0 post) v.0 e (omega arith)
-          ∙ ap (λ (l : List ℕ). wordsFrom q (size t) ++ l) (words-all-with (get_or ends q 0) ts (withCells t cs).1 stop post v.1 rest (omega arith))
-          ∙ ap (λ (z : ℕ). wordsFrom q (size t) ++ (wordsFrom z (sizes ts) ++ post)) end
-          ∙ sym (append_assoc (wordsFrom q (size t)) (wordsFrom (q + size t) (sizes ts)) post)
-          ∙ ap (λ (l : List ℕ). l ++ post) (sym (words-add (size t) q (sizes ts)))
+          → words_all (with_cells_all ts cs).0 post ≡ words_from q (sizes ts) ++ post
+      words_all_with q [] cs stop post v e h = refl
+      words_all_with q (t ∷ ts) cs stop post v e h =
+          let end = at_end kinds ns limits ends q t v.0 in
+          let dropped = drop_with t cs ∙ ap (λ (l : List Cell). drop (size t) l) e ∙ drop-drop (size t) q run in
+          let rest : (with_cells t cs).1 ≡ drop (get_or ends q 0) run = dropped ∙ ap (λ (z : ℕ). drop z run) (sym end) in
+          words_with q t cs (words_all (with_cells_all ts (with_cells t cs).1).0 post) v.0 e (omega arith)
+          ∙ ap (λ (l : List ℕ). words_from q (size t) ++ l) (words_all_with (get_or ends q 0) ts (with_cells t cs).1 stop post v.1 rest (omega arith))
+          ∙ ap (λ (z : ℕ). words_from q (size t) ++ (words_from z (sizes ts) ++ post)) end
+          ∙ sym (append_assoc (words_from q (size t)) (words_from (q + size t) (sizes ts)) post)
+          ∙ ap (λ (l : List ℕ). l ++ post) (sym (words_add (size t) q (sizes ts)))
 
 -- ---- fuel and event behind the words
 settled : (front : List ℕ) (gap f x : ℕ) → length front + gap ≡ 256
@@ -325,17 +325,17 @@ pub loaded : (anew : Bool) (kinds ns : List ℕ) (limits : List Float) (ends pla
     → At kinds ns limits ends 0 t
     → size t ≤ 256
     → size t ≤ length run
-    → set (set (loadWords anew kinds ends places marks 0 (size t) (replicate 260 0)) 256 fuel) 259 (bit b) ≡ working (withCells t run).0 fuel 0 b
+    → set (set (load_words anew kinds ends places marks 0 (size t) (replicate 260 0)) 256 fuel) 259 (bit b) ≡ working (with_cells t run).0 fuel 0 b
 unfolding working behind
 loaded anew kinds ns limits ends places marks run t fuel b loads v few long =
     let n = size t in
     let gap = 256 - n in
     let four : List ℕ = replicate 4 0 in
     let full : 260 ≡ n + (gap + 4) = omega arith in
-    ap (λ (z : ℕ). set (set (loadWords anew kinds ends places marks 0 n (replicate z 0)) 256 fuel) 259 (bit b)) full
-    ∙ ap (λ (l : List ℕ). set (set (loadWords anew kinds ends places marks 0 n l) 256 fuel) 259 (bit b))
+    ap (λ (z : ℕ). set (set (load_words anew kinds ends places marks 0 n (replicate z 0)) 256 fuel) 259 (bit b)) full
+    ∙ ap (λ (l : List ℕ). set (set (load_words anew kinds ends places marks 0 n l) 256 fuel) 259 (bit b))
     (sym (replicate-append-replicate n (gap + 4) 0) ∙ ap (λ (l : List ℕ). replicate n 0 ++ l) (sym (replicate-append-replicate gap 4 0)))
-    ∙ ap (λ (l : List ℕ). set (set l 256 fuel) 259 (bit b)) (load-run anew kinds ends places marks n 0 List.[] (replicate n 0) (replicate gap 0 ++ four) refl (length-replicate n 0))
-    ∙ settled (wordsFrom anew kinds ends places marks 0 n) gap fuel (bit b) (omega (arith, words-length anew kinds ends places marks n 0))
-    ∙ ap (λ (z : ℕ). wordsFrom anew kinds ends places marks 0 n ++ behind z fuel 0 0 b) (sym (size-with t run))
-    ∙ sym (words-with anew kinds ends places marks ns limits run loads 0 t run (behind (size (withCells t run).0) fuel 0 0 b) v refl (omega arith))
+    ∙ ap (λ (l : List ℕ). set (set l 256 fuel) 259 (bit b)) (load_run anew kinds ends places marks n 0 List.[] (replicate n 0) (replicate gap 0 ++ four) refl (length-replicate n 0))
+    ∙ settled (words_from anew kinds ends places marks 0 n) gap fuel (bit b) (omega (arith, words_length anew kinds ends places marks n 0))
+    ∙ ap (λ (z : ℕ). words_from anew kinds ends places marks 0 n ++ behind z fuel 0 0 b) (sym (size_with t run))
+    ∙ sym (words_with anew kinds ends places marks ns limits run loads 0 t run (behind (size (with_cells t run).0) fuel 0 0 b) v refl (omega arith))

@@ -1,7 +1,7 @@
 // The words of a tree that starts fresh. Its cells are not looked at.
 ghost use Rattle.std.specs.Prelude.{◌≡◌, true, List, ℕ, ◌+◌, ◌-◌, ◌≤◌, Float, length, replicate};
 ghost use Rattle.refine.specs.Words.{pack};
-ghost use Rattle.load.specs.Load.{loadWords};
+ghost use Rattle.load.specs.Load.{load_words};
 ghost use Rattle.load.specs.Scans.{Scans};
 
 use crate::pass::Scanned;
@@ -25,7 +25,7 @@ fn word_of(below: usize, kind: u8) -> u32
 // The words of n nodes, of which ends says where each subtree ends.
 fn load_fresh(work: &mut [u32; 260], kinds: &[u8], ends: &[u16], n: usize)
     requires { (n ≤ 256) × (n ≤ length kinds.now) × (n ≤ length ends.now) }
-    ensures { work.new ≡ loadWords true kinds.now ends.now (replicate n 0) (replicate n 0) 0 n work.old }
+    ensures { work.new ≡ load_words true kinds.now ends.now (replicate n 0) (replicate n 0) 0 n work.old }
 {
     let mut p = 0;
     while p < n {

@@ -1,8 +1,8 @@
 // One pass over table and cells, with the open nodes on a stack of fixed size. Of what it accepts it writes the words.
 ghost use Rattle.std.specs.Prelude.{◌≡◌, true, false, ◌+◌, ◌≤◌, ◌<◌, length};
-ghost use Rattle.rules.specs.Cells.{cell_of, inUse};
+ghost use Rattle.rules.specs.Cells.{cell_of, in_use};
 ghost use Rattle.refine.specs.Words.{pack};
-ghost use Rattle.load.specs.Scans.{Lent, Scans, withBelow, PlainWait, Passes, scannedAs};
+ghost use Rattle.load.specs.Scans.{Lent, Scans, with_below, PlainWait, Passes, scanned_as};
 ghost use Rattle.load.specs.Sixteens.{Groups, Cleared};
 
 use crate::fresh::look_fresh;
@@ -29,13 +29,13 @@ fn word(kind: u8, place: u16, mark: u8) -> u32
 }
 
 fn with_below(w: u32, below: usize) -> u32
-    ensures { result ≡ withBelow w below }
+    ensures { result ≡ with_below w below }
 {
     w / 256 * 256 + (below % 256) as u32
 }
 
 fn told(fault: usize, n: usize) -> Scanned
-    ensures { result ≡ scannedAs fault n }
+    ensures { result ≡ scanned_as fault n }
 {
     if fault == 256 {
         return Scanned::Good(n);
@@ -45,7 +45,7 @@ fn told(fault: usize, n: usize) -> Scanned
 
 // The cell of a Wait without a place.
 fn leaf_allowed(may_end: bool, time: f64, mark: u8) -> bool
-    ensures { result ≡ inUse may_end Kind.Wait 0 (cell_of time 0 mark) }
+    ensures { result ≡ in_use may_end Kind.Wait 0 (cell_of time 0 mark) }
 {
     if mark == 0 {
         return elapsed(time);

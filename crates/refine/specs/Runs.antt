@@ -9,13 +9,13 @@ use Rattle.std.proofs.Math.Decide.{dec_lt}
 use Rattle.std.proofs.lemmas.List.{length-reverse, get_or_at, set_at}
 use Rattle.std.proofs.Math.ListN.{length-reverse_aux}
 use Rattle.rules.specs.Kinds.{code}
-use Rattle.rules.specs.Tree.{zeroTime, Tree, node, Forest, [], ◌∷◌, fresh, freshAll, size, sizes}
-use Rattle.rules.specs.Outcome.{eventOf, dt}
-use Rattle.rules.specs.Cells.{timeOf, place_of, mark_of, anewOf}
-use Rattle.work.specs.Word.{freshWord}
-use Rattle.work.specs.Array.{word_at, end_of, fuelOf, usedOf, asked_of, updates, passed, freshWords, freshTimes}
+use Rattle.rules.specs.Tree.{zero_time, Tree, node, Forest, [], ◌∷◌, fresh, fresh_all, size, sizes}
+use Rattle.rules.specs.Outcome.{event_of, dt}
+use Rattle.rules.specs.Cells.{time_of, place_of, mark_of, anew_of}
+use Rattle.work.specs.Word.{fresh_word}
+use Rattle.work.specs.Array.{word_at, end_of, fuel_of, used_of, asked_of, updates, passed, fresh_words, fresh_times}
 use Rattle.refine.specs.Words.{pack, bit}
-use Rattle.refine.specs.Packed.{below-pack, put-fresh}
+use Rattle.refine.specs.Packed.{below_pack, put_fresh}
 
 -- a value of each node in preorder, before `post`
 module _ {A : Type 0} (f : Tree → A) where
@@ -30,12 +30,12 @@ module _ {A : Type 0} (f : Tree → A) where
   mutual
     unfolding run
 
-    pub run-append : (t : Tree) (post z : List A) → run t (post ++ z) ≡ run t post ++ z
-    run-append (node k n l c b ts) post z = ap (λ (r : List A). List.◌∷◌ (f (node k n l c b ts)) r) (runs_append ts post z)
+    pub run_append : (t : Tree) (post z : List A) → run t (post ++ z) ≡ run t post ++ z
+    run_append (node k n l c b ts) post z = ap (λ (r : List A). List.◌∷◌ (f (node k n l c b ts)) r) (runs_append ts post z)
 
     pub runs_append : (ts : Forest) (post z : List A) → runs ts (post ++ z) ≡ runs ts post ++ z
     runs_append [] post z = refl
-    runs_append (t ∷ ts) post z = ap (λ (r : List A). run t r) (runs_append ts post z) ∙ run-append t (runs ts post) z
+    runs_append (t ∷ ts) post z = ap (λ (r : List A). run t r) (runs_append ts post z) ∙ run_append t (runs ts post) z
 
   mutual
     unfolding run size
@@ -54,17 +54,17 @@ module _ {A : Type 0} (f : Tree → A) where
   pub length_push : (t : Tree) (pre : List A) → length (push t pre) ≡ length pre + size t
   length_push t pre = omega (arith, length-reverse_aux (run t List.[]) pre, length_run t List.[])
 
-  pub push-run : (t : Tree) (pre post : List A) → reverse_aux (push t pre) post ≡ reverse_aux pre (run t post)
-  push-run t pre post = aux-aux (run t List.[]) pre post ∙ ap (λ (r : List A). reverse_aux pre r) (sym (run-append t List.[] post))
+  pub push_run : (t : Tree) (pre post : List A) → reverse_aux (push t pre) post ≡ reverse_aux pre (run t post)
+  push_run t pre post = aux_aux (run t List.[]) pre post ∙ ap (λ (r : List A). reverse_aux pre r) (sym (run_append t List.[] post))
     where
-      aux-aux : (l pre post : List A) → reverse_aux (reverse_aux l pre) post ≡ reverse_aux pre (l ++ post)
-      aux-aux List.[] pre post = refl
-      aux-aux (List.◌∷◌ a l) pre post = aux-aux l (List.◌∷◌ a pre) post
+      aux_aux : (l pre post : List A) → reverse_aux (reverse_aux l pre) post ≡ reverse_aux pre (l ++ post)
+      aux_aux List.[] pre post = refl
+      aux_aux (List.◌∷◌ a l) pre post = aux_aux l (List.◌∷◌ a pre) post
 
 -- ---- at the place behind `pre`
 module _ {A : Type 0} (pre : List A) (a : A) (post : List A) (q : ℕ) (h : length pre ≡ q) where
-  pub get-here : (d : A) → get_or (reverse_aux pre (List.◌∷◌ a post)) q d ≡ a
-  get-here d = rw (reverse_aux-eq pre (List.◌∷◌ a post)) (get_or_at (reverse pre) a post d q (length-reverse pre ∙ h))
+  pub get_here : (d : A) → get_or (reverse_aux pre (List.◌∷◌ a post)) q d ≡ a
+  get_here d = rw (reverse_aux-eq pre (List.◌∷◌ a post)) (get_or_at (reverse pre) a post d q (length-reverse pre ∙ h))
 
   pub set_here : (c : A) → set (reverse_aux pre (List.◌∷◌ a post)) q c ≡ reverse_aux pre (List.◌∷◌ c post)
   set_here c = rw (reverse_aux-eq pre (List.◌∷◌ a post), reverse_aux-eq pre (List.◌∷◌ c post)) (set_at (reverse pre) a post c q (length-reverse pre ∙ h))
@@ -73,61 +73,61 @@ module _ {A : Type 0} (pre : List A) (a : A) (post : List A) (q : ℕ) (h : leng
 mutual
   unfolding size fresh
 
-  pub size-fresh : (t : Tree) → size (fresh t) ≡ size t
-  size-fresh (node k n l c b ts) = ap (λ (z : ℕ). suc z) (sizes-fresh ts)
+  pub size_fresh : (t : Tree) → size (fresh t) ≡ size t
+  size_fresh (node k n l c b ts) = ap (λ (z : ℕ). suc z) (sizes_fresh ts)
 
-  pub sizes-fresh : (ts : Forest) → sizes (freshAll ts) ≡ sizes ts
-  sizes-fresh [] = refl
-  sizes-fresh (t ∷ ts) = λ i. size-fresh t i + sizes-fresh ts i
+  pub sizes_fresh : (ts : Forest) → sizes (fresh_all ts) ≡ sizes ts
+  sizes_fresh [] = refl
+  sizes_fresh (t ∷ ts) = λ i. size_fresh t i + sizes_fresh ts i
 
 module _ {A : Type 0} (f : Tree → A) (d : A) (g : A → A) (clear : ℕ → ℕ → List A → List A)
     (none : (q : ℕ) (l : List A) → clear q 0 l ≡ l)
     (more : (q n : ℕ) (l : List A) → clear q (suc n) l ≡ clear (q + 1) n (set l q (g (get_or l q d))))
     (clean : (t : Tree) → g (f t) ≡ f (fresh t)) where
-  clear-add : (a b q : ℕ) (l : List A) → clear q (a + b) l ≡ clear (q + a) b (clear q a l)
-  clear-add zero b q l = rw (zero-add b, add-zero q, none q l)
-  clear-add (suc a) b q l =
+  clear_add : (a b q : ℕ) (l : List A) → clear q (a + b) l ≡ clear (q + a) b (clear q a l)
+  clear_add zero b q l = rw (zero-add b, add-zero q, none q l)
+  clear_add (suc a) b q l =
       let z : q + suc a ≡ q + 1 + a = omega arith in
-      rw (suc-add a b, more q (a + b) l, more q a l, z) (clear-add a b (q + 1) (set l q (g (get_or l q d))))
+      rw (suc-add a b, more q (a + b) l, more q a l, z) (clear_add a b (q + 1) (set l q (g (get_or l q d))))
 
   mutual
     unfolding run size fresh
 
-    clear-tree : (t : Tree) (pre post : List A) (q : ℕ) → length pre ≡ q → clear q (size t) (reverse_aux pre (run f t post)) ≡ reverse_aux pre (run f (fresh t) post)
-    clear-tree (node k n l c b ts) pre post q h =
+    clear_tree : (t : Tree) (pre post : List A) (q : ℕ) → length pre ≡ q → clear q (size t) (reverse_aux pre (run f t post)) ≡ reverse_aux pre (run f (fresh t) post)
+    clear_tree (node k n l c b ts) pre post q h =
         let t = node k n l c b ts in
         rw (
           more q (sizes ts) (reverse_aux pre (List.◌∷◌ (f t) (runs f ts post))),
-          get-here pre (f t) (runs f ts post) q h d,
+          get_here pre (f t) (runs f ts post) q h d,
           set_here pre (f t) (runs f ts post) q h (g (f t)),
           clean t,
         )
-        (clear-forest ts (List.◌∷◌ (f (fresh t)) pre) post (q + 1) (omega arith))
+        (clear_forest ts (List.◌∷◌ (f (fresh t)) pre) post (q + 1) (omega arith))
 
-    clear-forest : (ts : Forest) (pre post : List A) (q : ℕ) → length pre ≡ q → clear q (sizes ts) (reverse_aux pre (runs f ts post)) ≡ reverse_aux pre (runs f (freshAll ts) post)
-    clear-forest [] pre post q h = none q (reverse_aux pre post)
-    clear-forest (t ∷ ts) pre post q h = rw (
-      clear-add (size t) (sizes ts) q (reverse_aux pre (run f t (runs f ts post))),
-      clear-tree t pre (runs f ts post) q h,
-      ← push-run f (fresh t) pre (runs f ts post),
-      ← push-run f (fresh t) pre (runs f (freshAll ts) post),
+    clear_forest : (ts : Forest) (pre post : List A) (q : ℕ) → length pre ≡ q → clear q (sizes ts) (reverse_aux pre (runs f ts post)) ≡ reverse_aux pre (runs f (fresh_all ts) post)
+    clear_forest [] pre post q h = none q (reverse_aux pre post)
+    clear_forest (t ∷ ts) pre post q h = rw (
+      clear_add (size t) (sizes ts) q (reverse_aux pre (run f t (runs f ts post))),
+      clear_tree t pre (runs f ts post) q h,
+      ← push_run f (fresh t) pre (runs f ts post),
+      ← push_run f (fresh t) pre (runs f (fresh_all ts) post),
     )
-        (clear-forest ts (push f (fresh t) pre) post (q + size t) (omega (arith, length_push f (fresh t) pre, size-fresh t)))
+        (clear_forest ts (push f (fresh t) pre) post (q + size t) (omega (arith, length_push f (fresh t) pre, size_fresh t)))
 
 -- ---- words and times
 abbrev pub word_of : Tree → ℕ
-word_of (node k n l c b ts) = pack (sizes ts) (code k) (place_of c b) (mark_of c b) (anewOf c b) b
+word_of (node k n l c b ts) = pack (sizes ts) (code k) (place_of c b) (mark_of c b) (anew_of c b) b
 
-abbrev pub timeIn : Tree → Float
-timeIn (node k n l c b ts) = timeOf c b
+abbrev pub time_in : Tree → Float
+time_in (node k n l c b ts) = time_of c b
 
-word-clean : (t : Tree) → freshWord (word_of t) ≡ word_of (fresh t)
+word_clean : (t : Tree) → fresh_word (word_of t) ≡ word_of (fresh t)
 unfolding fresh
-word-clean (node k n l c b ts) = rw (put-fresh (sizes ts) k (place_of c b) (mark_of c b) (anewOf c b) b, sizes-fresh ts)
+word_clean (node k n l c b ts) = rw (put_fresh (sizes ts) k (place_of c b) (mark_of c b) (anew_of c b) b, sizes_fresh ts)
 
-time-clean : (t : Tree) → zeroTime ≡ timeIn (fresh t)
+time_clean : (t : Tree) → zero_time ≡ time_in (fresh t)
 unfolding fresh
-time-clean (node k n l c b ts) = refl
+time_clean (node k n l c b ts) = refl
 
 -- behind the words of 256 nodes: the fuel left, the answers used, 0 as long as no action asks, and the event
 abbrev tail : Bool → ℕ → ℕ → List ℕ
@@ -146,77 +146,77 @@ unrolled pre ts post b f u = aux_append pre (runs word_of ts post) (tail b f u) 
 
 -- the node at q: its word, and where it ends
 module _ (pre : List ℕ) (post : List ℕ) (q : ℕ) (h : length pre ≡ q) where
-  pub end-in : (t : Tree) → q + size t ≤ 256 → end_of (reverse_aux pre (run word_of t post)) q ≡ q + size t
+  pub end_in : (t : Tree) → q + size t ≤ 256 → end_of (reverse_aux pre (run word_of t post)) q ≡ q + size t
   unfolding end_of size run
-  end-in (node k n l c bd ts) j = rw (get-here pre (word_of (node k n l c bd ts)) (runs word_of ts post) q h 0, below-pack (sizes ts) k (place_of c bd) (mark_of c bd) (anewOf c bd) bd (omega arith))
+  end_in (node k n l c bd ts) j = rw (get_here pre (word_of (node k n l c bd ts)) (runs word_of ts post) q h 0, below_pack (sizes ts) k (place_of c bd) (mark_of c bd) (anew_of c bd) bd (omega arith))
       (elim (dec_lt (q + 1 + sizes ts) 256) [
         | yes i ↦ rw (lt-ltb (q + 1 + sizes ts) 256 i) (omega arith)
         | no i ↦ rw (le-ltb (q + 1 + sizes ts) 256 (omega arith)) (omega arith)
       ])
 
 module _ (pre : List ℕ) (post : List ℕ) (q : ℕ) (h : length pre ≡ q) (b : Bool) (f u : ℕ) where
-  pub word-here : (t : Tree) → word_at (array (reverse_aux pre (run word_of t post)) b f u) q ≡ word_of t
+  pub word_here : (t : Tree) → word_at (array (reverse_aux pre (run word_of t post)) b f u) q ≡ word_of t
   unfolding run
-  word-here (node k n l c bd ts) = rw (unrolled pre (node k n l c bd ts ∷ []) post b f u) (get-here pre _ _ q h 0)
+  word_here (node k n l c bd ts) = rw (unrolled pre (node k n l c bd ts ∷ []) post b f u) (get_here pre _ _ q h 0)
 
-  pub end-here : (t : Tree) → q + size t ≤ 256 → end_of (array (reverse_aux pre (run word_of t post)) b f u) q ≡ q + size t
+  pub end_here : (t : Tree) → q + size t ≤ 256 → end_of (array (reverse_aux pre (run word_of t post)) b f u) q ≡ q + size t
   unfolding run
-  end-here t j = rw (unrolled pre (t ∷ []) post b f u) (end-in pre (post ++ tail b f u) q h t j)
+  end_here t j = rw (unrolled pre (t ∷ []) post b f u) (end_in pre (post ++ tail b f u) q h t j)
 
 module _ (ts : Forest) (q n : ℕ) (e : n ≡ sizes ts) where
-  pub words-freshen : (pre post : List ℕ) → length pre ≡ q → (b : Bool) (f u : ℕ)
-      → freshWords q n (array (reverse_aux pre (runs word_of ts post)) b f u) ≡ array (reverse_aux pre (runs word_of (freshAll ts) post)) b f u
-  unfolding freshWords
-  words-freshen pre post h b f u = rw (e, unrolled pre ts post b f u, unrolled pre (freshAll ts) post b f u)
-      (clear-forest word_of 0 freshWord freshWords (λ q l. refl) (λ q n l. refl) word-clean ts pre _ q h)
+  pub words_freshen : (pre post : List ℕ) → length pre ≡ q → (b : Bool) (f u : ℕ)
+      → fresh_words q n (array (reverse_aux pre (runs word_of ts post)) b f u) ≡ array (reverse_aux pre (runs word_of (fresh_all ts) post)) b f u
+  unfolding fresh_words
+  words_freshen pre post h b f u = rw (e, unrolled pre ts post b f u, unrolled pre (fresh_all ts) post b f u)
+      (clear_forest word_of 0 fresh_word fresh_words (λ q l. refl) (λ q n l. refl) word_clean ts pre _ q h)
 
-  pub times-freshen : (pre post : List Float) → length pre ≡ q → freshTimes q n (reverse_aux pre (runs timeIn ts post)) ≡ reverse_aux pre (runs timeIn (freshAll ts) post)
-  unfolding freshTimes
-  times-freshen pre post h = rw e (clear-forest timeIn zeroTime (λ x. zeroTime) freshTimes (λ q l. refl) (λ q n l. refl) time-clean ts pre post q h)
+  pub times_freshen : (pre post : List Float) → length pre ≡ q → fresh_times q n (reverse_aux pre (runs time_in ts post)) ≡ reverse_aux pre (runs time_in (fresh_all ts) post)
+  unfolding fresh_times
+  times_freshen pre post h = rw e (clear_forest time_in zero_time (λ x. zero_time) fresh_times (λ q l. refl) (λ q n l. refl) time_clean ts pre post q h)
 
 -- ---- what stands behind the 256 words
-set-append-add : (xs ys : List ℕ) (n a : ℕ) → set (xs ++ ys) (length xs + n) a ≡ xs ++ set ys n a
-set-append-add List.[] ys n a = rw zero-add
-set-append-add (List.◌∷◌ x xs) ys n a = rw (suc-add (length xs) n, set-append-add xs ys n a)
+set_append_add : (xs ys : List ℕ) (n a : ℕ) → set (xs ++ ys) (length xs + n) a ≡ xs ++ set ys n a
+set_append_add List.[] ys n a = rw zero-add
+set_append_add (List.◌∷◌ x xs) ys n a = rw (suc-add (length xs) n, set_append_add xs ys n a)
 
 module _ (l : List ℕ) (h : length l ≡ 256) where
-  get-tail : (z : List ℕ) (n m : ℕ) → 256 + n ≡ m → get_or (l ++ z) m 0 ≡ get_or z n 0
-  get-tail z n m e = rw (← e, ← h) (get_or-append-add l z n 0)
+  get_tail : (z : List ℕ) (n m : ℕ) → 256 + n ≡ m → get_or (l ++ z) m 0 ≡ get_or z n 0
+  get_tail z n m e = rw (← e, ← h) (get_or-append-add l z n 0)
 
-  set-tail : (z : List ℕ) (n m a : ℕ) → 256 + n ≡ m → set (l ++ z) m a ≡ l ++ set z n a
-  set-tail z n m a e = rw (← e, ← h) (set-append-add l z n a)
+  set_tail : (z : List ℕ) (n m a : ℕ) → 256 + n ≡ m → set (l ++ z) m a ≡ l ++ set z n a
+  set_tail z n m a e = rw (← e, ← h) (set_append_add l z n a)
 
   module _ (b : Bool) (f u : ℕ) where
-    pub fuel-in : fuelOf (array l b f u) ≡ f
+    pub fuel_in_lem : fuel_of (array l b f u) ≡ f
     unfolding array
-    fuel-in = get-tail (tail b f u) 0 256 refl
+    fuel_in_lem = get_tail (tail b f u) 0 256 refl
 
-    pub used-in : usedOf (array l b f u) ≡ u
+    pub used_in : used_of (array l b f u) ≡ u
     unfolding array
-    used-in = get-tail (tail b f u) 1 257 refl
+    used_in = get_tail (tail b f u) 1 257 refl
 
     pub asked_in : asked_of (array l b f u) ≡ 0
     unfolding array
-    asked_in = get-tail (tail b f u) 2 258 refl
+    asked_in = get_tail (tail b f u) 2 258 refl
 
-    pub burnt-in : (f' : ℕ) → set (array l b f u) 256 f' ≡ array l b f' u
+    pub burnt_in : (f' : ℕ) → set (array l b f u) 256 f' ≡ array l b f' u
     unfolding array
-    burnt-in f' = set-tail (tail b f u) 0 256 f' refl
+    burnt_in f' = set_tail (tail b f u) 0 256 f' refl
 
-    pub answered-in : (u' : ℕ) → set (array l b f u) 257 u' ≡ array l b f u'
+    pub answered_in : (u' : ℕ) → set (array l b f u) 257 u' ≡ array l b f u'
     unfolding array
-    answered-in u' = set-tail (tail b f u) 1 257 u' refl
+    answered_in u' = set_tail (tail b f u) 1 257 u' refl
 
-    pub asking-in : (p : ℕ) → asked_of (set (array l b f u) 258 p) ≡ p
+    pub asking_in : (p : ℕ) → asked_of (set (array l b f u) 258 p) ≡ p
     unfolding array
-    asking-in p = rw (set-tail (tail b f u) 2 258 p refl) (get-tail (List.◌∷◌ f (List.◌∷◌ u (List.◌∷◌ p (List.◌∷◌ (bit b) List.[])))) 2 258 refl)
+    asking_in p = rw (set_tail (tail b f u) 2 258 p refl) (get_tail (List.◌∷◌ f (List.◌∷◌ u (List.◌∷◌ p (List.◌∷◌ (bit b) List.[])))) 2 258 refl)
 
-  pub updates-in : (b : Bool) (f u : ℕ) → updates (array l b f u) ≡ b
+  pub updates_in : (b : Bool) (f u : ℕ) → updates (array l b f u) ≡ b
   unfolding array
-  updates-in true f u = rw (get-tail (tail true f u) 3 259 refl)
-  updates-in false f u = rw (get-tail (tail false f u) 3 259 refl)
+  updates_in true f u = rw (get_tail (tail true f u) 3 259 refl)
+  updates_in false f u = rw (get_tail (tail false f u) 3 259 refl)
 
-  pub passed-in : (b : Bool) (f u : ℕ) (x : Float) → passed (array l b f u) x ≡ dt (eventOf b x)
+  pub passed_in : (b : Bool) (f u : ℕ) (x : Float) → passed (array l b f u) x ≡ dt (event_of b x)
   unfolding passed
-  passed-in true f u x = rw (updates-in true f u)
-  passed-in false f u x = rw (updates-in false f u)
+  passed_in true f u x = rw (updates_in true f u)
+  passed_in false f u x = rw (updates_in false f u)

@@ -6,36 +6,36 @@ use mathlib.Core.List.{List, reverse_aux}
 use mathlib.Core.List
 use Rattle.std.proofs.lemmas.List.{length-replicate}
 use Rattle.rules.specs.Tree.{Tree, node, Forest, [], ◌∷◌, size, sizes, depth, depths}
-use Rattle.rules.specs.Cells.{column, columns, timeOf}
-use Rattle.work.specs.Array.{fuelOf, usedOf, end_of}
-use Rattle.refine.specs.Words.{words, wordsAll, behind, working, Fits, FitsAll, Holds, HoldsAll}
-use Rattle.refine.specs.Runs.{run, runs, run-append, length_run, fuel-in, used-in, push, length_push, push-run, word_of, timeIn, array, end-here}
+use Rattle.rules.specs.Cells.{column, columns, time_of}
+use Rattle.work.specs.Array.{fuel_of, used_of, end_of}
+use Rattle.refine.specs.Words.{words, words_all, behind, working, Fits, FitsAll, Holds, HoldsAll}
+use Rattle.refine.specs.Runs.{run, runs, run_append, length_run, fuel_in_lem, used_in, push, length_push, push_run, word_of, time_in, array, end_here}
 use Rattle.refine.specs.Stand.{Given, At, Ats}
-use Rattle.refine.specs.Frame.{Frame, words_in, timesIn}
+use Rattle.refine.specs.Frame.{Frame, words_in, times_in}
 
 mutual
   unfolding words run
 
-  pub words-run : (t : Tree) (post : List ℕ) → run word_of t post ≡ words t post
-  words-run (node k n l c b ts) post = ap (λ (r : List ℕ). List.◌∷◌ (word_of (node k n l c b ts)) r) (words_runs ts post)
+  pub words_run : (t : Tree) (post : List ℕ) → run word_of t post ≡ words t post
+  words_run (node k n l c b ts) post = ap (λ (r : List ℕ). List.◌∷◌ (word_of (node k n l c b ts)) r) (words_runs ts post)
 
-  words_runs : (ts : Forest) (post : List ℕ) → runs word_of ts post ≡ wordsAll ts post
+  words_runs : (ts : Forest) (post : List ℕ) → runs word_of ts post ≡ words_all ts post
   words_runs [] post = refl
-  words_runs (t ∷ ts) post = words-run t (runs word_of ts post) ∙ ap (λ (r : List ℕ). words t r) (words_runs ts post)
+  words_runs (t ∷ ts) post = words_run t (runs word_of ts post) ∙ ap (λ (r : List ℕ). words t r) (words_runs ts post)
 
 mutual
   unfolding column run
 
-  times-run : (t : Tree) (post : List Float) → run timeIn t post ≡ column timeOf t post
-  times-run (node k n l c b ts) post = ap (λ (r : List Float). List.◌∷◌ (timeOf c b) r) (times-runs ts post)
+  times_run : (t : Tree) (post : List Float) → run time_in t post ≡ column time_of t post
+  times_run (node k n l c b ts) post = ap (λ (r : List Float). List.◌∷◌ (time_of c b) r) (times_runs ts post)
 
-  times-runs : (ts : Forest) (post : List Float) → runs timeIn ts post ≡ columns timeOf ts post
-  times-runs [] post = refl
-  times-runs (t ∷ ts) post = times-run t (runs timeIn ts post) ∙ ap (λ (r : List Float). column timeOf t r) (times-runs ts post)
+  times_runs : (ts : Forest) (post : List Float) → runs time_in ts post ≡ columns time_of ts post
+  times_runs [] post = refl
+  times_runs (t ∷ ts) post = times_run t (runs time_in ts post) ∙ ap (λ (r : List Float). column time_of t r) (times_runs ts post)
 
 -- the frame of the whole tree
-pub start-full : (n : ℕ) → n ≤ 256 → n + length (replicate {A = ℕ} (256 - n) 0) ≡ 256
-start-full n h = omega (arith, length-replicate {A = ℕ} (256 - n) 0)
+pub start_full : (n : ℕ) → n ≤ 256 → n + length (replicate {A = ℕ} (256 - n) 0) ≡ 256
+start_full n h = omega (arith, length-replicate {A = ℕ} (256 - n) 0)
 
 abbrev pub start : (G : Given) (d : ℕ) → List Float → Frame G d
 start G d rest = record {
@@ -45,33 +45,33 @@ start G d rest = record {
   later = rest;
   q = 0;
   stop = G.nodes;
-  words-before = refl;
-  times-before = refl;
-  full = start-full G.nodes G.room;
+  words_before = refl;
+  times_before = refl;
+  full = start_full G.nodes G.room;
 }
 
-pub words-start : (G : Given) (d : ℕ) (rest : List Float) (t : Tree) (f u : ℕ) → size t ≡ G.nodes → words_in (start G d rest) (t ∷ []) f u ≡ working t f u G.update
+pub words_start : (G : Given) (d : ℕ) (rest : List Float) (t : Tree) (f u : ℕ) → size t ≡ G.nodes → words_in (start G d rest) (t ∷ []) f u ≡ working t f u G.update
 unfolding working behind array run
-words-start G d rest t f u e = rw (← e) (sym (run-append word_of t (replicate (256 - size t) 0) _) ∙ words-run t _)
+words_start G d rest t f u e = rw (← e) (sym (run_append word_of t (replicate (256 - size t) 0) _) ∙ words_run t _)
 
 -- the fuel and the answers that a tree's array says
 module _ (t : Tree) (f u : ℕ) (b : Bool) (room : size t ≤ 256) where
-  nodes-full : length (run word_of t (replicate (256 - size t) 0)) ≡ 256
-  nodes-full = omega (arith, length_run word_of t (replicate (256 - size t) 0), start-full (size t) room)
+  nodes_full : length (run word_of t (replicate (256 - size t) 0)) ≡ 256
+  nodes_full = omega (arith, length_run word_of t (replicate (256 - size t) 0), start_full (size t) room)
 
-  as-array : array (run word_of t (replicate (256 - size t) 0)) b f u ≡ working t f u b
+  as_array : array (run word_of t (replicate (256 - size t) 0)) b f u ≡ working t f u b
   unfolding working behind array
-  as-array = sym (run-append word_of t (replicate (256 - size t) 0) _) ∙ words-run t _
+  as_array = sym (run_append word_of t (replicate (256 - size t) 0) _) ∙ words_run t _
 
-  pub fuel-left : fuelOf (working t f u b) ≡ f
-  fuel-left = rw (← as-array) (fuel-in (run word_of t (replicate (256 - size t) 0)) nodes-full b f u)
+  pub fuel_left : fuel_of (working t f u b) ≡ f
+  fuel_left = rw (← as_array) (fuel_in_lem (run word_of t (replicate (256 - size t) 0)) nodes_full b f u)
 
-  pub used-up : usedOf (working t f u b) ≡ u
-  used-up = rw (← as-array) (used-in (run word_of t (replicate (256 - size t) 0)) nodes-full b f u)
+  pub used_up : used_of (working t f u b) ≡ u
+  used_up = rw (← as_array) (used_in (run word_of t (replicate (256 - size t) 0)) nodes_full b f u)
 
-pub times-start : (G : Given) (d : ℕ) (rest : List Float) (t : Tree) → timesIn (start G d rest) (t ∷ []) ≡ column timeOf t rest
+pub times_start : (G : Given) (d : ℕ) (rest : List Float) (t : Tree) → times_in (start G d rest) (t ∷ []) ≡ column time_of t rest
 unfolding run
-times-start G d rest t = times-run t rest
+times_start G d rest t = times_run t rest
 
 -- where each subtree ends is read in the array
 module _ (ns : List ℕ) (limits : List Float) (ss : List ℕ) (ls : List Float) (b : Bool) (fuel : ℕ) (ws : List ℕ) (nodes : ℕ) (room : nodes ≤ 256) (small : fuel < 2 ^ 32) where
@@ -82,7 +82,7 @@ module _ (ns : List ℕ) (limits : List Float) (ss : List ℕ) (ls : List Float)
     mutual
       unfolding run size Holds Fits depth
 
-      pub at-start : (t : Tree) (pre post : List ℕ) (q d : ℕ)
+      pub at_start : (t : Tree) (pre post : List ℕ) (q d : ℕ)
           → length pre ≡ q
           → ws ≡ array (reverse_aux pre (run word_of t post)) b f u
           → Holds ns limits q t
@@ -90,15 +90,15 @@ module _ (ns : List ℕ) (limits : List Float) (ss : List ℕ) (ls : List Float)
           → depth t ≤ d
           → q + size t ≤ nodes
           → At given q t d
-      at-start (node k n l c bd ts) pre post q zero h w hs fs dp j = absurd (not-suc-le-zero dp)
-      at-start (node k n l c bd ts) pre post q (suc d) h w hs fs dp j =
+      at_start (node k n l c bd ts) pre post q zero h w hs fs dp j = absurd (not-suc-le-zero dp)
+      at_start (node k n l c bd ts) pre post q (suc d) h w hs fs dp j =
           let t : Tree = node k n l c bd ts in
-          let ends : end_of ws q ≡ q + suc (sizes ts) = rw w (end-here pre post q h b f u t (omega arith)) in (
+          let ends : end_of ws q ≡ q + suc (sizes ts) = rw w (end_here pre post q h b f u t (omega arith)) in (
             record { row = hs.0; place = fs.0.0; mark = fs.0.1; room = omega arith },
-            ats-start ts (List.◌∷◌ (word_of t) pre) post (suc q) (end_of ws q) d (ap (λ (z : ℕ). suc z) h) (omega arith) w hs.1 fs.1 (omega arith) (omega arith),
+            ats_start ts (List.◌∷◌ (word_of t) pre) post (suc q) (end_of ws q) d (ap (λ (z : ℕ). suc z) h) (omega arith) w hs.1 fs.1 (omega arith) (omega arith),
           )
 
-      ats-start : (ts : Forest) (pre post : List ℕ) (q stop d : ℕ)
+      ats_start : (ts : Forest) (pre post : List ℕ) (q stop d : ℕ)
           → length pre ≡ q
           → stop ≡ q + sizes ts
           → ws ≡ array (reverse_aux pre (runs word_of ts post)) b f u
@@ -107,10 +107,10 @@ module _ (ns : List ℕ) (limits : List Float) (ss : List ℕ) (ls : List Float)
           → depths ts ≤ d
           → q + sizes ts ≤ nodes
           → Ats given q ts stop d
-      ats-start [] pre post q stop d h e w hs fs dp j = omega arith
-      ats-start (t ∷ ts) pre post q stop d h e w hs fs dp j =
-          let ends : end_of ws q ≡ q + size t = rw w (end-here pre (runs word_of ts post) q h b f u t (omega arith)) in (
-            at-start t pre (runs word_of ts post) q d h w hs.0 fs.0 (omega arith) (omega arith),
-            ats-start ts (push word_of t pre) post (end_of ws q) stop d (omega (arith, length_push word_of t pre)) (omega arith)
-                (w ∙ ap (λ (l : List ℕ). array l b f u) (sym (push-run word_of t pre (runs word_of ts post)))) (rw ends hs.1) fs.1 (omega arith) (omega arith),
+      ats_start [] pre post q stop d h e w hs fs dp j = omega arith
+      ats_start (t ∷ ts) pre post q stop d h e w hs fs dp j =
+          let ends : end_of ws q ≡ q + size t = rw w (end_here pre (runs word_of ts post) q h b f u t (omega arith)) in (
+            at_start t pre (runs word_of ts post) q d h w hs.0 fs.0 (omega arith) (omega arith),
+            ats_start ts (push word_of t pre) post (end_of ws q) stop d (omega (arith, length_push word_of t pre)) (omega arith)
+                (w ∙ ap (λ (l : List ℕ). array l b f u) (sym (push_run word_of t pre (runs word_of ts post)))) (rw ends hs.1) fs.1 (omega arith) (omega arith),
           )

@@ -3,9 +3,9 @@ use Rattle.std.specs.Prelude.{◌≡◌, Bool, true, false, List, ◌++◌, ℕ,
 use mathlib.Core.List
 use Rattle.rules.specs.declared.behavior.Kind.{Kind}
 use Rattle.rules.specs.Kinds.{code, fewest, most}
-use Rattle.rules.specs.Tree.{zeroTime, Cell, Tree, node, Forest, [], ◌∷◌, size, sizes, count}
+use Rattle.rules.specs.Tree.{zero_time, Cell, Tree, node, Forest, [], ◌∷◌, size, sizes, count}
 use Rattle.rules.specs.Table.{cleaned}
-use Rattle.rules.specs.Cells.{place_of, mark_of, anewOf}
+use Rattle.rules.specs.Cells.{place_of, mark_of, anew_of}
 
 abbrev pub bit : Bool → ℕ
 bit true = 1
@@ -18,11 +18,11 @@ pack below kind place mark anew seen = below % 256 + kind * 256 + place % 256 * 
 -- the words of a tree in preorder, before `post`
 unfoldable mutual
   pub words : Tree → List ℕ → List ℕ
-  words (node k n l c b ts) post = List.◌∷◌ (pack (sizes ts) (code k) (place_of c b) (mark_of c b) (anewOf c b) b) (wordsAll ts post)
+  words (node k n l c b ts) post = List.◌∷◌ (pack (sizes ts) (code k) (place_of c b) (mark_of c b) (anew_of c b) b) (words_all ts post)
 
-  pub wordsAll : Forest → List ℕ → List ℕ
-  wordsAll [] post = post
-  wordsAll (t ∷ ts) post = words t (wordsAll ts post)
+  pub words_all : Forest → List ℕ → List ℕ
+  words_all [] post = post
+  words_all (t ∷ ts) post = words t (words_all ts post)
 
 -- what stands behind the words of n nodes
 unfoldable pub behind : ℕ → ℕ → ℕ → ℕ → Bool → List ℕ
@@ -44,7 +44,7 @@ unfoldable mutual
 -- the row of a node with so many children
 pub record Row (ns : List ℕ) (limits : List Float) (q : ℕ) (k : Kind) (n : ℕ) (l : Float) (kids : ℕ) : Type 0 where
   pub number : get_or ns q 0 ≡ n
-  pub limit : cleaned (get_or limits q zeroTime) ≡ l
+  pub limit : cleaned (get_or limits q zero_time) ≡ l
   pub enough : fewest k ≤ kids
   pub few : kids ≤ most k
 

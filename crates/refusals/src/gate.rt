@@ -2,7 +2,7 @@
 ghost use Rattle.std.specs.Prelude.{◌≡◌, ℕ, replicate};
 ghost use Rattle.rules.specs.Call.{run, given};
 ghost use Rattle.rules.specs.Levels.{levels};
-ghost use Rattle.refusals.specs.Due.{entriesOf, timedOf, shortFor, Unmatched, Passed};
+ghost use Rattle.refusals.specs.Due.{entries_of, timed_of, short_for, Unmatched, Passed};
 
 use cells::long_enough;
 use load::{Scanned, scan};
@@ -26,7 +26,7 @@ enum Timed {
 }
 
 fn event_of(event: Event) -> Timed
-    ensures { result ≡ timedOf event }
+    ensures { result ≡ timed_of event }
 {
     match event {
         Event::Update(dt) => match number_of(dt) {
@@ -39,7 +39,7 @@ fn event_of(event: Event) -> Timed
 
 // How many entries are at hand. A walk with recursion needs no room, and finds enough.
 pub fn entries_of(opens: &[u64], counts: &[u32], wholes: &[f64], rests: &[f64], flat: bool) -> usize
-    ensures { result ≡ entriesOf flat (levels opens.now counts.now wholes.now rests.now) }
+    ensures { result ≡ entries_of flat (levels opens.now counts.now wholes.now rests.now) }
 {
     if flat {
         least(
@@ -64,7 +64,7 @@ fn too_short(
     board: &[u8],
     n: usize,
 ) -> bool
-    ensures { result ≡ shortFor n (run times.now places.now marks.now sinces.now)
+    ensures { result ≡ short_for n (run times.now places.now marks.now sinces.now)
         (run spare_times.now spare_places.now spare_marks.now spare_sinces.now) board.now }
 {
     if !long_enough(times, places, marks, sinces, n) {

@@ -8,25 +8,25 @@ use Rattle.rules.specs.declared.behavior.Kind.TheVariants.{MemorylessSequence, M
 use Rattle.rules.specs.Kinds.{kind_of}
 use Rattle.rules.specs.contracts.behavior.Kind.{the_type}
 
-kindOf-tag : (k : Kind) → kind_of (tag_of the_type k) ≡ k
+kind_of_tag : (k : Kind) → kind_of (tag_of the_type k) ≡ k
 unfolding kind_of
-kindOf-tag Wait = refl
-kindOf-tag WaitForever = refl
-kindOf-tag Action = refl
-kindOf-tag Invert = refl
-kindOf-tag AlwaysSucceed = refl
-kindOf-tag Timeout = refl
-kindOf-tag Select = refl
-kindOf-tag If = refl
-kindOf-tag Sequence = refl
-kindOf-tag MemorylessSequence = refl
-kindOf-tag MemorylessSelector = refl
-kindOf-tag While = refl
-kindOf-tag WhileAll = refl
-kindOf-tag WhenAll = refl
-kindOf-tag WhenAny = refl
-kindOf-tag After = refl
-kindOf-tag Race = refl
+kind_of_tag Wait = refl
+kind_of_tag WaitForever = refl
+kind_of_tag Action = refl
+kind_of_tag Invert = refl
+kind_of_tag AlwaysSucceed = refl
+kind_of_tag Timeout = refl
+kind_of_tag Select = refl
+kind_of_tag If = refl
+kind_of_tag Sequence = refl
+kind_of_tag MemorylessSequence = refl
+kind_of_tag MemorylessSelector = refl
+kind_of_tag While = refl
+kind_of_tag WhileAll = refl
+kind_of_tag WhenAll = refl
+kind_of_tag WhenAny = refl
+kind_of_tag After = refl
+kind_of_tag Race = refl
 
 module _ (Q : Kind → Type 0) where
   abbrev pub Each : List ℕ → Type 0
@@ -34,7 +34,7 @@ module _ (Q : Kind → Type 0) where
   Each (n ∷ ns) = Q (kind_of n) × Each ns
 
   at : (n : ℕ) (k : Kind) → tag_of the_type k ≡ n → Q (kind_of n) → Q k
-  at n k e q = subst Q (ap kind_of (sym e) ∙ kindOf-tag k) q
+  at n k e q = subst Q (ap kind_of (sym e) ∙ kind_of_tag k) q
 
   pub arm : (ns : List ℕ) (k : Kind) → OneOf ns (tag_of the_type k) → Each ns → Q k
   arm [] k h es = absurd h

@@ -27,14 +27,14 @@ shows Race p i t = 0
 
 -- the tree with its board "by the cells after the tick"; its root shows s if it was not visited
 unfoldable mutual
-  pub shownAs : ℕ → Tree → Tree
-  shownAs s (node k n l c b ts) = node k n l c (cond (b == 0) s b) (shownFrom k c.place 0 ts)
+  pub shown_as : ℕ → Tree → Tree
+  shown_as s (node k n l c b ts) = node k n l c (cond (b == 0) s b) (shown_from k c.place 0 ts)
 
   -- the children from child i on of a node of kind k at place p
-  pub shownFrom : Kind → ℕ → ℕ → Forest → Forest
-  shownFrom k p i [] = []
-  shownFrom k p i (t ∷ ts) = shownAs (shows k p i t) t ∷ shownFrom k p (suc i) ts
+  pub shown_from : Kind → ℕ → ℕ → Forest → Forest
+  shown_from k p i [] = []
+  shown_from k p i (t ∷ ts) = shown_as (shows k p i t) t ∷ shown_from k p (suc i) ts
 
 -- the root is nobody's child
 abbrev pub shown : Tree → Tree
-shown t = shownAs 0 t
+shown t = shown_as 0 t

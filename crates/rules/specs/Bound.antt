@@ -19,9 +19,9 @@ cap binary64 = 2 ^ 40
 unfoldable pub num : Float → ℕ
 num x = to_unsigned 64 x
 
-unfoldable pub wholeTime : Format → Float → Bool
+unfoldable pub whole_time : Format → Float → Bool
 unfolding num in_unsigned
-wholeTime F x = in_unsigned F 64 x && nat_le (num x) (cap F)
+whole_time F x = in_unsigned F 64 x && nat_le (num x) (cap F)
 
 -- a number of ticks, or none
 pub data Lim : Type 0 where
@@ -34,42 +34,42 @@ sum_l never b = never
 sum_l (within a) never = never
 sum_l (within a) (within b) = within (a + b)
 
-abbrev pub maxL : Lim → Lim → Lim
-maxL never b = never
-maxL (within a) never = never
-maxL (within a) (within b) = within (max a b)
+abbrev pub max_l : Lim → Lim → Lim
+max_l never b = never
+max_l (within a) never = never
+max_l (within a) (within b) = within (max a b)
 
-abbrev pub timesL : Lim → Lim → Lim
-timesL never b = never
-timesL (within a) never = never
-timesL (within a) (within b) = within (a * b)
+abbrev pub times_l : Lim → Lim → Lim
+times_l never b = never
+times_l (within a) never = never
+times_l (within a) (within b) = within (a * b)
 
 -- the smallest that one has
-abbrev pub minL : Lim → Lim → Lim
-minL never b = b
-minL (within a) never = within a
-minL (within a) (within b) = within (min a b)
+abbrev pub min_l : Lim → Lim → Lim
+min_l never b = b
+min_l (within a) never = within a
+min_l (within a) (within b) = within (min a b)
 
 -- "the larger of 1 and L/d rounded up"
-abbrev pub ownTicks : ℕ → Float → ℕ
-ownTicks d l = max 1 ((num l + (d - 1)) / d)
+abbrev pub own_ticks : ℕ → Float → ℕ
+own_ticks d l = max 1 ((num l + (d - 1)) / d)
 
 module _ (d : ℕ) where
   unfoldable mutual
     pub bound : Tree → Lim
-    bound (node Wait n l c b ts) = within (ownTicks d l)
+    bound (node Wait n l c b ts) = within (own_ticks d l)
     bound (node WaitForever n l c b ts) = never
     bound (node Action n l c b ts) = never
     bound (node Invert n l c b ts) = first ts
     bound (node AlwaysSucceed n l c b ts) = first ts
-    bound (node Timeout n l c b ts) = minL (within (ownTicks d l)) (first ts)
+    bound (node Timeout n l c b ts) = min_l (within (own_ticks d l)) (first ts)
     bound (node Select n l c b ts) = sum ts
-    bound (node If n l c b ts) = firstAndLargest ts
+    bound (node If n l c b ts) = first_and_largest ts
     bound (node Sequence n l c b ts) = sum ts
     bound (node MemorylessSequence n l c b ts) = empty ts
     bound (node MemorylessSelector n l c b ts) = empty ts
     bound (node While n l c b ts) = first ts
-    bound (node WhileAll n l c b ts) = firstTimesSum ts
+    bound (node WhileAll n l c b ts) = first_times_sum ts
     bound (node WhenAll n l c b ts) = largest ts
     bound (node WhenAny n l c b ts) = largest ts
     bound (node After n l c b ts) = largest ts
@@ -89,48 +89,48 @@ module _ (d : ℕ) where
 
     pub largest : Forest → Lim
     largest [] = within 1
-    largest (t ∷ ts) = maxL (bound t) (largest ts)
+    largest (t ∷ ts) = max_l (bound t) (largest ts)
 
     pub smallest : Forest → Lim
     smallest [] = never
-    smallest (t ∷ ts) = minL (bound t) (smallest ts)
+    smallest (t ∷ ts) = min_l (bound t) (smallest ts)
 
-    pub firstAndLargest : Forest → Lim
-    firstAndLargest [] = never
-    firstAndLargest (t ∷ ts) = sum_l (bound t) (largest ts)
+    pub first_and_largest : Forest → Lim
+    first_and_largest [] = never
+    first_and_largest (t ∷ ts) = sum_l (bound t) (largest ts)
 
-    pub firstTimesSum : Forest → Lim
-    firstTimesSum [] = never
-    firstTimesSum (t ∷ ts) = timesL (bound t) (sum ts)
+    pub first_times_sum : Forest → Lim
+    first_times_sum [] = never
+    first_times_sum (t ∷ ts) = times_l (bound t) (sum ts)
 
 -- every limit is whole and at most the cap, and no After is without children
 module _ (F : Format) where
   unfoldable mutual
-    unfolding wholeTime
+    unfolding whole_time
 
     pub boundable : Tree → Bool
-    boundable (node k n l c b ts) = cond (timed k) (wholeTime F l) true && not (is k After && count ts == 0) && boundables ts
+    boundable (node k n l c b ts) = cond (timed k) (whole_time F l) true && not (is k After && count ts == 0) && boundables ts
 
     pub boundables : Forest → Bool
     boundables [] = true
     boundables (t ∷ ts) = boundable t && boundables ts
 
 -- the step: whole, 1 to the cap
-abbrev pub stepAllowed : Format → Float → Bool
-stepAllowed F d = wholeTime F d && nat_le 1 (num d)
+abbrev pub step_allowed : Format → Float → Bool
+step_allowed F d = whole_time F d && nat_le 1 (num d)
 
 -- the largest number that is told
-abbrev pub mostTicks : ℕ
-mostTicks = 2 ^ 53
+abbrev pub most_ticks : ℕ
+most_ticks = 2 ^ 53
 
 abbrev pub told : Lim → BoundAnswer
 told never = says.Never
-told (within n) = cond (nat_le n mostTicks) (says.Within n) says.Above
+told (within n) = cond (nat_le n most_ticks) (says.Within n) says.Above
 
 -- 3, then 8, then the root's answer
-unfoldable pub boundCall : Format → List ℕ → List ℕ → List Float → Float → BoundAnswer
-unfolding table wholeTime boundable bound
-boundCall F kinds ns limits d = elim (table kinds ns limits) [
+unfoldable pub bound_call : Format → List ℕ → List ℕ → List Float → Float → BoundAnswer
+unfolding table whole_time boundable bound
+bound_call F kinds ns limits d = elim (table kinds ns limits) [
   | bad p ↦ says.BadTable p
-  | good t ↦ cond (stepAllowed F d && boundable F t) (told (bound (num d) t)) says.NoBound
+  | good t ↦ cond (step_allowed F d && boundable F t) (told (bound (num d) t)) says.NoBound
 ]

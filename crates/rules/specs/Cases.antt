@@ -14,22 +14,22 @@ use Rattle.rules.specs.declared.answer.Answer.TheVariants.{Ticked, Asked, Finish
 use Rattle.rules.specs.declared.answer.BoundAnswer.{BoundAnswer}
 use Rattle.rules.specs.declared.answer.BoundAnswer.TheVariants.{Within, Never, NoBound}
 use Rattle.rules.specs.Kinds.{code, kind_of}
-use Rattle.rules.specs.Tree.{zeroTime, newCell, Tree, node, Forest, [], ◌∷◌, size, count}
+use Rattle.rules.specs.Tree.{zero_time, new_cell, Tree, node, Forest, [], ◌∷◌, size, count}
 use Rattle.rules.specs.Outcome.{byte, largest}
 use Rattle.rules.specs.Cells.{column}
-use Rattle.rules.specs.Call.{run, Given, Left, tickCall}
-use Rattle.rules.specs.Bound.{boundCall}
+use Rattle.rules.specs.Call.{run, Given, Left, tick_call}
+use Rattle.rules.specs.Bound.{bound_call}
 
 -- ---- trees, and their tables
 abbrev sec : ℕ → Float
 sec n = of_int binary64 (pos n)
 
-abbrev minusZero : Float
-minusZero = fin true 0 (pos 0)
+abbrev minus_zero : Float
+minus_zero = fin true 0 (pos 0)
 
 -- a fresh node with a limit
 abbrev timed : Kind → ℕ → Forest → Tree
-timed k l ts = node k (count ts) (sec l) newCell 0 ts
+timed k l ts = node k (count ts) (sec l) new_cell 0 ts
 
 abbrev of : Kind → Forest → Tree
 of k ts = timed k 0 ts
@@ -41,17 +41,17 @@ abbrev forever : Tree
 forever = of WaitForever []
 
 abbrev act : ℕ → Tree
-act n = node Action n zeroTime newCell 0 []
+act n = node Action n zero_time new_cell 0 []
 
 -- a field of each node in preorder, before `behind`
 module _ {A : Type 0} (field : Kind → ℕ → Float → A) where
   unfoldable mutual
     pub fields : Tree → List A → List A
-    fields (node k n l c b ts) behind = List.◌∷◌ (field k n l) (fieldsAll ts behind)
+    fields (node k n l c b ts) behind = List.◌∷◌ (field k n l) (fields_all ts behind)
 
-    pub fieldsAll : Forest → List A → List A
-    fieldsAll [] behind = behind
-    fieldsAll (t ∷ ts) behind = fields t (fieldsAll ts behind)
+    pub fields_all : Forest → List A → List A
+    fields_all [] behind = behind
+    fields_all (t ∷ ts) behind = fields t (fields_all ts behind)
 
 -- a run with a fresh cell for each node; a board
 unfoldable pub zeros : {A : Type 0} → A → Tree → List A
@@ -64,10 +64,10 @@ pub data Call : Type 0 where
   call : Event → ℕ → List (Status × Float) → Call
 
 -- what the first call finds
-unfoldable pub atFirst : Tree → Left
+unfoldable pub at_first : Tree → Left
 unfolding zeros
-atFirst t =
-    let cells = run (zeros zeroTime t) (zeros 0 t) (zeros 0 t) (zeros 0 t) in
+at_first t =
+    let cells = run (zeros zero_time t) (zeros 0 t) (zeros 0 t) (zeros 0 t) in
     record { answer = OutOfFuel; record' = record { finished = false; ticks = 0 }; cells' = cells; spare = cells; board = zeros 0 t }
 
 -- each call takes up what the last one left
@@ -88,26 +88,26 @@ given t now (call e fuel ans) = record {
 }
 
 unfoldable pub said : Tree → Left → List Call → List Answer
-unfolding given tickCall
+unfolding given tick_call
 said t now List.[] = List.[]
-said t now (List.◌∷◌ c cs) = let next = tickCall binary64 (given t now c) in List.◌∷◌ next.answer (said t next cs)
+said t now (List.◌∷◌ c cs) = let next = tick_call binary64 (given t now c) in List.◌∷◌ next.answer (said t next cs)
 
 -- the board after each call
 unfoldable pub seen : Tree → Left → List Call → List (List ℕ)
-unfolding given tickCall
+unfolding given tick_call
 seen t now List.[] = List.[]
-seen t now (List.◌∷◌ c cs) = let next = tickCall binary64 (given t now c) in List.◌∷◌ next.board (seen t next cs)
+seen t now (List.◌∷◌ c cs) = let next = tick_call binary64 (given t now c) in List.◌∷◌ next.board (seen t next cs)
 
 -- the numbers of the cells after each call
 unfoldable pub numbered : Tree → Left → List Call → List (List ℕ)
-unfolding given tickCall
+unfolding given tick_call
 numbered t now List.[] = List.[]
-numbered t now (List.◌∷◌ c cs) = let next = tickCall binary64 (given t now c) in List.◌∷◌ next.cells'.sinces (numbered t next cs)
+numbered t now (List.◌∷◌ c cs) = let next = tick_call binary64 (given t now c) in List.◌∷◌ next.cells'.sinces (numbered t next cs)
 
 -- the finish bound of a step
 unfoldable pub bounds : Tree → ℕ → BoundAnswer
-unfolding fields boundCall
-bounds t d = boundCall binary64 (fields (λ k n l. code k) t List.[]) (fields (λ k n l. n) t List.[]) (fields (λ k n l. l) t List.[]) (sec d)
+unfolding fields bound_call
+bounds t d = bound_call binary64 (fields (λ k n l. code k) t List.[]) (fields (λ k n l. n) t List.[]) (fields (λ k n l. l) t List.[]) (sec d)
 
 -- ---- the list
 -- ticks TREE CALLS ANSWERS; boards TREE CALLS BOARDS; sinces TREE CALLS NUMBERS; bound TREE STEP ANSWER
@@ -123,10 +123,10 @@ pub data Shown : Type 0 where
   within : BoundAnswer → Shown
 
 unfoldable pub shown : Case → Shown
-unfolding said seen numbered atFirst bounds
-shown (ticks t cs a) = answers (said t (atFirst t) cs)
-shown (boards t cs b) = bytes (seen t (atFirst t) cs)
-shown (sinces t cs b) = bytes (numbered t (atFirst t) cs)
+unfolding said seen numbered at_first bounds
+shown (ticks t cs a) = answers (said t (at_first t) cs)
+shown (boards t cs b) = bytes (seen t (at_first t) cs)
+shown (sinces t cs b) = bytes (numbered t (at_first t) cs)
 shown (bound t d a) = within (bounds t d)
 
 abbrev pub expected : Case → Shown
@@ -161,8 +161,8 @@ abbrev one : Tree → Call → Answer → Case
 one t c a = ticks t (c and nil) (a and nil)
 
 -- wait for the lane and scan, give up after 2, and after 1 more send the set to rework by hand
-abbrev giveUp : Tree
-giveUp = of Select (timed Timeout 2 (of Sequence (act 1 ∷ act 2 ∷ []) ∷ []) ∷ timed Timeout 1 (act 3 ∷ []) ∷ [])
+abbrev give_up : Tree
+give_up = of Select (timed Timeout 2 (of Sequence (act 1 ∷ act 2 ∷ []) ∷ []) ∷ timed Timeout 1 (act 3 ∷ []) ∷ [])
 
 -- its condition is looked at when the body is through
 abbrev loop : Tree
@@ -194,18 +194,18 @@ cases =
     -- an Action's answer is passed unchanged
     and one (act 1) (giving (Update (sec 1)) Running 7) (Ticked Running (sec 7) 1 1)
     -- minus zero is taken as plus zero: dt, limits and leftovers
-    and one (act 1) (call (Update minusZero) 256 nil) (Asked 1 (sec 0))
-    and one (act 1) (call (Update (sec 1)) 256 ((Success, minusZero) and nil)) (Ticked Success (sec 0) 1 1)
-    and ticks (node After 2 minusZero newCell 0 (node Wait 0 minusZero newCell 0 [] ∷ wait 5 ∷ [])) (update 1 and update 1 and nil) (says Running 0 3 and says Running 0 2 and nil)
-    and bound (node Wait 0 minusZero newCell 0 []) 1 (Within 1)
+    and one (act 1) (call (Update minus_zero) 256 nil) (Asked 1 (sec 0))
+    and one (act 1) (call (Update (sec 1)) 256 ((Success, minus_zero) and nil)) (Ticked Success (sec 0) 1 1)
+    and ticks (node After 2 minus_zero new_cell 0 (node Wait 0 minus_zero new_cell 0 [] ∷ wait 5 ∷ [])) (update 1 and update 1 and nil) (says Running 0 3 and says Running 0 2 and nil)
+    and bound (node Wait 0 minus_zero new_cell 0 []) 1 (Within 1)
     -- finish bounds; the ticks that follow some of them need all of the bound
     and bound loop 1 (Within 6)
     and bound (of Sequence (wait 1 ∷ loop ∷ [])) 1 (Within 7)
     and ticks (of Sequence (wait 1 ∷ loop ∷ []))
     (update 1 and update 1 and update 1 and update 1 and update 1 and update 1 and update 1 and update 1 and nil)
     (says Running 0 5 and says Running 0 3 and says Running 0 3 and says Running 0 5 and says Running 0 3 and says Running 0 3 and says Success 0 4 and Finished and nil)
-    and bound giveUp 1 (Within 3)
-    and ticks giveUp
+    and bound give_up 1 (Within 3)
+    and ticks give_up
     (giving (Update (sec 1)) Running 0 and call (Update (sec 1)) 256 ((Running, sec 0) and (Running, sec 0) and nil) and giving (Update (sec 1)) Running 0 and update 1 and nil)
     (Ticked Running (sec 0) 4 1 and Ticked Running (sec 0) 6 2 and Ticked Failure (sec 0) 3 1 and Finished and nil)
     and bound (of Race (act 1 ∷ wait 4 ∷ [])) 2 (Within 2)
@@ -244,6 +244,6 @@ cases =
     and sinces (of MemorylessSequence (wait 1 ∷ act 1 ∷ [])) (other and update 1 and other and nil) ((0 and 1 and 1 and nil) and (0 and 1 and 1 and nil) and (0 and 2 and 2 and nil) and nil)
     and nil
 
-pub trees-to-try : map shown cases ≡ map expected cases
+pub trees_to_try : map shown cases ≡ map expected cases
 unfolding shown cases of_int to_unsigned whole kind_of size column
-trees-to-try = refl
+trees_to_try = refl

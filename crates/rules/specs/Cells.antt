@@ -5,9 +5,9 @@ use Rattle.std.specs.Float.{nan, inf, fin}
 use Rattle.rules.specs.declared.behavior.Kind.{Kind}
 use Rattle.rules.specs.declared.behavior.Kind.TheVariants.{Wait, WaitForever, Action, Invert, AlwaysSucceed, Timeout, Select, If, Sequence}
 use Rattle.rules.specs.declared.behavior.Kind.TheVariants.{MemorylessSequence, MemorylessSelector, While, WhileAll, WhenAll, WhenAny, After, Race}
-use Rattle.rules.specs.Kinds.{timed, marksChildren}
+use Rattle.rules.specs.Kinds.{timed, marks_children}
 use Rattle.rules.specs.Tree.{Cell, Tree, node, Forest, [], ◌∷◌}
-use Rattle.rules.specs.Table.{zeroBits}
+use Rattle.rules.specs.Table.{zero_bits}
 
 -- a cell as it is lent; no tick goes on
 abbrev pub cell_of : Float → ℕ → ℕ → Cell
@@ -22,13 +22,13 @@ cells (List.◌∷◌ x xs) (List.◌∷◌ p ps) (List.◌∷◌ m ms) = List.�
 
 -- the tree with the cells of a run, and the cells behind it; the board is cleared, as each tick clears it
 unfoldable mutual
-  pub withCells : Tree → List Cell → Tree × List Cell
-  withCells (node k n l c b ts) List.[] = (node k n l c 0 ts, List.[])
-  withCells (node k n l c b ts) (List.◌∷◌ c' cs) = let r = withCellsAll ts cs in (node k n l c' 0 r.0, r.1)
+  pub with_cells : Tree → List Cell → Tree × List Cell
+  with_cells (node k n l c b ts) List.[] = (node k n l c 0 ts, List.[])
+  with_cells (node k n l c b ts) (List.◌∷◌ c' cs) = let r = with_cells_all ts cs in (node k n l c' 0 r.0, r.1)
 
-  pub withCellsAll : Forest → List Cell → Forest × List Cell
-  withCellsAll [] cs = ([], cs)
-  withCellsAll (t ∷ ts) cs = let r = withCells t cs in let rs = withCellsAll ts r.1 in (r.0 ∷ rs.0, rs.1)
+  pub with_cells_all : Forest → List Cell → Forest × List Cell
+  with_cells_all [] cs = ([], cs)
+  with_cells_all (t ∷ ts) cs = let r = with_cells t cs in let rs = with_cells_all ts r.1 in (r.0 ∷ rs.0, rs.1)
 
 -- a field of each node in preorder, before `behind`
 module _ {A : Type 0} (field : Cell → ℕ → A) where
@@ -40,8 +40,8 @@ module _ {A : Type 0} (field : Cell → ℕ → A) where
     columns [] behind = behind
     columns (t ∷ ts) behind = column t (columns ts behind)
 
-abbrev pub timeOf : Cell → ℕ → Float
-timeOf c b = c.time
+abbrev pub time_of : Cell → ℕ → Float
+time_of c b = c.time
 
 abbrev pub place_of : Cell → ℕ → ℕ
 place_of c b = c.place
@@ -49,11 +49,11 @@ place_of c b = c.place
 abbrev pub mark_of : Cell → ℕ → ℕ
 mark_of c b = c.mark
 
-abbrev pub anewOf : Cell → ℕ → Bool
-anewOf c b = c.anew
+abbrev pub anew_of : Cell → ℕ → Bool
+anew_of c b = c.anew
 
-abbrev pub boardOf : Cell → ℕ → ℕ
-boardOf c b = b
+abbrev pub board_of : Cell → ℕ → ℕ
+board_of c b = b
 
 -- elapsed: "no NaN, sign bit clear, +infinity allowed"
 abbrev pub elapsed : Float → Bool
@@ -62,40 +62,40 @@ elapsed (inf s) = not s
 elapsed (fin s m e) = not s
 
 -- the largest place that a kind's cell may have
-abbrev pub lastPlace : Kind → ℕ → ℕ
-lastPlace Wait n = 0
-lastPlace WaitForever n = 0
-lastPlace Action n = 0
-lastPlace Invert n = 0
-lastPlace AlwaysSucceed n = 0
-lastPlace Timeout n = 0
-lastPlace Select n = n
-lastPlace If n = 2
-lastPlace Sequence n = n
-lastPlace MemorylessSequence n = 0
-lastPlace MemorylessSelector n = 0
-lastPlace While n = n - 2
-lastPlace WhileAll n = n - 1
-lastPlace WhenAll n = 0
-lastPlace WhenAny n = 0
-lastPlace After n = n
-lastPlace Race n = 0
+abbrev pub last_place : Kind → ℕ → ℕ
+last_place Wait n = 0
+last_place WaitForever n = 0
+last_place Action n = 0
+last_place Invert n = 0
+last_place AlwaysSucceed n = 0
+last_place Timeout n = 0
+last_place Select n = n
+last_place If n = 2
+last_place Sequence n = n
+last_place MemorylessSequence n = 0
+last_place MemorylessSelector n = 0
+last_place While n = n - 2
+last_place WhileAll n = n - 1
+last_place WhenAll n = 0
+last_place WhenAny n = 0
+last_place After n = n
+last_place Race n = 0
 
 abbrev pub freshly : Cell → Bool
-freshly c = zeroBits c.time && c.place == 0 && c.mark == 0
+freshly c = zero_bits c.time && c.place == 0 && c.mark == 0
 
 -- a cell in use: no mark, or the mark of a child that may have ended, whose time and place are zero
-abbrev pub inUse : Bool → Kind → ℕ → Cell → Bool
-inUse mayEnd k n c = cond (c.mark == 0)
-    (cond (timed k) (elapsed c.time) (zeroBits c.time) && nat_le c.place (lastPlace k n))
-    (c.mark == 1 && mayEnd && zeroBits c.time && c.place == 0)
+abbrev pub in_use : Bool → Kind → ℕ → Cell → Bool
+in_use mayEnd k n c = cond (c.mark == 0)
+    (cond (timed k) (elapsed c.time) (zero_bits c.time) && nat_le c.place (last_place k n))
+    (c.mark == 1 && mayEnd && zero_bits c.time && c.place == 0)
 
 -- below a child that has ended, all cells are fresh
-unfoldable pub cellAllowed : Bool → Bool → Kind → ℕ → Cell → Bool
-cellAllowed ended mayEnd k n c = cond ended (freshly c) (inUse mayEnd k n c)
+unfoldable pub cell_allowed : Bool → Bool → Kind → ℕ → Cell → Bool
+cell_allowed ended mayEnd k n c = cond ended (freshly c) (in_use mayEnd k n c)
 
-abbrev pub endedIn : Cell → Bool
-endedIn c = c.mark == 1
+abbrev pub ended_in : Cell → Bool
+ended_in c = c.mark == 1
 
 -- the smallest place of a bad cell, or none: then the place behind the tree
 pub data Found : Type 0 where
@@ -103,16 +103,16 @@ pub data Found : Type 0 where
   none : ℕ → Found
 
 unfoldable mutual
-  unfolding cellAllowed
+  unfolding cell_allowed
 
-  pub badCell : Bool → Bool → ℕ → Tree → Found
-  badCell ended mayEnd at (node k n l c b ts) = cond (cellAllowed ended mayEnd k n c)
-      (badCells (ended || endedIn c) (marksChildren k) (suc at) ts)
+  pub bad_cell : Bool → Bool → ℕ → Tree → Found
+  bad_cell ended mayEnd at (node k n l c b ts) = cond (cell_allowed ended mayEnd k n c)
+      (bad_cells (ended || ended_in c) (marks_children k) (suc at) ts)
       (faulty at)
 
-  pub badCells : Bool → Bool → ℕ → Forest → Found
-  badCells ended mayEnd at [] = none at
-  badCells ended mayEnd at (t ∷ ts) = elim (badCell ended mayEnd at t) [
+  pub bad_cells : Bool → Bool → ℕ → Forest → Found
+  bad_cells ended mayEnd at [] = none at
+  bad_cells ended mayEnd at (t ∷ ts) = elim (bad_cell ended mayEnd at t) [
     | faulty p ↦ faulty p
-    | none at' ↦ badCells ended mayEnd at' ts
+    | none at' ↦ bad_cells ended mayEnd at' ts
   ]

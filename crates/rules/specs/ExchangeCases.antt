@@ -9,9 +9,9 @@ use Rattle.rules.specs.declared.answer.Record.{Record}
 use Rattle.rules.specs.declared.exchanged.Exchanged.{Exchanged}
 use Rattle.rules.specs.declared.exchanged.Exchanged.TheVariants.{Done, Finished, BadTable, BadBranch, TooShort, BadCell, NoNode, StateHeld, TooLarge, ShortRoom}
 use Rattle.rules.specs.Kinds.{kind_of}
-use Rattle.rules.specs.Tree.{zeroTime, Cell, freshCell, withTime, withPlace, withMark, Tree, node, Forest, [], ◌∷◌, size, count}
+use Rattle.rules.specs.Tree.{zero_time, Cell, fresh_cell, with_time, with_place, with_mark, Tree, node, Forest, [], ◌∷◌, size, count}
 use Rattle.rules.specs.Call.{run}
-use Rattle.rules.specs.Exchange.{free, Room, room, GivenExchange, givenExchange, LeftExchange, leftExchange, exchangeCall, listed, code_in, number_in, limitIn, timeIn, place_in, markIn}
+use Rattle.rules.specs.Exchange.{free, Room, room, GivenExchange, given_exchange, LeftExchange, left_exchange, exchange_call, listed, code_in, number_in, limit_in, time_in, place_in, mark_in}
 
 infixr 40 ◌and◌
 abbrev ◌and◌ : {A : Type 0} → A → List A → List A
@@ -25,18 +25,18 @@ abbrev sec : ℕ → Float
 sec n = of_int binary64 (pos n)
 
 abbrev wait : ℕ → Tree
-wait l = node Wait 0 (sec l) freshCell 0 []
+wait l = node Wait 0 (sec l) fresh_cell 0 []
 
 -- a Wait of 9 that has stood for so long
 abbrev waited : ℕ → Tree
-waited x = node Wait 0 (sec 9) (withTime (sec x) freshCell) 0 []
+waited x = node Wait 0 (sec 9) (with_time (sec x) fresh_cell) 0 []
 
 abbrev ended : Tree
-ended = node Wait 0 (sec 9) (withMark 1 freshCell) 0 []
+ended = node Wait 0 (sec 9) (with_mark 1 fresh_cell) 0 []
 
 -- a node at a place
 abbrev stood : Kind → ℕ → Forest → Tree
-stood k p ts = node k (count ts) zeroTime (withPlace p freshCell) 0 ts
+stood k p ts = node k (count ts) zero_time (with_place p fresh_cell) 0 ts
 
 abbrev three : Forest
 three = wait 1 ∷ wait 2 ∷ wait 3 ∷ []
@@ -109,12 +109,12 @@ ticked f = record { finished = f; ticks = 41 }
 -- an exchange of the node at a place of t for u
 unfoldable pub exchanging : Bool → Tree → ℕ → Tree → ℕ → GivenExchange
 unfolding listed
-exchanging f t p u n = givenExchange (ticked f) (listed code_in t nil) (listed number_in t nil) (listed limitIn t nil)
-    (run (listed timeIn t nil) (listed place_in t nil) (listed markIn t nil) (11 and 12 and 13 and 14 and 15 and nil)) p
-    (listed code_in u nil) (listed number_in u nil) (listed limitIn u nil) (room_for n)
+exchanging f t p u n = given_exchange (ticked f) (listed code_in t nil) (listed number_in t nil) (listed limit_in t nil)
+    (run (listed time_in t nil) (listed place_in t nil) (listed mark_in t nil) (11 and 12 and 13 and 14 and 15 and nil)) p
+    (listed code_in u nil) (listed number_in u nil) (listed limit_in u nil) (room_for n)
 
 -- the lane stands where the Wait of 3 stood; one element of the room is left as it was
-pub lane-exchanged : exchangeCall (exchanging false line 3 lane 8) ≡ leftExchange (Done 7) (room
+pub lane_exchanged : exchange_call (exchanging false line 3 lane 8) ≡ left_exchange (Done 7) (room
     (8 and 0 and 0 and 6 and 0 and 0 and 0 and 99 and nil)
     (4 and 0 and 0 and 2 and 0 and 0 and 0 and 99 and nil)
     (sec 0 and sec 1 and sec 9 and sec 0 and sec 7 and sec 8 and sec 5 and sec 99 and nil)
@@ -122,11 +122,11 @@ pub lane-exchanged : exchangeCall (exchanging false line 3 lane 8) ≡ leftExcha
     (1 and 0 and 0 and 0 and 0 and 0 and 0 and 99 and nil)
     (0 and 0 and 0 and 0 and 0 and 0 and 0 and 99 and nil)
     (11 and 12 and 13 and 41 and 41 and 41 and 15 and 99 and nil))
-unfolding exchanging exchangeCall of_int to_unsigned whole kind_of
-lane-exchanged = refl
+unfolding exchanging exchange_call of_int to_unsigned whole kind_of
+lane_exchanged = refl
 
 abbrev says : GivenExchange → Exchanged
-says g = (exchangeCall g).answer
+says g = (exchange_call g).answer
 
 abbrev inverts : ℕ → Tree
 inverts zero = wait 1
@@ -149,5 +149,5 @@ answers =
     and nil
 
 pub refusals : map (λ a. a.0) answers ≡ map (λ a. a.1) answers
-unfolding exchanging exchangeCall of_int to_unsigned whole kind_of
+unfolding exchanging exchange_call of_int to_unsigned whole kind_of
 refusals = refl

@@ -98,8 +98,8 @@ abbrev pub timed : Kind → Bool
 timed k = is k Wait || is k Timeout
 
 -- a mark: in a child of WhenAll and WhenAny
-abbrev pub marksChildren : Kind → Bool
-marksChildren k = is k WhenAll || is k WhenAny
+abbrev pub marks_children : Kind → Bool
+marks_children k = is k WhenAll || is k WhenAny
 
 -- `memory` off: Sequence to MemorylessSequence, Select to MemorylessSelector; on: back
 unfoldable pub memory : Bool → Kind → Kind

@@ -19,10 +19,10 @@ put p u [] = []
 put zero u (t ∷ ts) = u ∷ ts
 put (suc p) u (t ∷ ts) = t ∷ put p u ts
 
-abbrev pub freshAt : ℕ → Forest → Forest
-freshAt p [] = []
-freshAt zero (t ∷ ts) = fresh t ∷ ts
-freshAt (suc p) (t ∷ ts) = t ∷ freshAt p ts
+abbrev pub fresh_at : ℕ → Forest → Forest
+fresh_at p [] = []
+fresh_at zero (t ∷ ts) = fresh t ∷ ts
+fresh_at (suc p) (t ∷ ts) = t ∷ fresh_at p ts
 
 -- the next body index, after the last 0
 abbrev pub next : ℕ → Forest → ℕ
@@ -30,37 +30,37 @@ next p ts = cond (nat_lt (suc p) (count ts)) (suc p) 0
 
 -- the body after a success at p: the old and the new child made fresh
 abbrev pub moved : ℕ → Tree → Forest → Forest
-moved p t ts = freshAt (next p ts) (freshAt p (put p t ts))
+moved p t ts = fresh_at (next p ts) (fresh_at p (put p t ts))
 
 module _ (child : Ticker) where
   -- child p of the forest
-  abbrev pub childAt : ℕ → Event → Forest → World → Out Tree
-  childAt p e ts w = nth p ts short λ t. child t e w
+  abbrev pub child_at : ℕ → Event → Forest → World → Out Tree
+  child_at p e ts w = nth p ts short λ t. child t e w
 
   -- While's body, from the child at the place
-  unfoldable pub whileBody : ℕ → ℕ → Event → Forest → World → Out (ℕ × Forest)
+  unfoldable pub while_body : ℕ → ℕ → Event → Forest → World → Out (ℕ × Forest)
   unfolding fresh
-  whileBody zero p e ts w = short
-  whileBody (suc budget) p e ts w = childAt p e ts w ▸ λ s r t' w'. elim s [
+  while_body zero p e ts w = short
+  while_body (suc budget) p e ts w = child_at p e ts w ▸ λ s r t' w'. elim s [
     | Running ↦ waiting (p, put p t' ts) w'
     | Failure ↦ done Failure r (p, put p t' ts) w'
     | Success ↦ elim e [
-      | Update x ↦ whileBody budget (next p ts) (Update r) (moved p t' ts) w'
+      | Update x ↦ while_body budget (next p ts) (Update r) (moved p t' ts) w'
       | Other ↦ waiting (p, put p t' ts) w'
     ]
   ]
 
   -- WhileAll: p = 0, the condition is due and gets the whole event; p = k + 1, the body child k gets the rest
-  unfoldable pub whileAll : ℕ → Event → ℕ → Event → Tree → Forest → World → Out (ℕ × Forest)
+  unfoldable pub while_all : ℕ → Event → ℕ → Event → Tree → Forest → World → Out (ℕ × Forest)
   unfolding fresh
-  whileAll zero whole p e c ts w = short
-  whileAll (suc budget) whole zero e c ts w = child c whole w ▸ λ s r c' w'. elim s [
-    | Running ↦ whileAll budget whole 1 e c' ts w'
+  while_all zero whole p e c ts w = short
+  while_all (suc budget) whole zero e c ts w = child c whole w ▸ λ s r c' w'. elim s [
+    | Running ↦ while_all budget whole 1 e c' ts w'
     | Success ↦ done Success r (1, c' ∷ ts) w'
     | Failure ↦ done Failure r (1, c' ∷ ts) w'
   ]
-  whileAll (suc budget) whole (suc p) e c ts w = childAt p e ts w ▸ λ s r t' w'. elim s [
+  while_all (suc budget) whole (suc p) e c ts w = child_at p e ts w ▸ λ s r t' w'. elim s [
     | Running ↦ waiting (suc p, c ∷ put p t' ts) w'
     | Failure ↦ done Failure r (suc p, c ∷ put p t' ts) w'
-    | Success ↦ whileAll budget whole (cond (nat_lt (suc p) (count ts)) (suc (suc p)) 0) (rest r e) c (moved p t' ts) w'
+    | Success ↦ while_all budget whole (cond (nat_lt (suc p) (count ts)) (suc (suc p)) 0) (rest r e) c (moved p t' ts) w'
   ]

@@ -6,17 +6,17 @@ use Rattle.rules.specs.declared.status.Status.{Status}
 use Rattle.rules.specs.declared.status.Status.TheVariants.{Running, Success, Failure}
 use Rattle.rules.specs.declared.event.Event.{Event}
 use Rattle.rules.specs.declared.event.Event.TheVariants.{Update, Other}
-use Rattle.rules.specs.Tree.{zeroTime, Tree}
+use Rattle.rules.specs.Tree.{zero_time, Tree}
 
 -- an update carries its dt; of an other event dt is not looked at
-abbrev pub eventOf : Bool → Float → Event
-eventOf true x = Update x
-eventOf false x = Other
+abbrev pub event_of : Bool → Float → Event
+event_of true x = Update x
+event_of false x = Other
 
 -- the dt that an event carries, 0 for an other event; and the event with the rest for its dt
 abbrev pub dt : Event → Float
 dt (Update x) = x
-dt Other = zeroTime
+dt Other = zero_time
 
 abbrev pub rest : Float → Event → Event
 rest r (Update x) = Update r
@@ -45,7 +45,7 @@ short ▸ k = short
 
 -- "Running" means (Running, 0)
 abbrev pub waiting : {A : Type 0} → A → World → Out A
-waiting a w = done Running zeroTime a w
+waiting a w = done Running zero_time a w
 
 -- "Success and Failure exchanged"
 abbrev pub exchanged : Status → Status
@@ -59,10 +59,10 @@ exchange o = o ▸ λ s r a w. done (exchanged s) r a w
 abbrev pub exchanging : Ticker → Ticker
 exchanging child t e w = exchange (child t e w)
 
-abbrev pub alwaysSucceed : Status → Status
-alwaysSucceed Running = Running
-alwaysSucceed Success = Success
-alwaysSucceed Failure = Success
+abbrev pub always_succeed : Status → Status
+always_succeed Running = Running
+always_succeed Success = Success
+always_succeed Failure = Success
 
 -- a format's largest finite number, and the smaller of two times
 abbrev pub largest : Format → Float
@@ -79,5 +79,5 @@ byte Success = 2
 byte Failure = 3
 
 -- the status of an answer's number, 1 to 3; a larger one, which every tick refuses, is taken for the last
-abbrev pub statusOf : ℕ → Status
-statusOf n = cond (n == 1) Running (cond (n == 2) Success Failure)
+abbrev pub status_of : ℕ → Status
+status_of n = cond (n == 1) Running (cond (n == 2) Success Failure)

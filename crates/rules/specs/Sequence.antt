@@ -3,7 +3,7 @@ use Rattle.std.specs.Prelude.{ℕ, zero, suc}
 use Rattle.rules.specs.declared.status.Status.TheVariants.{Running, Success, Failure}
 use Rattle.rules.specs.declared.event.Event.{Event}
 use Rattle.rules.specs.declared.event.Event.TheVariants.{Update, Other}
-use Rattle.rules.specs.Tree.{Tree, Forest, [], ◌∷◌, fresh, freshAll}
+use Rattle.rules.specs.Tree.{Tree, Forest, [], ◌∷◌, fresh, fresh_all}
 use Rattle.rules.specs.Outcome.{dt, rest, World, Out, done, Ticker, ◌▸◌, waiting}
 
 -- a forest's first tree put back
@@ -16,9 +16,9 @@ pass t o = o ▸ λ s r x w. done s r (suc x.0, t ∷ x.1) w
 
 module _ (child : Ticker) where
   -- Sequence, from the child at the place on. The old and the new child are made fresh.
-  unfoldable pub sequenceFrom : Event → Tree → Forest → World → Out (ℕ × Forest)
+  unfoldable pub sequence_from : Event → Tree → Forest → World → Out (ℕ × Forest)
   unfolding fresh
-  sequenceFrom e t [] w = child t e w ▸ λ s r t' w'. elim s [
+  sequence_from e t [] w = child t e w ▸ λ s r t' w'. elim s [
     | Running ↦ waiting (0, t' ∷ []) w'
     | Failure ↦ done Failure r (0, t' ∷ []) w'
     | Success ↦ elim e [
@@ -26,21 +26,21 @@ module _ (child : Ticker) where
       | Other ↦ done Success r (0, t' ∷ []) w'
     ]
   ]
-  sequenceFrom e t (u ∷ us) w = child t e w ▸ λ s r t' w'. elim s [
+  sequence_from e t (u ∷ us) w = child t e w ▸ λ s r t' w'. elim s [
     | Running ↦ waiting (0, t' ∷ u ∷ us) w'
     | Failure ↦ done Failure r (0, t' ∷ u ∷ us) w'
     | Success ↦ elim e [
-      | Update x ↦ pass (fresh t') (sequenceFrom (Update r) (fresh u) us w')
+      | Update x ↦ pass (fresh t') (sequence_from (Update r) (fresh u) us w')
       | Other ↦ waiting (1, fresh t' ∷ fresh u ∷ us) w'
     ]
   ]
 
   -- the place p; past the last child: Running
-  unfoldable pub sequenceAt : ℕ → Event → Forest → World → Out (ℕ × Forest)
-  unfolding sequenceFrom
-  sequenceAt p e [] w = waiting (p, []) w
-  sequenceAt zero e (t ∷ ts) w = sequenceFrom e t ts w
-  sequenceAt (suc p) e (t ∷ ts) w = pass t (sequenceAt p e ts w)
+  unfoldable pub sequence_at : ℕ → Event → Forest → World → Out (ℕ × Forest)
+  unfolding sequence_from
+  sequence_at p e [] w = waiting (p, []) w
+  sequence_at zero e (t ∷ ts) w = sequence_from e t ts w
+  sequence_at (suc p) e (t ∷ ts) w = pass t (sequence_at p e ts w)
 
   -- Memoryless: all children are made fresh first, and moving to a next one makes the old one fresh
   unfoldable pub memoryless : Event → Forest → World → Out Forest
@@ -52,7 +52,7 @@ module _ (child : Ticker) where
     | Success ↦ done Success (dt (rest r e)) (t' ∷ []) w'
   ]
   memoryless e (t ∷ u ∷ us) w = child (fresh t) e w ▸ λ s r t' w'. elim s [
-    | Running ↦ waiting (t' ∷ freshAll (u ∷ us)) w'
-    | Failure ↦ done Failure r (t' ∷ freshAll (u ∷ us)) w'
+    | Running ↦ waiting (t' ∷ fresh_all (u ∷ us)) w'
+    | Failure ↦ done Failure r (t' ∷ fresh_all (u ∷ us)) w'
     | Success ↦ keep (fresh t') (memoryless (rest r e) (u ∷ us) w')
   ]

@@ -3,8 +3,8 @@ use Rattle.std.specs.Prelude.{ℕ, suc, ◌+◌, max, Bool, true, false, pos, �
 use Rattle.std.specs.Float.{fin}
 use Rattle.rules.specs.declared.behavior.Kind.{Kind}
 
-abbrev pub zeroTime : Float
-zeroTime = fin false 0 (pos 0)
+abbrev pub zero_time : Float
+zero_time = fin false 0 (pos 0)
 
 -- a time, a place and a mark; and whether it was made fresh in the tick that goes on
 pub record Cell : Type 0 where
@@ -13,26 +13,26 @@ pub record Cell : Type 0 where
   pub mark : ℕ
   pub anew : Bool
 
-abbrev pub withTime : Float → Cell → Cell
-withTime x c = record { time = x; place = c.place; mark = c.mark; anew = c.anew }
+abbrev pub with_time : Float → Cell → Cell
+with_time x c = record { time = x; place = c.place; mark = c.mark; anew = c.anew }
 
-abbrev pub withPlace : ℕ → Cell → Cell
-withPlace p c = record { time = c.time; place = p; mark = c.mark; anew = c.anew }
+abbrev pub with_place : ℕ → Cell → Cell
+with_place p c = record { time = c.time; place = p; mark = c.mark; anew = c.anew }
 
-abbrev pub withMark : ℕ → Cell → Cell
-withMark m c = record { time = c.time; place = c.place; mark = m; anew = c.anew }
+abbrev pub with_mark : ℕ → Cell → Cell
+with_mark m c = record { time = c.time; place = c.place; mark = m; anew = c.anew }
 
 -- "fresh is all zero"
-abbrev zeroCell : Bool → Cell
-zeroCell a = record { time = zeroTime; place = 0; mark = 0; anew = a }
+abbrev zero_cell : Bool → Cell
+zero_cell a = record { time = zero_time; place = 0; mark = 0; anew = a }
 
 -- a cell that a tick makes fresh
-abbrev pub freshCell : Cell
-freshCell = zeroCell true
+abbrev pub fresh_cell : Cell
+fresh_cell = zero_cell true
 
 -- the cell of a new tree
-abbrev pub newCell : Cell
-newCell = zeroCell false
+abbrev pub new_cell : Cell
+new_cell = zero_cell false
 
 infixr 50 ◌∷◌
 -- node KIND N LIMIT CELL BOARD CHILDREN
@@ -47,11 +47,11 @@ mutual
 -- "Make fresh" covers a whole subtree; the board stays
 unfoldable mutual
   pub fresh : Tree → Tree
-  fresh (node k n l c b kids) = node k n l freshCell b (freshAll kids)
+  fresh (node k n l c b kids) = node k n l fresh_cell b (fresh_all kids)
 
-  pub freshAll : Forest → Forest
-  freshAll [] = []
-  freshAll (t ∷ ts) = fresh t ∷ freshAll ts
+  pub fresh_all : Forest → Forest
+  fresh_all [] = []
+  fresh_all (t ∷ ts) = fresh t ∷ fresh_all ts
 
 unfoldable mutual
   pub size : Tree → ℕ
@@ -79,4 +79,4 @@ abbrev pub marked : Tree → Bool
 marked (node k n l c b kids) = c.mark == 1
 
 abbrev pub mark : Tree → Tree
-mark (node k n l c b kids) = node k n l (withMark 1 c) b kids
+mark (node k n l c b kids) = node k n l (with_mark 1 c) b kids

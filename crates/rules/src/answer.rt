@@ -1,6 +1,6 @@
 // What a call answers, and the record that stands between calls.
 ghost use Rattle.std.specs.Prelude.{◌≡◌};
-ghost use Rattle.rules.specs.Tree.{zeroTime};
+ghost use Rattle.rules.specs.Tree.{zero_time};
 ghost use Rattle.rules.specs.Call.{age, numbers, said_of};
 
 use crate::status::Status;
@@ -113,7 +113,7 @@ impl Answer {
 
 // An answer that names no field but perhaps a place or an index.
 fn bare(no: u8, extra: usize) -> Said
-    ensures { result ≡ numbers no 0 0 0 extra zeroTime }
+    ensures { result ≡ numbers no 0 0 0 extra zero_time }
 {
     Said {
         no,

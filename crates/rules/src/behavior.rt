@@ -1,7 +1,7 @@
 // The kinds of nodes and how many children each allows.
 ghost use Rattle.std.specs.Prelude.{◌≡◌, ◌-◌};
-ghost use Rattle.rules.specs.Kinds.{code, kind_of, fewest, most, children, timed, marksChildren, memory};
-ghost use Rattle.rules.specs.Cells.{lastPlace};
+ghost use Rattle.rules.specs.Kinds.{code, kind_of, fewest, most, children, timed, marks_children, memory};
+ghost use Rattle.rules.specs.Cells.{last_place};
 
 #[derive(Drop)]
 pub enum Kind {
@@ -127,7 +127,7 @@ impl Kind {
 
     // The largest place that a cell of the kind may have.
     pub fn last_place(self, n: u16) -> u16
-        ensures { result ≡ lastPlace self n }
+        ensures { result ≡ last_place self n }
     {
         match self {
             Kind::Select | Kind::Sequence | Kind::After => n,
@@ -150,7 +150,7 @@ impl Kind {
 
     // Whether a child of the kind may be marked as ended.
     pub fn marks_children(self) -> bool
-        ensures { result ≡ marksChildren self }
+        ensures { result ≡ marks_children self }
     {
         match self {
             Kind::WhenAll | Kind::WhenAny => true,

@@ -1,6 +1,6 @@
 // What the exchange of a branch answers.
 ghost use Rattle.std.specs.Prelude.{◌≡◌};
-ghost use Rattle.rules.specs.Exchange.{exchangeNumbers, exchangeSaidOf};
+ghost use Rattle.rules.specs.Exchange.{exchange_numbers, exchange_said_of};
 
 // What an exchange can say, as a case for each number and for each of the two tables.
 #[derive(Drop)]
@@ -30,7 +30,7 @@ pub struct ExchangeSaid {
 impl Exchanged {
     // The answer in numbers; a table of 1 is the branch's.
     pub fn said(self) -> ExchangeSaid
-        ensures { result ≡ exchangeSaidOf self }
+        ensures { result ≡ exchange_said_of self }
     {
         match self {
             Exchanged::Done(n) => numbers(0, 0, 0, n),
@@ -48,7 +48,7 @@ impl Exchanged {
 }
 
 fn numbers(no: u8, table: u8, place: usize, nodes: usize) -> ExchangeSaid
-    ensures { result ≡ exchangeNumbers no table place nodes }
+    ensures { result ≡ exchange_numbers no table place nodes }
 {
     ExchangeSaid {
         no,

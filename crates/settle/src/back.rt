@@ -1,7 +1,7 @@
 // Putting the working array back into the runs that a host lends.
 ghost use Rattle.std.specs.Prelude.{◌≡◌, cond, false, ◌≤◌, length};
-ghost use Rattle.work.specs.Word.{place_of, mark_of, anewOf, seenOf};
-ghost use Rattle.settle.specs.Back.{over, stampedOver, NoneAnew};
+ghost use Rattle.work.specs.Word.{place_of, mark_of, anew_of, seen_of};
+ghost use Rattle.settle.specs.Back.{over, stamped_over, NoneAnew};
 
 use work::{anew_of, mark_of, place_of, seen_of};
 
@@ -18,14 +18,14 @@ fn mark(w: u32) -> u8
 }
 
 fn seen(w: u32) -> u8
-    ensures { result ≡ seenOf w }
+    ensures { result ≡ seen_of w }
 {
     seen_of(w) as u8
 }
 
 // The number of the tick that last made a node fresh: this one, or the one before.
 fn since(w: u32, this: u64, before: u64) -> u64
-    ensures { result ≡ cond (anewOf w) this before }
+    ensures { result ≡ cond (anew_of w) this before }
 {
     if anew_of(w) { this } else { before }
 }
@@ -35,7 +35,7 @@ fn put_states(work: &[u32; 260], places: &mut [u16], marks: &mut [u8], board: &m
     requires { (n ≤ 256) × (n ≤ length places.old) × (n ≤ length marks.old) × (n ≤ length board.old) }
     ensures places_after { places.new ≡ over place_of n work.now places.old }
     ensures marks_after { marks.new ≡ over mark_of n work.now marks.old }
-    ensures board_after { board.new ≡ over seenOf n work.now board.old }
+    ensures board_after { board.new ≡ over seen_of n work.now board.old }
 {
     let words: &[u32] = work;
     let mut i = 0;
@@ -66,7 +66,7 @@ fn any_anew(work: &[u32; 260], n: usize) -> bool
 // The tick's number where it made a node fresh: mostly nowhere.
 fn put_sinces(work: &[u32; 260], sinces: &mut [u64], n: usize, this: u64)
     requires { (n ≤ 256) × (n ≤ length sinces.old) }
-    ensures { sinces.new ≡ stampedOver this n work.now sinces.old }
+    ensures { sinces.new ≡ stamped_over this n work.now sinces.old }
 {
     let words: &[u32] = work;
     if !any_anew(work, n) {
@@ -92,8 +92,8 @@ pub fn put_back(
     requires { (n ≤ 256) × (n ≤ length places.old) × (n ≤ length marks.old) × (n ≤ length sinces.old) × (n ≤ length board.old) }
     ensures places_after { places.new ≡ over place_of n work.now places.old }
     ensures marks_after { marks.new ≡ over mark_of n work.now marks.old }
-    ensures sinces_after { sinces.new ≡ stampedOver this n work.now sinces.old }
-    ensures board_after { board.new ≡ over seenOf n work.now board.old }
+    ensures sinces_after { sinces.new ≡ stamped_over this n work.now sinces.old }
+    ensures board_after { board.new ≡ over seen_of n work.now board.old }
 {
     put_sinces(work, sinces, n, this);
     put_states(work, places, marks, board, n);

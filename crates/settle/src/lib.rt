@@ -4,7 +4,7 @@ mod back;
 ghost use Rattle.std.specs.Prelude.{◌≡◌, ◌≤◌, length};
 ghost use Rattle.rules.specs.Call.{run};
 ghost use Rattle.cells.specs.Long.{Long};
-ghost use Rattle.settle.specs.Settled.{settled, settledAs};
+ghost use Rattle.settle.specs.Settled.{settled, settled_as};
 
 use back::put_back;
 use cells::copy_times;
@@ -32,7 +32,7 @@ pub fn settled(
 ) -> Called
     requires long { Long n (run times.old places.old marks.old sinces.old) }
     requires n_bound { (n ≤ 256) × (n ≤ length spare_times.now) × (n ≤ length board.old) }
-    ensures { settledAs res ns.now n fuel lent «record» (run times.old places.old marks.old sinces.old)
+    ensures { settled_as res ns.now n fuel lent «record» (run times.old places.old marks.old sinces.old)
         spare_times.now board.old work.old
         ≡ settled result.answer result.record (run times.new places.new marks.new sinces.new) board.new work.new }
 {

@@ -2,7 +2,7 @@
 // with which a child has ended, by the kind and place of the node above it or by its own mark.
 ghost use Rattle.std.specs.Prelude.{◌≡◌, true, ◌+◌, ◌≤◌, ◌<◌};
 ghost use Rattle.work.specs.Array.{end_of};
-ghost use Rattle.shown.specs.Show.{endedWord, markedWord, overWords, Leaves, endedAt, markedAt, behindOf, eachFrom, endedBelow, endedWords, Bare};
+ghost use Rattle.shown.specs.Show.{ended_word, marked_word, over_words, Leaves, ended_at, marked_at, behind_of, each_from, ended_below, ended_words, Bare};
 
 use rules::Kind;
 use work::{below_of, end_of, kind_of, mark_of, place_of, seen_of, with_seen, words_of};
@@ -21,7 +21,7 @@ fn sixteen_leaves(work: &[u32; 260], q: usize) -> bool
 
 // The word of a child that shows a status if no visit has seen it; and only if it has a mark.
 fn shown(w: u32, status: u32) -> u32
-    ensures { result ≡ endedWord status w }
+    ensures { result ≡ ended_word status w }
 {
     if seen_of(w) == 0 {
         with_seen(w, status)
@@ -31,7 +31,7 @@ fn shown(w: u32, status: u32) -> u32
 }
 
 fn shown_marked(w: u32, status: u32) -> u32
-    ensures { result ≡ markedWord status w }
+    ensures { result ≡ marked_word status w }
 {
     if mark_of(w) == 1 { shown(w, status) } else { w }
 }
@@ -39,7 +39,7 @@ fn shown_marked(w: u32, status: u32) -> u32
 // Sixteen leaves from q on, without a branch for each.
 fn show_sixteen(work: &mut [u32; 260], q: usize, status: u32)
     requires { q + 16 ≤ 256 }
-    ensures { work.new ≡ overWords (endedWord status) q 16 work.old }
+    ensures { work.new ≡ over_words (ended_word status) q 16 work.old }
 {
     let mut i = 0;
     while i < 16 {
@@ -50,7 +50,7 @@ fn show_sixteen(work: &mut [u32; 260], q: usize, status: u32)
 
 fn show_sixteen_marked(work: &mut [u32; 260], q: usize, status: u32)
     requires { q + 16 ≤ 256 }
-    ensures { work.new ≡ overWords (markedWord status) q 16 work.old }
+    ensures { work.new ≡ over_words (marked_word status) q 16 work.old }
 {
     let mut i = 0;
     while i < 16 {
@@ -62,7 +62,7 @@ fn show_sixteen_marked(work: &mut [u32; 260], q: usize, status: u32)
 // The child at q, whose word is w, shows a status if no visit has seen it.
 fn show(work: &mut [u32; 260], q: usize, w: u32, status: u32)
     requires { q < 256 }
-    ensures { work.new ≡ endedAt status q w work.old }
+    ensures { work.new ≡ ended_at status q w work.old }
 {
     if seen_of(w) == 0 {
         work[q] = with_seen(w, status);
@@ -73,7 +73,7 @@ fn show(work: &mut [u32; 260], q: usize, w: u32, status: u32)
 // waits for the word that the turn before it has read.
 fn behind(work: &[u32; 260], q: usize, w: u32) -> usize
     requires { q < 256 }
-    ensures { (result ≡ behindOf w q work.now) × (result ≤ 256) × (q < result) }
+    ensures { (result ≡ behind_of w q work.now) × (result ≤ 256) × (q < result) }
 {
     if 0 < below_of(w) {
         end_of(work, q)
@@ -85,7 +85,7 @@ fn behind(work: &[u32; 260], q: usize, w: u32) -> usize
 // The children of the node at p that have a mark.
 fn show_marked(work: &mut [u32; 260], p: usize, status: u32)
     requires { p < 256 }
-    ensures { work.new ≡ eachFrom (markedAt status) (end_of work.old p) 256 (p + 1) work.old }
+    ensures { work.new ≡ each_from (marked_at status) (end_of work.old p) 256 (p + 1) work.old }
 {
     let stop = end_of(work, p);
     let mut q = p + 1;
@@ -105,7 +105,7 @@ fn show_marked(work: &mut [u32; 260], p: usize, status: u32)
 // The children of the node at p before its place.
 fn show_before(work: &mut [u32; 260], p: usize, place: u32, status: u32)
     requires { p < 256 }
-    ensures { work.new ≡ eachFrom (endedAt status) (end_of work.old p) place (p + 1) work.old }
+    ensures { work.new ≡ each_from (ended_at status) (end_of work.old p) place (p + 1) work.old }
 {
     let stop = end_of(work, p);
     let mut q = p + 1;
@@ -129,7 +129,7 @@ fn show_before(work: &mut [u32; 260], p: usize, place: u32, status: u32)
 // The children of the node at p.
 fn show_below(work: &mut [u32; 260], p: usize)
     requires { p < 256 }
-    ensures { work.new ≡ endedBelow p work.old }
+    ensures { work.new ≡ ended_below p work.old }
 {
     let w = work[p];
     if below_of(w) == 0 {
@@ -156,7 +156,7 @@ fn state_in(w: u32, ahead: u32) -> u32
 // The n nodes count as the last of 256.
 fn any_state(work: &[u32; 260], n: usize) -> u32
     requires { n ≤ 256 }
-    ensures { result ≡ 0 → endedWords 0 n work.now ≡ work.now }
+    ensures { result ≡ 0 → ended_words 0 n work.now ≡ work.now }
 {
     // As a slice, the array tells its length.
     let words: &[u32] = work;
@@ -174,7 +174,7 @@ fn any_state(work: &[u32; 260], n: usize) -> u32
 // The first n nodes.
 pub fn show_ended(work: &mut [u32; 260], n: usize)
     requires { n ≤ 256 }
-    ensures { work.new ≡ endedWords 0 n work.old }
+    ensures { work.new ≡ ended_words 0 n work.old }
 {
     if any_state(work, n) == 0 {
         return;

@@ -8,24 +8,24 @@ use borrow.Author.Tests.{not-true, not-false}
 use lib.Ieee.{Float}
 use lib.ListN.{length, get_or, drop, drop_of_length-le}
 use lib.Seq.{drop-cons}
-use Rattle.rules.specs.Call.{answerAllowed, badAnswer}
+use Rattle.rules.specs.Call.{answer_allowed, bad_answer}
 use Rattle.tables.specs.declared.answers.Answered.TheVariants as answered
-use Rattle.tables.specs.Checks.{answeredOf, firstBad}
+use Rattle.tables.specs.Checks.{answered_of, first_bad}
 
-module _ (ss : List ℕ) (ls : List Float) (i : ℕ) (inv : badAnswer i (drop i ss) (drop i ls) ≡ badAnswer 0 ss ls) where
-  pub ends-first : length ss ≤ i → answered.Good ≡ firstBad ss ls
-  unfolding firstBad badAnswer
-  ends-first h = ap answeredOf (rw (drop_of_length-le ss h) at inv)
+module _ (ss : List ℕ) (ls : List Float) (i : ℕ) (inv : bad_answer i (drop i ss) (drop i ls) ≡ bad_answer 0 ss ls) where
+  pub ends_first : length ss ≤ i → answered.Good ≡ first_bad ss ls
+  unfolding first_bad bad_answer
+  ends_first h = ap answered_of (rw (drop_of_length-le ss h) at inv)
 
-  pub ends-second : i < length ss → length ls ≤ i → answered.Good ≡ firstBad ss ls
-  unfolding firstBad badAnswer
-  ends-second g h = ap answeredOf (rw (drop-cons ss i 0 g, drop_of_length-le ls h) at inv)
+  pub ends_second : i < length ss → length ls ≤ i → answered.Good ≡ first_bad ss ls
+  unfolding first_bad bad_answer
+  ends_second g h = ap answered_of (rw (drop-cons ss i 0 g, drop_of_length-le ls h) at inv)
 
-  module _ (d : Float) (a : Bool) (g : i < length ss) (h : i < length ls) (e : a ≡ answerAllowed (get_or ss i 0) (get_or ls i d)) where
-    pub refuses : not a ≡ true → answered.Bad i ≡ firstBad ss ls
-    unfolding firstBad badAnswer
-    refuses n = ap answeredOf (rw (drop-cons ss i 0 g, drop-cons ls i d h, ← e, not-true a n) at inv)
+  module _ (d : Float) (a : Bool) (g : i < length ss) (h : i < length ls) (e : a ≡ answer_allowed (get_or ss i 0) (get_or ls i d)) where
+    pub refuses : not a ≡ true → answered.Bad i ≡ first_bad ss ls
+    unfolding first_bad bad_answer
+    refuses n = ap answered_of (rw (drop-cons ss i 0 g, drop-cons ls i d h, ← e, not-true a n) at inv)
 
-    pub goes_on : not a ≡ false → badAnswer (i + 1) (drop (i + 1) ss) (drop (i + 1) ls) ≡ badAnswer 0 ss ls
-    unfolding badAnswer
+    pub goes_on : not a ≡ false → bad_answer (i + 1) (drop (i + 1) ss) (drop (i + 1) ls) ≡ bad_answer 0 ss ls
+    unfolding bad_answer
     goes_on n = rw (add-one i) (rw (drop-cons ss i 0 g, drop-cons ls i d h, ← e, not-false a n) at inv)

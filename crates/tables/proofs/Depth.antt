@@ -8,8 +8,8 @@ use native.Mathlib.Omega.{arith}
 use lib.Dec.{ltb}
 use lib.Ieee.{Float}
 use Rattle.rules.specs.Kinds.{kind_of, children}
-use Rattle.rules.specs.Tree.{newCell, Tree, node, Forest, [], ◌∷◌, depth, depths}
-use Rattle.rules.specs.Table.{row, rowAllowed, Row, Read, got, fault, ◌andThen◌, readChildren, readTree}
+use Rattle.rules.specs.Tree.{new_cell, Tree, node, Forest, [], ◌∷◌, depth, depths}
+use Rattle.rules.specs.Table.{row, row_allowed, Row, Read, got, fault, ◌and_then◌, read_children, read_tree}
 
 abbrev Bounded : ℕ → Read Tree → Type 0
 Bounded d (got t at rs) = depth t ≤ d
@@ -33,10 +33,10 @@ module _ (d : ℕ) where
   each (fault p) rest b h = tt
 
   module _ (child : ℕ → List Row → Read Tree) (bounded : (at : ℕ) (rs : List Row) → Bounded d (child at rs)) where
-    all-bounded : (n at : ℕ) (rs : List Row) → BoundedAll d (readChildren child n at rs)
-    unfolding readChildren depth
-    all-bounded zero at rs = omega arith
-    all-bounded (suc n) at rs = each (child at rs) (readChildren child n) (bounded at rs) (λ at' rs'. all-bounded n at' rs')
+    all_bounded : (n at : ℕ) (rs : List Row) → BoundedAll d (read_children child n at rs)
+    unfolding read_children depth
+    all_bounded zero at rs = omega arith
+    all_bounded (suc n) at rs = each (child at rs) (read_children child n) (bounded at rs) (λ at' rs'. all_bounded n at' rs')
 
   made :
       (mk : Forest → Tree) → ((ts : Forest) → depth (mk ts) ≡ suc (depths ts)) →
@@ -49,20 +49,20 @@ module _ (d : ℕ) where
   picked true r p h = h
   picked false r p h = tt
 
-  node-depth : (k n : ℕ) (l : Float) (ts : Forest) → depth (node (kind_of k) n l newCell 0 ts) ≡ suc (depths ts)
+  node_depth : (k n : ℕ) (l : Float) (ts : Forest) → depth (node (kind_of k) n l new_cell 0 ts) ≡ suc (depths ts)
   unfolding depth
-  node-depth k n l ts = refl
+  node_depth k n l ts = refl
 
-bounded : (d at : ℕ) (rs : List Row) → Bounded d (readTree d at rs)
-unfolding readTree
+bounded : (d at : ℕ) (rs : List Row) → Bounded d (read_tree d at rs)
+unfolding read_tree
 bounded zero at rs = tt
 bounded (suc d) at List.[] = tt
 bounded (suc d) at (List.◌∷◌ (row k n l) rs) =
     let m = children (kind_of k) n in
-    let r = readChildren (readTree d) m (suc at) rs in
-    let mk : Forest → Tree = λ ts. node (kind_of k) n l newCell 0 ts in
-    let below = made d mk (node-depth d k n l) r (all-bounded d (readTree d) (bounded d) m (suc at) rs) in
-    picked d (ltb at 256 && rowAllowed k n l) (r and_then λ ts at' rs'. got (mk ts) at' rs') at below
+    let r = read_children (read_tree d) m (suc at) rs in
+    let mk : Forest → Tree = λ ts. node (kind_of k) n l new_cell 0 ts in
+    let below = made d mk (node_depth d k n l) r (all_bounded d (read_tree d) (bounded d) m (suc at) rs) in
+    picked d (ltb at 256 && row_allowed k n l) (r and_then λ ts at' rs'. got (mk ts) at' rs') at below
 
-pub read-depth : (d at : ℕ) (rs : List Row) {t : Tree} {at' : ℕ} {rs' : List Row} → readTree d at rs ≡ got t at' rs' → depth t ≤ d
-read-depth d at rs e = rw e at (bounded d at rs)
+pub read_depth : (d at : ℕ) (rs : List Row) {t : Tree} {at' : ℕ} {rs' : List Row} → read_tree d at rs ≡ got t at' rs' → depth t ≤ d
+read_depth d at rs e = rw e at (bounded d at rs)

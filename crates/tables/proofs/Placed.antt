@@ -8,9 +8,9 @@ use lib.ListN.{get_or}
 use Rattle.rules.specs.Tree.{Tree, node, Forest, [], ◌∷◌, size, sizes}
 use Rattle.tables.specs.At.{At, Ats}
 
-pub size-pos : (t : Tree) → 0 < size t
+pub size_pos : (t : Tree) → 0 < size t
 unfolding size
-size-pos (node k n l c b ts) = omega arith
+size_pos (node k n l c b ts) = omega arith
 
 -- the first n elements are as they were; d is read behind the end
 abbrev pub Alike : {A : Type 0} → A → List A → List A → ℕ → Type 0
@@ -24,30 +24,30 @@ module _ (kinds ns : List ℕ) (limits : List Float) where
   mutual
     unfolding size
 
-    pub at-end : (t : Tree) (ends : List ℕ) (q : ℕ) → At kinds ns limits ends q t → get_or ends q 0 ≡ q + size t
-    at-end (node k n l c b ts) ends q h = omega (arith, ats-end ts ends (suc q) (get_or ends q 0) h.1)
+    pub at_end : (t : Tree) (ends : List ℕ) (q : ℕ) → At kinds ns limits ends q t → get_or ends q 0 ≡ q + size t
+    at_end (node k n l c b ts) ends q h = omega (arith, ats_end ts ends (suc q) (get_or ends q 0) h.1)
 
-    pub ats-end : (ts : Forest) (ends : List ℕ) (q stop : ℕ) → Ats kinds ns limits ends q ts stop → stop ≡ q + sizes ts
-    ats-end [] ends q stop h = omega arith
-    ats-end (t ∷ ts) ends q stop h = omega (arith, at-end t ends q h.0, ats-end ts ends (get_or ends q 0) stop h.1)
+    pub ats_end : (ts : Forest) (ends : List ℕ) (q stop : ℕ) → Ats kinds ns limits ends q ts stop → stop ≡ q + sizes ts
+    ats_end [] ends q stop h = omega arith
+    ats_end (t ∷ ts) ends q stop h = omega (arith, at_end t ends q h.0, ats_end ts ends (get_or ends q 0) stop h.1)
 
   module _ (ends ends' : List ℕ) where
     mutual
       unfolding size
 
-      pub at-keeps : (t : Tree) (q : ℕ) → At kinds ns limits ends q t → Same ends ends' q (q + size t) → At kinds ns limits ends' q t
-      at-keeps (node k n l c b ts) q h same =
+      pub at_keeps : (t : Tree) (q : ℕ) → At kinds ns limits ends q t → Same ends ends' q (q + size t) → At kinds ns limits ends' q t
+      at_keeps (node k n l c b ts) q h same =
           let stop = get_or ends q 0 in
-          let e = ats-end ts ends (suc q) stop h.1 in
-          let kids = ats-keeps ts (suc q) stop h.1 (λ j a z. same j (omega arith) (omega arith)) in
+          let e = ats_end ts ends (suc q) stop h.1 in
+          let kids = ats_keeps ts (suc q) stop h.1 (λ j a z. same j (omega arith) (omega arith)) in
           (h.0, subst (λ (e : ℕ). Ats kinds ns limits ends' (suc q) ts e) (sym (same q (omega arith) (omega arith))) kids)
 
-      pub ats-keeps : (ts : Forest) (q stop : ℕ) → Ats kinds ns limits ends q ts stop → Same ends ends' q stop → Ats kinds ns limits ends' q ts stop
-      ats-keeps [] q stop h same = h
-      ats-keeps (t ∷ ts) q stop h same =
-          let e = at-end t ends q h.0 in
-          let f = ats-end ts ends (get_or ends q 0) stop h.1 in
-          let p = size-pos t in
-          let here = at-keeps t q h.0 (λ j a z. same j a (omega arith)) in
-          let rest = ats-keeps ts (get_or ends q 0) stop h.1 (λ j a z. same j (omega arith) z) in
+      pub ats_keeps : (ts : Forest) (q stop : ℕ) → Ats kinds ns limits ends q ts stop → Same ends ends' q stop → Ats kinds ns limits ends' q ts stop
+      ats_keeps [] q stop h same = h
+      ats_keeps (t ∷ ts) q stop h same =
+          let e = at_end t ends q h.0 in
+          let f = ats_end ts ends (get_or ends q 0) stop h.1 in
+          let p = size_pos t in
+          let here = at_keeps t q h.0 (λ j a z. same j a (omega arith)) in
+          let rest = ats_keeps ts (get_or ends q 0) stop h.1 (λ j a z. same j (omega arith) z) in
           (here, subst (λ (x : ℕ). Ats kinds ns limits ends' x ts stop) (sym (same q (omega arith) (omega arith))) rest)

@@ -8,16 +8,16 @@ use lib.Ieee.{Float}
 use lib.ListN.{length, get_or, set, length-set, drop_of_length-le}
 use lib.Seq.{drop-cons, get_or-set_other}
 use Rattle.rules.specs.Kinds.{kind_of, children}
-use Rattle.rules.specs.Tree.{zeroTime}
+use Rattle.rules.specs.Tree.{zero_time}
 use Rattle.rules.specs.Table as T
-use Rattle.rules.specs.Table.{cleaned, rows, rowAllowed, got, fault, readTree}
+use Rattle.rules.specs.Table.{cleaned, rows, row_allowed, got, fault, read_tree}
 use Rattle.tables.specs.declared.table.Checked.TheVariants.{Good, Bad}
 use Rattle.tables.specs.declared.table.Row.{Row}
 use Rattle.tables.specs.declared.table.Row.TheVariants as row
-use Rattle.tables.specs.Checks.{rowOf, Tabled}
-use Rattle.tables.proofs.Rows.{length-rows, row-bad, row-allowed, row-children, any-default}
-use Rattle.tables.proofs.Depth.{read-depth}
-use Rattle.tables.proofs.Scan.{Reading, Closing, start, past, too-deep, refuses, descends, leaves, nexts, begins-before, closes, Whole, whole}
+use Rattle.tables.specs.Checks.{row_of, Tabled}
+use Rattle.tables.proofs.Rows.{length_rows, row_bad, row_allowed_lem, row_children, any_default}
+use Rattle.tables.proofs.Depth.{read_depth}
+use Rattle.tables.proofs.Scan.{Reading, Closing, start, past, too_deep, refuses, descends, leaves, nexts, begins_before, closes, Whole, whole}
 
 -- what is said of begins, owed, ends, open', left and at
 abbrev pub Stand : Type 1
@@ -25,9 +25,9 @@ Stand = List ℕ → List ℕ → List ℕ → ℕ → ℕ → ℕ → Type 0
 
 -- the arrays are long enough for a table of so many levels, and `at` is a place of it
 pub record Fits (most : ℕ) (kinds ns : List ℕ) (limits : List Float) (begins owed ends : List ℕ) (open' at : ℕ) : Type 0 where
-  pub begins-long : most ≤ length begins
-  pub owed-long : most ≤ length owed
-  pub ends-long : length ends ≡ 256
+  pub begins_long : most ≤ length begins
+  pub owed_long : most ≤ length owed
+  pub ends_long : length ends ≡ 256
   pub low : at ≤ 256
   pub inside : at ≤ length (rows kinds ns limits)
   pub room : open' < most
@@ -44,9 +44,9 @@ marked :
     Fits most kinds ns limits begins owed ends open' at → (q at' : ℕ) → at' ≤ 256 → at' ≤ length (rows kinds ns limits) → open'' < most →
     Fits most kinds ns limits begins owed (set ends q at') open'' at'
 marked {ends = ends} f q at' low inside room = record {
-  begins-long = f.begins-long;
-  owed-long = f.owed-long;
-  ends-long = length-set ends q at' ∙ f.ends-long;
+  begins_long = f.begins_long;
+  owed_long = f.owed_long;
+  ends_long = length-set ends q at' ∙ f.ends_long;
   low = low;
   inside = inside;
   room = room;
@@ -64,7 +64,7 @@ pub first :
     0 < most → most ≤ length begins → most ≤ length owed → length ends ≡ 256 → Nodes most kinds ns limits ends begins owed ends 0 1 0
 first {kinds = kinds} {ns = ns} {limits = limits} {begins = begins} {owed = owed} {ends = ends} some lb lo le = record {
   state = start kinds ns limits begins owed ends tt;
-  fits = record { begins-long = lb; owed-long = lo; ends-long = le; low = omega arith; inside = omega arith; room = some };
+  fits = record { begins_long = lb; owed_long = lo; ends_long = le; low = omega arith; inside = omega arith; room = some };
   stays = λ i h. refl;
 }
 
@@ -85,13 +85,13 @@ module _ {most : ℕ} {kinds ns : List ℕ} {limits : List Float} {ends₀ begin
   -- ---- the answers
   refused :
       {State : Stand} → Kept most kinds ns limits State ends₀ begins owed ends open' left at →
-      readTree most 0 (rows kinds ns limits) ≡ fault at → Tabled most kinds ns limits ends₀ ends (Bad at)
-  refused v e = record { said = rw e; tree = rw e tt; long = v.fits.ends-long; stays = v.stays }
+      read_tree most 0 (rows kinds ns limits) ≡ fault at → Tabled most kinds ns limits ends₀ ends (Bad at)
+  refused v e = record { said = rw e; tree = rw e tt; long = v.fits.ends_long; stays = v.stays }
 
-  pub at-end :
+  pub at_end :
       Nodes most kinds ns limits ends₀ begins owed ends open' left at →
       min (length (rows kinds ns limits)) 256 ≤ at → Tabled most kinds ns limits ends₀ ends (Bad at)
-  at-end v h = refused v (past kinds ns limits begins owed ends open' left at v.state h)
+  at_end v h = refused v (past kinds ns limits begins owed ends open' left at v.state h)
 
   module _ (v : Ended most kinds ns limits ends₀ begins owed ends open' left at) (none : open' ≡ 0) where
     abbrev w : Whole kinds ns limits most (λ t q σ. Unit {0}) ends at
@@ -99,8 +99,8 @@ module _ {most : ℕ} {kinds ns : List ℕ} {limits : List Float} {ends₀ begin
 
     pub too_long : at < length (rows kinds ns limits) → Tabled most kinds ns limits ends₀ ends (Bad at)
     too_long h =
-        let e = w.reads ∙ ap (got w.tree at) (drop-cons (rows kinds ns limits) at (T.row 0 0 zeroTime) h) in
-        record { said = rw e; tree = rw e tt; long = v.fits.ends-long; stays = v.stays }
+        let e = w.reads ∙ ap (got w.tree at) (drop-cons (rows kinds ns limits) at (T.row 0 0 zero_time) h) in
+        record { said = rw e; tree = rw e tt; long = v.fits.ends_long; stays = v.stays }
 
     pub accepted : length (rows kinds ns limits) ≤ at → Tabled most kinds ns limits ends₀ ends (Good at)
     accepted h =
@@ -110,10 +110,10 @@ module _ {most : ℕ} {kinds ns : List ℕ} {limits : List Float} {ends₀ begin
           tree = rw e (record {
             nodes = omega (arith, w.sized, v.fits.inside);
             few = omega (arith, w.sized, v.fits.low);
-            levels = read-depth most 0 (rows kinds ns limits) w.reads;
+            levels = read_depth most 0 (rows kinds ns limits) w.reads;
             placed = w.placed;
           });
-          long = v.fits.ends-long;
+          long = v.fits.ends_long;
           stays = v.stays;
         }
 
@@ -128,33 +128,33 @@ module _ {most : ℕ} {kinds ns : List ℕ} {limits : List Float} {ends₀ begin
     -- the code reads the limit with a default of its own
     module _ (d : Float) where
       abbrev told : Row
-      told = rowOf (get_or kinds at 0) (get_or ns at 0) (cleaned (get_or limits at d))
+      told = row_of (get_or kinds at 0) (get_or ns at 0) (cleaned (get_or limits at d))
 
-      same : rowOf (get_or kinds at 0) (get_or ns at 0) (cleaned (get_or limits at zeroTime)) ≡ told
+      same : row_of (get_or kinds at 0) (get_or ns at 0) (cleaned (get_or limits at zero_time)) ≡ told
       same =
-          let long = length-rows kinds ns limits in
-          ap (λ (l : Float). rowOf (get_or kinds at 0) (get_or ns at 0) (cleaned l)) (any-default limits at zeroTime d (omega (arith, in_rows)))
+          let long = length_rows kinds ns limits in
+          ap (λ (l : Float). row_of (get_or kinds at 0) (get_or ns at 0) (cleaned l)) (any_default limits at zero_time d (omega (arith, in_rows)))
 
-      pub row-refused : told ≡ row.Bad → Tabled most kinds ns limits ends₀ ends (Bad at)
-      row-refused h =
-          refused v (refuses kinds ns limits begins owed ends open' left at v.state low in_rows v.fits.room (row-bad _ _ _ (same ∙ h)))
+      pub row_refused : told ≡ row.Bad → Tabled most kinds ns limits ends₀ ends (Bad at)
+      row_refused h =
+          refused v (refuses kinds ns limits begins owed ends open' left at v.state low in_rows v.fits.room (row_bad _ _ _ (same ∙ h)))
 
       module _ (c : ℕ) (is : told ≡ row.Children c) where
-        ok : rowAllowed (get_or kinds at 0) (get_or ns at 0) (cleaned (get_or limits at zeroTime)) ≡ true
-        ok = row-allowed _ _ _ c (same ∙ is)
+        ok : row_allowed (get_or kinds at 0) (get_or ns at 0) (cleaned (get_or limits at zero_time)) ≡ true
+        ok = row_allowed_lem _ _ _ c (same ∙ is)
 
         e : c ≡ children (kind_of (get_or kinds at 0)) (get_or ns at 0)
-        e = row-children _ _ _ c (same ∙ is)
+        e = row_children _ _ _ c (same ∙ is)
 
         module _ (pos : 0 < c) where
           below : Reading kinds ns limits most (λ σ. Unit {0}) (set begins open' at) (set owed open' (left - 1)) ends (open' + 1) c (at + 1)
           below =
-              descends kinds ns limits begins owed ends open' left at v.state low in_rows v.fits.room ok c e pos v.fits.begins-long v.fits.owed-long λ σ m h z. tt
+              descends kinds ns limits begins owed ends open' left at v.state low in_rows v.fits.room ok c e pos v.fits.begins_long v.fits.owed_long λ σ m h z. tt
 
-          pub too-deep-at : most ≤ open' + 1 → Tabled most kinds ns limits ends₀ ends (Bad (at + 1))
-          too-deep-at h =
-              let f = too-deep kinds ns limits (set begins open' at) (set owed open' (left - 1)) ends (open' + 1) c (at + 1) below h in
-              record { said = rw f; tree = rw f tt; long = v.fits.ends-long; stays = λ i z. v.stays i (omega arith) }
+          pub too_deep_at : most ≤ open' + 1 → Tabled most kinds ns limits ends₀ ends (Bad (at + 1))
+          too_deep_at h =
+              let f = too_deep kinds ns limits (set begins open' at) (set owed open' (left - 1)) ends (open' + 1) c (at + 1) below h in
+              record { said = rw f; tree = rw f tt; long = v.fits.ends_long; stays = λ i z. v.stays i (omega arith) }
 
           pub opens :
               open' + 1 < most →
@@ -162,9 +162,9 @@ module _ {most : ℕ} {kinds ns : List ℕ} {limits : List Float} {ends₀ begin
           opens room = record {
             state = below;
             fits = record {
-              begins-long = rw (length-set begins open' at) v.fits.begins-long;
-              owed-long = rw (length-set owed open' (left - 1)) v.fits.owed-long;
-              ends-long = v.fits.ends-long;
+              begins_long = rw (length-set begins open' at) v.fits.begins_long;
+              owed_long = rw (length-set owed open' (left - 1)) v.fits.owed_long;
+              ends_long = v.fits.ends_long;
               low = omega arith;
               inside = omega arith;
               room = room;
@@ -172,11 +172,11 @@ module _ {most : ℕ} {kinds ns : List ℕ} {limits : List Float} {ends₀ begin
             stays = λ i h. v.stays i (omega arith);
           }
 
-        pub ends-leaf :
+        pub ends_leaf :
             c ≤ 0 →
             Ended most kinds ns limits (set ends at (at + 1)) begins owed (set ends at (at + 1)) open' (left - 1) (at + 1)
-        ends-leaf none = record {
-          state = leaves kinds ns limits begins owed ends open' left at v.state low in_rows v.fits.room ok c e none (omega (arith, v.fits.ends-long)) λ σ z. tt;
+        ends_leaf none = record {
+          state = leaves kinds ns limits begins owed ends open' left at v.state low in_rows v.fits.room ok c e none (omega (arith, v.fits.ends_long)) λ σ z. tt;
           fits = marked v.fits at (at + 1) (omega arith) (omega arith) v.fits.room;
           stays = λ i h. refl;
         }
@@ -184,20 +184,20 @@ module _ {most : ℕ} {kinds ns : List ℕ} {limits : List Float} {ends₀ begin
   module _ (v : Ended most kinds ns limits ends₀ begins owed ends open' left at) where
     pub goes_on : 0 < left → Nodes most kinds ns limits ends₀ begins owed ends open' left at
     goes_on more = record {
-      state = nexts kinds ns limits begins owed ends open' left at (omega (arith, v.fits.ends-long, v.fits.low)) v.state (λ p k n l kids m m' σ t q h z. tt) more;
+      state = nexts kinds ns limits begins owed ends open' left at (omega (arith, v.fits.ends_long, v.fits.low)) v.state (λ p k n l kids m m' σ t q h z. tt) more;
       fits = v.fits;
       stays = v.stays;
     }
 
     module _ (pos : 0 < open') where
-      pub begin-low : get_or begins (open' - 1) 0 < at
-      begin-low = begins-before kinds ns limits begins owed ends open' left at (omega (arith, v.fits.ends-long, v.fits.low)) v.state pos
+      pub begin_low : get_or begins (open' - 1) 0 < at
+      begin_low = begins_before kinds ns limits begins owed ends open' left at (omega (arith, v.fits.ends_long, v.fits.low)) v.state pos
 
-      pub closes-one :
+      pub closes_one :
           left ≡ 0 →
           Ended most kinds ns limits ends₀ begins owed (set ends (get_or begins (open' - 1) 0) at) (open' - 1) (get_or owed (open' - 1) 0) at
-      closes-one none = record {
-        state = closes kinds ns limits begins owed ends open' left at (omega (arith, v.fits.ends-long, v.fits.low)) v.state (λ p k n l kids m σ t q h z. tt) pos none;
+      closes_one none = record {
+        state = closes kinds ns limits begins owed ends open' left at (omega (arith, v.fits.ends_long, v.fits.low)) v.state (λ p k n l kids m σ t q h z. tt) pos none;
         fits = marked v.fits (get_or begins (open' - 1) 0) at v.fits.low v.fits.inside (omega (arith, v.fits.room));
-        stays = λ i h. get_or-set_other ends (get_or begins (open' - 1) 0) i at 0 (omega (arith, begin-low)) ∙ v.stays i h;
+        stays = λ i h. get_or-set_other ends (get_or begins (open' - 1) 0) i at 0 (omega (arith, begin_low)) ∙ v.stays i h;
       }

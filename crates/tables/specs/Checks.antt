@@ -2,9 +2,9 @@
 use Rattle.std.specs.Prelude.{◌≡◌, cond, List, ℕ, ◌≤◌, Float, length, get_or}
 use Rattle.rules.specs.Kinds.{kind_of, children}
 use Rattle.rules.specs.Tree.{Tree, size, depth}
-use Rattle.rules.specs.Table.{cleaned, number, rowAllowed, Table, good, bad, rows, tableWithin}
+use Rattle.rules.specs.Table.{cleaned, number, row_allowed, Table, good, bad, rows, table_within}
 use Rattle.rules.specs.Cells.{Found, faulty, none}
-use Rattle.rules.specs.Call.{badAnswer}
+use Rattle.rules.specs.Call.{bad_answer}
 use Rattle.tables.specs.declared.number.Number.{Number}
 use Rattle.tables.specs.declared.number.Number.TheVariants.{Good, Bad}
 use Rattle.tables.specs.declared.answers.Answered.{Answered}
@@ -19,21 +19,21 @@ use Rattle.tables.specs.At.{At}
 abbrev pub number_of : Float → Number
 number_of x = cond (number (cleaned x)) (Good (cleaned x)) Bad
 
-abbrev pub answeredOf : Found → Answered
-answeredOf (faulty i) = answered.Bad i
-answeredOf (none i) = answered.Good
+abbrev pub answered_of : Found → Answered
+answered_of (faulty i) = answered.Bad i
+answered_of (none i) = answered.Good
 
-unfoldable pub firstBad : List ℕ → List Float → Answered
-unfolding badAnswer
-firstBad ss ls = answeredOf (badAnswer 0 ss ls)
+unfoldable pub first_bad : List ℕ → List Float → Answered
+unfolding bad_answer
+first_bad ss ls = answered_of (bad_answer 0 ss ls)
 
 -- a node's children
-abbrev pub rowOf : ℕ → ℕ → Float → Row
-rowOf k n l = cond (rowAllowed k n l) (row.Children (children (kind_of k) n)) row.Bad
+abbrev pub row_of : ℕ → ℕ → Float → Row
+row_of k n l = cond (row_allowed k n l) (row.Children (children (kind_of k) n)) row.Bad
 
-abbrev pub checkedOf : Table → Checked
-checkedOf (good t) = checked.Good (size t)
-checkedOf (bad p) = checked.Bad p
+abbrev pub checked_of : Table → Checked
+checked_of (good t) = checked.Good (size t)
+checked_of (bad p) = checked.Bad p
 
 -- a tree of at most so many levels that the slices hold, and nothing else; `ends` has each subtree's end
 pub record Standing (deep : ℕ) (kinds ns : List ℕ) (limits : List Float) (ends : List ℕ) (t : Tree) : Type 0 where
@@ -52,7 +52,7 @@ up_to (checked.Bad p) = p
 
 -- what the check of a table that may be so deep leaves in `ends`, which held ends₀
 pub record Tabled (deep : ℕ) (kinds ns : List ℕ) (limits : List Float) (ends₀ ends : List ℕ) (r : Checked) : Type 0 where
-  pub said : r ≡ checkedOf (tableWithin deep kinds ns limits)
-  pub tree : Laid deep kinds ns limits ends (tableWithin deep kinds ns limits)
+  pub said : r ≡ checked_of (table_within deep kinds ns limits)
+  pub tree : Laid deep kinds ns limits ends (table_within deep kinds ns limits)
   pub long : length ends ≡ 256
   pub stays : (i : ℕ) → up_to r ≤ i → get_or ends i 0 ≡ get_or ends₀ i 0

@@ -1,7 +1,7 @@
 // The check of the lent answers.
 ghost use Rattle.std.specs.Prelude.{◌≡◌};
-ghost use Rattle.rules.specs.Call.{answerAllowed};
-ghost use Rattle.tables.specs.Checks.{firstBad};
+ghost use Rattle.rules.specs.Call.{answer_allowed};
+ghost use Rattle.tables.specs.Checks.{first_bad};
 
 use crate::number::is_number;
 
@@ -13,7 +13,7 @@ pub enum Answered {
 }
 
 fn allowed(status: u8, leftover: f64) -> bool
-    ensures { result ≡ answerAllowed status leftover }
+    ensures { result ≡ answer_allowed status leftover }
 {
     if status < 1 {
         return false;
@@ -27,7 +27,7 @@ fn allowed(status: u8, leftover: f64) -> bool
 // A status other than 1 to 3, or a leftover that is no number; the run is as long as the shorter
 // slice.
 pub fn bad_answer(statuses: &[u8], leftovers: &[f64]) -> Answered
-    ensures { result ≡ firstBad statuses.now leftovers.now }
+    ensures { result ≡ first_bad statuses.now leftovers.now }
 {
     let mut i = 0;
     while i < statuses.len() {

@@ -1,7 +1,7 @@
 // Numbers that a host gives, and times in its cells. A comparison does not tell -0.0 from 0.0: in a
 // cell the bits do, of which the sign is the top one.
 ghost use Rattle.std.specs.Prelude.{◌≡◌};
-ghost use Rattle.rules.specs.Table.{cleaned, number, zeroBits};
+ghost use Rattle.rules.specs.Table.{cleaned, number, zero_bits};
 ghost use Rattle.rules.specs.Cells.{elapsed};
 ghost use Rattle.tables.specs.Checks.{number_of};
 
@@ -51,7 +51,7 @@ pub fn is_number(x: f64) -> bool
 
 // All bits are 0.
 pub fn zero_bits(x: f64) -> bool
-    ensures { result ≡ zeroBits x }
+    ensures { result ≡ zero_bits x }
 {
     if x != x {
         return false;

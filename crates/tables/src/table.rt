@@ -1,8 +1,8 @@
 // The table check: one pass from left to right, with the open nodes on a stack of fixed size.
 ghost use Rattle.std.specs.Prelude.{◌≡◌, ◌&&◌, ◌<◌, ◌≤◌, min, leb, length};
 ghost use Rattle.rules.specs.Kinds.{fewest, most};
-ghost use Rattle.rules.specs.Table.{rows, cleaned, limitAllowed};
-ghost use Rattle.tables.specs.Checks.{rowOf, Tabled};
+ghost use Rattle.rules.specs.Table.{rows, cleaned, limit_allowed};
+ghost use Rattle.tables.specs.Checks.{row_of, Tabled};
 
 use crate::number::is_number;
 use rules::Kind;
@@ -45,7 +45,7 @@ pub fn rows_of(kinds: &[u8], ns: &[u16], limits: &[f64]) -> usize
 
 // Only Wait and Timeout have a limit; in any other kind it is zero.
 fn limit_allowed(kind: Kind, limit: f64) -> bool
-    ensures { result ≡ limitAllowed kind (cleaned limit) }
+    ensures { result ≡ limit_allowed kind (cleaned limit) }
 {
     if !kind.timed() {
         return limit == 0.0;
@@ -67,7 +67,7 @@ fn count_allowed(kind: Kind, children: u16) -> bool
 }
 
 pub fn row_of(number: u8, n: u16, limit: f64) -> Row
-    ensures { result ≡ rowOf number n (cleaned limit) }
+    ensures { result ≡ row_of number n (cleaned limit) }
 {
     if Kind::LAST < number {
         return Row::Bad;

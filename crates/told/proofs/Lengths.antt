@@ -4,8 +4,8 @@ use mathlib.Core.List
 use lib.Ieee.{Float}
 use Rattle.rules.specs.Call.{answers}
 
-pub answers-length : (ss : List ℕ) (ls : List Float) → length (answers ss ls) ≡ min (length ss) (length ls)
+pub answers_length : (ss : List ℕ) (ls : List Float) → length (answers ss ls) ≡ min (length ss) (length ls)
 unfolding answers
-answers-length List.[] ls = omega arith
-answers-length (List.◌∷◌ s ss) List.[] = omega arith
-answers-length (List.◌∷◌ s ss) (List.◌∷◌ l ls) = omega (arith, answers-length ss ls)
+answers_length List.[] ls = omega arith
+answers_length (List.◌∷◌ s ss) List.[] = omega arith
+answers_length (List.◌∷◌ s ss) (List.◌∷◌ l ls) = omega (arith, answers_length ss ls)

@@ -7,19 +7,19 @@ use Rattle.rules.specs.declared.answer.Answer.TheVariants.{Ticked, Asked, OutOfF
 use Rattle.work.specs.declared.result.Result.{Result}
 use Rattle.work.specs.declared.result.Seen.{Seen}
 use Rattle.work.specs.declared.result.Seen.TheVariants.{Stopped, Running, Success, Failure}
-use Rattle.work.specs.Array.{fuelOf, usedOf, asked_of}
+use Rattle.work.specs.Array.{fuel_of, used_of, asked_of}
 
 -- the status of a walk that has not stopped
-abbrev pub statusIn : Seen → Status
-statusIn Stopped = status.Running
-statusIn Running = status.Running
-statusIn Success = status.Success
-statusIn Failure = status.Failure
+abbrev pub status_in : Seen → Status
+status_in Stopped = status.Running
+status_in Running = status.Running
+status_in Success = status.Success
+status_in Failure = status.Failure
 
 -- an action's place stands in the array, with 1 added
-abbrev pub toldStopped : List ℕ → List ℕ → Result → Answer
-toldStopped ws ns r = cond (asked_of ws == 0) OutOfFuel (Asked (slice_index ns (asked_of ws - 1)) r.left)
+abbrev pub told_stopped : List ℕ → List ℕ → Result → Answer
+told_stopped ws ns r = cond (asked_of ws == 0) OutOfFuel (Asked (slice_index ns (asked_of ws - 1)) r.left)
 
 -- of so much fuel and so many answers
-abbrev pub toldDone : List ℕ → Result → ℕ → ℕ → Answer
-toldDone ws r fuel lent = Ticked (statusIn r.seen) r.left (fuel - fuelOf ws) (min (usedOf ws) lent)
+abbrev pub told_done : List ℕ → Result → ℕ → ℕ → Answer
+told_done ws r fuel lent = Ticked (status_in r.seen) r.left (fuel - fuel_of ws) (min (used_of ws) lent)

@@ -1,7 +1,7 @@
 // What a call tells of a walk, and the record behind it.
 ghost use Rattle.std.specs.Prelude.{◌≡◌, ◌-◌, length, slice_index};
 ghost use Rattle.rules.specs.Call.{answers, ended, counted};
-ghost use Rattle.told.specs.Told.{statusIn, toldStopped, toldDone};
+ghost use Rattle.told.specs.Told.{status_in, told_stopped, told_done};
 
 use rules::{Answer, Record, Status};
 use tables::least;
@@ -34,7 +34,7 @@ fn less(n: u32, k: u32) -> u32
 }
 
 fn status_of(seen: Seen) -> Status
-    ensures { result ≡ statusIn seen }
+    ensures { result ≡ status_in seen }
 {
     match seen {
         Seen::Stopped | Seen::Running => Status::Running,
@@ -45,7 +45,7 @@ fn status_of(seen: Seen) -> Status
 
 // A walk that has stopped: an action asks, or the fuel is used up.
 pub fn told_stopped(work: &[u32; 260], ns: &[u16], res: Result) -> Answer
-    ensures { result ≡ toldStopped work.now ns.now res }
+    ensures { result ≡ told_stopped work.now ns.now res }
 {
     let asked = work[ASKED];
     if asked == 0 {
@@ -60,7 +60,7 @@ pub fn told_stopped(work: &[u32; 260], ns: &[u16], res: Result) -> Answer
 
 // A walk to its end.
 pub fn told_done(work: &[u32; 260], res: Result, fuel: u32, lent: usize) -> Answer
-    ensures { result ≡ toldDone work.now res fuel lent }
+    ensures { result ≡ told_done work.now res fuel lent }
 {
     let seen = res.seen;
     let leftover = res.left;
@@ -74,7 +74,7 @@ pub fn told_done(work: &[u32; 260], res: Result, fuel: u32, lent: usize) -> Answ
 
 // A status other than Running is an end.
 fn ends(seen: Seen) -> bool
-    ensures { result ≡ ended (statusIn seen) }
+    ensures { result ≡ ended (status_in seen) }
 {
     match seen {
         Seen::Stopped | Seen::Running => false,
@@ -85,7 +85,7 @@ fn ends(seen: Seen) -> bool
 
 // One more tick; the count goes from its largest number to 0.
 pub fn counted(record: Record, res: Result) -> Record
-    ensures { result ≡ counted (statusIn res.seen) «record» }
+    ensures { result ≡ counted (status_in res.seen) «record» }
 {
     let seen = res.seen;
     Record {

@@ -10,38 +10,38 @@ use lib.Ieee.{Float}
 use borrow.Author.Tests.{le-leb, lt-leb, lt-ltb, le-ltb}
 use Rattle.work.specs.declared.result.Result.{Result}
 use Rattle.work.specs.declared.result.Seen.{Seen}
-use Rattle.work.specs.Word.{belowOf}
-use Rattle.work.specs.Array.{word_at, fuelOf, end_of, setPlace, freshWords, childFrom}
+use Rattle.work.specs.Word.{below_of}
+use Rattle.work.specs.Array.{word_at, fuel_of, end_of, set_place, fresh_words, child_from}
 use Rattle.work.specs.Flat.{out, turned}
-use Rattle.work.proofs.VisitLaws.{turned-back}
+use Rattle.work.proofs.VisitLaws.{turned_back}
 use Rattle.turns.specs.declared.level.Level.{Level}
 use Rattle.turns.specs.declared.level.Turn.{Turn}
-use Rattle.turns.specs.Levels.{Fine, Keeps, dueTurn, doneTurn}
-use Rattle.turns.proofs.FuelLaws.{fuel-set, fuel-fresh-to}
+use Rattle.turns.specs.Levels.{Fine, Keeps, due_turn, done_turn}
+use Rattle.turns.proofs.FuelLaws.{fuel_set, fuel_fresh_to}
 
 -- ---- a node that is done, with the equation of its turn put in
 pub none : {A : Type 0} → ◌≡◌ {A = Bool} false true → A
 none h = let z : ◌≡◌ {A = ℕ} 0 1 = cc in absurd (omega arith)
 
-pub over : {e n : Level} {r : Result} → n.kind ≡ e.kind → n.node ≡ e.node → Keeps e (doneTurn n r)
+pub over : {e n : Level} {r : Result} → n.kind ≡ e.kind → n.node ≡ e.node → Keeps e (done_turn n r)
 over k p = record { kind = k; node = p; fine = none }
 
 -- ---- a child is due
-module _ (n : Level) (l : Float) (t : Turn) (d : t ≡ dueTurn n l) where
-  pub due-keeps : (e : Level) → n.kind ≡ e.kind → n.node ≡ e.node → Fine n → Keeps e t
-  due-keeps e k p f = rw d (record { kind = k; node = p; fine = λ h. f })
+module _ (n : Level) (l : Float) (t : Turn) (d : t ≡ due_turn n l) where
+  pub due_keeps : (e : Level) → n.kind ≡ e.kind → n.node ≡ e.node → Fine n → Keeps e t
+  due_keeps e k p f = rw d (record { kind = k; node = p; fine = λ h. f })
 
 -- of a level with other places
-pub keeps-as : (e n : Level) (t : Turn) → n.kind ≡ e.kind → n.node ≡ e.node → Keeps n t → Keeps e t
-keeps-as e n t k p f = record { kind = f.kind ∙ k; node = f.node ∙ p; fine = f.fine }
+pub keeps_as : (e n : Level) (t : Turn) → n.kind ≡ e.kind → n.node ≡ e.node → Keeps n t → Keeps e t
+keeps_as e n t k p f = record { kind = f.kind ∙ k; node = f.node ∙ p; fine = f.fine }
 
 -- ---- a node has a word
-pub node-within : {e : Level} → Fine e → e.node < 256
-node-within f = omega (arith, f.node_in, f.child-in)
+pub node_within : {e : Level} → Fine e → e.node < 256
+node_within f = omega (arith, f.node_in, f.child_in)
 
 -- ---- exchanged twice
 pub turned_as : (x : Bool) (s t : Seen) (l : Float) (ws : List ℕ) (ts : List Float) → turned x s ≡ t → out (turned x t) l ws ts ≡ out s l ws ts
-turned_as x s t l ws ts h = ap (λ (u : Seen). out u l ws ts) (turned-back x s t h)
+turned_as x s t l ws ts h = ap (λ (u : Seen). out u l ws ts) (turned_back x s t h)
 
 -- ---- where a child ends, and where the next begins
 past : (q e : ℕ) → q < 256 → q < cond (ltb (q + 1 + e) 256) (q + 1 + e) 256
@@ -50,29 +50,29 @@ past q e h = elim (dec_lt (q + 1 + e) 256) [
   | no l ↦ rw (le-ltb (q + 1 + e) 256 (omega arith)) (omega arith)
 ]
 
-pub end-past : (ws : List ℕ) (q : ℕ) → q < 256 → q < end_of ws q
+pub end_past : (ws : List ℕ) (q : ℕ) → q < 256 → q < end_of ws q
 unfolding end_of
-end-past ws q h = past q (belowOf (word_at ws q)) h
+end_past ws q h = past q (below_of (word_at ws q)) h
 
-pub child-past : (ws : List ℕ) (stop i q : ℕ) → stop ≤ 256 → q ≤ childFrom ws stop i q
-unfolding childFrom
-child-past ws stop zero q h = omega arith
-child-past ws stop (suc i) q h = elim (dec_lt q stop) [
+pub child_past : (ws : List ℕ) (stop i q : ℕ) → stop ≤ 256 → q ≤ child_from ws stop i q
+unfolding child_from
+child_past ws stop zero q h = omega arith
+child_past ws stop (suc i) q h = elim (dec_lt q stop) [
   | yes l ↦
-      let a = child-past ws stop i (end_of ws q) h in
-      let b : q < end_of ws q = end-past ws q (omega arith) in
+      let a = child_past ws stop i (end_of ws q) h in
+      let b : q < end_of ws q = end_past ws q (omega arith) in
       rw (lt-leb stop q l) (omega arith)
   | no l ↦
       let g : stop ≤ q = omega arith in
       rw (le-leb stop q g) (omega arith)
 ]
 
-pub child-behind : (ws : List ℕ) (stop i p q : ℕ) → stop ≤ 256 → q ≡ childFrom ws stop i p → p ≤ q
-child-behind ws stop i p q h e = rw e (child-past ws stop i p h)
+pub child_behind : (ws : List ℕ) (stop i p q : ℕ) → stop ≤ 256 → q ≡ child_from ws stop i p → p ≤ q
+child_behind ws stop i p q h e = rw e (child_past ws stop i p h)
 
 -- ---- what is written leaves the fuel as it is
-pub fuel-placed : (ws ws₁ : List ℕ) (p i : ℕ) → p < 256 → ws₁ ≡ setPlace ws p i → fuelOf ws₁ ≡ fuelOf ws
-fuel-placed ws ws₁ p i h e = rw e (fuel-set ws p _ h)
+pub fuel_placed : (ws ws₁ : List ℕ) (p i : ℕ) → p < 256 → ws₁ ≡ set_place ws p i → fuel_of ws₁ ≡ fuel_of ws
+fuel_placed ws ws₁ p i h e = rw e (fuel_set ws p _ h)
 
-pub fuel-freshed : (ws ws₁ : List ℕ) (q to : ℕ) → to ≤ 256 → ws₁ ≡ freshWords q (to - q) ws → fuelOf ws₁ ≡ fuelOf ws
-fuel-freshed ws ws₁ q to h e = rw e (fuel-fresh-to ws q to h)
+pub fuel_freshed : (ws ws₁ : List ℕ) (q to : ℕ) → to ≤ 256 → ws₁ ≡ fresh_words q (to - q) ws → fuel_of ws₁ ≡ fuel_of ws
+fuel_freshed ws ws₁ q to h e = rw e (fuel_fresh_to ws q to h)

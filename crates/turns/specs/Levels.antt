@@ -6,99 +6,99 @@ use Rattle.rules.specs.declared.behavior.Kind.TheVariants.{Wait, WaitForever, Ac
 use Rattle.rules.specs.declared.behavior.Kind.TheVariants.{MemorylessSequence, MemorylessSelector, While, WhileAll, WhenAll, WhenAny, After, Race}
 use Rattle.work.specs.declared.result.Result.{Result}
 use Rattle.work.specs.declared.result.Seen.TheVariants.{Running}
-use Rattle.work.specs.Flat.{Out, out, Lent, Step, Visitor, and_then, turnOut, turning, decorated}
-use Rattle.work.specs.Flat.{sequenceOn, memorylessOn, whenAllOn, raceOn, afterOn, whileOn, whileHolds, whileAllOn, whileAllHolds, ifOn}
-use Rattle.work.specs.Flat.{sequenceGo, memorylessGo, whenAllGo, raceGo, afterGo, whileGo, whileBody, whileAllGo, chosen}
+use Rattle.work.specs.Flat.{Out, out, Lent, Step, Visitor, and_then, turn_out, turning, decorated}
+use Rattle.work.specs.Flat.{sequence_on, memoryless_on, when_all_on, race_on, after_on, while_on, while_holds, while_all_on, while_all_holds, if_on}
+use Rattle.work.specs.Flat.{sequence_go, memoryless_go, when_all_go, race_go, after_go, while_go, while_body, while_all_go, chosen}
 use Rattle.turns.specs.declared.level.Level.{Level}
 use Rattle.turns.specs.declared.level.Turn.{Turn}
 
-abbrev pub enteredLevel : Kind → ℕ → Float → Level
-enteredLevel k p dt = record { kind = k; node = p; child = 0; next = 0; stop = 0; index = 0; count = 0; whole = dt; rest = dt }
+abbrev pub entered_level : Kind → ℕ → Float → Level
+entered_level k p dt = record { kind = k; node = p; child = 0; next = 0; stop = 0; index = 0; count = 0; whole = dt; rest = dt }
 
-abbrev pub dueTurn : Level → Float → Turn
-dueTurn e x = record { due = true; level = e; seen = Running; left = x }
+abbrev pub due_turn : Level → Float → Turn
+due_turn e x = record { due = true; level = e; seen = Running; left = x }
 
-abbrev pub doneTurn : Level → Result → Turn
-doneTurn e r = record { due = false; level = e; seen = r.seen; left = r.left }
+abbrev pub done_turn : Level → Result → Turn
+done_turn e r = record { due = false; level = e; seen = r.seen; left = r.left }
 
 -- what fits into an entry, and into the numbers of a driver
 pub record Fine (e : Level) : Type 0 where
   pub node_in : e.node < e.child
-  pub child-in : e.child < 256
-  pub next-in : e.next ≤ 256
-  pub stop-in : e.stop ≤ 256
+  pub child_in : e.child < 256
+  pub next_in : e.next ≤ 256
+  pub stop_in : e.stop ≤ 256
   pub index_in : e.index ≤ 255 + e.child
 
 -- a node that was just entered
 pub record Entered (e : Level) : Type 0 where
   pub node_in : e.node < 256
-  pub next-zero : e.next ≡ 0
-  pub stop-zero : e.stop ≡ 0
-  pub index-zero : e.index ≡ 0
-  pub count-zero : e.count ≡ 0
+  pub next_zero : e.next ≡ 0
+  pub stop_zero : e.stop ≡ 0
+  pub index_zero : e.index ≡ 0
+  pub count_zero : e.count ≡ 0
 
 -- the driver's own: what it makes of an outcome of the child
 abbrev pub Resumed : Type 0
 Resumed = Visitor → Level → Out → Out
 
-abbrev pub sequenceResumed : Bool → Resumed
-sequenceResumed x v e o = turnOut x (and_then (turnOut x o) (sequenceOn e.node e.stop (sequenceGo (turning x v) e.node e.stop 256) e.child e.index))
+abbrev pub sequence_resumed : Bool → Resumed
+sequence_resumed x v e o = turn_out x (and_then (turn_out x o) (sequence_on e.node e.stop (sequence_go (turning x v) e.node e.stop 256) e.child e.index))
 
-abbrev pub memorylessResumed : Bool → Resumed
-memorylessResumed x v e o = turnOut x (and_then (turnOut x o) (memorylessOn e.stop (memorylessGo (turning x v) e.stop 256) e.child e.next))
+abbrev pub memoryless_resumed : Bool → Resumed
+memoryless_resumed x v e o = turn_out x (and_then (turn_out x o) (memoryless_on e.stop (memoryless_go (turning x v) e.stop 256) e.child e.next))
 
-abbrev pub whenAllResumed : Bool → Resumed
-whenAllResumed x v e o =
-    turnOut x (and_then (turnOut x o) (whenAllOn (whenAllGo (turning x v) e.stop e.whole 256) e.child e.next (not (eqb e.count 0)) e.rest))
+abbrev pub when_all_resumed : Bool → Resumed
+when_all_resumed x v e o =
+    turn_out x (and_then (turn_out x o) (when_all_on (when_all_go (turning x v) e.stop e.whole 256) e.child e.next (not (eqb e.count 0)) e.rest))
 
-abbrev pub raceResumed : Resumed
-raceResumed v e o = and_then o (raceOn (raceGo v e.stop e.whole 256) e.next)
+abbrev pub race_resumed : Resumed
+race_resumed v e o = and_then o (race_on (race_go v e.stop e.whole 256) e.next)
 
-abbrev pub afterResumed : Resumed
-afterResumed v e o = and_then o (afterOn e.node (afterGo v e.node e.stop e.whole 256) e.next e.index (not (eqb e.count 0)) e.rest)
+abbrev pub after_resumed : Resumed
+after_resumed v e o = and_then o (after_on e.node (after_go v e.node e.stop e.whole 256) e.next e.index (not (eqb e.count 0)) e.rest)
 
 -- no turn is left before the condition; `next` is where the body begins
-abbrev pub whileResumed : Resumed
-whileResumed v e o = cond (eqb e.count 0)
-    (and_then o (whileHolds (whileBody v e.node e.whole)))
-    (and_then o (whileOn e.node e.stop e.next (whileGo v e.node e.stop e.next (e.count - 1)) e.child e.index))
+abbrev pub while_resumed : Resumed
+while_resumed v e o = cond (eqb e.count 0)
+    (and_then o (while_holds (while_body v e.node e.whole)))
+    (and_then o (while_on e.node e.stop e.next (while_go v e.node e.stop e.next (e.count - 1)) e.child e.index))
 
-abbrev pub whileAllResumed : Resumed
-whileAllResumed v e o =
-    let again = whileAllGo v e.node e.stop e.next e.whole e.count in
+abbrev pub while_all_resumed : Resumed
+while_all_resumed v e o =
+    let again = while_all_go v e.node e.stop e.next e.whole e.count in
     cond (eqb e.index 0)
-    (and_then o (whileAllHolds e.node (again e.next 1 e.rest)))
-    (and_then o (whileAllOn e.node e.stop e.next again e.child e.index))
+    (and_then o (while_all_holds e.node (again e.next 1 e.rest)))
+    (and_then o (while_all_on e.node e.stop e.next again e.child e.index))
 
-abbrev pub ifResumed : Resumed
-ifResumed v e o = cond (eqb e.index 0) (and_then o (ifOn (chosen v e.node e.stop))) o
+abbrev pub if_resumed : Resumed
+if_resumed v e o = cond (eqb e.index 0) (and_then o (if_on (chosen v e.node e.stop))) o
 
-abbrev pub decoratorResumed : Format → Lent → Resumed
-decoratorResumed F T v e o = and_then o (decorated F T e.node e.whole)
+abbrev pub decorator_resumed : Format → Lent → Resumed
+decorator_resumed F T v e o = and_then o (decorated F T e.node e.whole)
 
 -- by the kind
 module _ (F : Format) (T : Lent) (v : Visitor) where
-  abbrev pub resumedAs : Kind → Level → Out → Out
-  resumedAs Wait e o = o
-  resumedAs WaitForever e o = o
-  resumedAs Action e o = o
-  resumedAs Invert e o = decoratorResumed F T v e o
-  resumedAs AlwaysSucceed e o = decoratorResumed F T v e o
-  resumedAs Timeout e o = decoratorResumed F T v e o
-  resumedAs If e o = ifResumed v e o
-  resumedAs Sequence e o = sequenceResumed false v e o
-  resumedAs Select e o = sequenceResumed true v e o
-  resumedAs MemorylessSequence e o = memorylessResumed false v e o
-  resumedAs MemorylessSelector e o = memorylessResumed true v e o
-  resumedAs While e o = whileResumed v e o
-  resumedAs WhileAll e o = whileAllResumed v e o
-  resumedAs WhenAll e o = whenAllResumed false v e o
-  resumedAs WhenAny e o = whenAllResumed true v e o
-  resumedAs After e o = afterResumed v e o
-  resumedAs Race e o = raceResumed v e o
+  abbrev pub resumed_as : Kind → Level → Out → Out
+  resumed_as Wait e o = o
+  resumed_as WaitForever e o = o
+  resumed_as Action e o = o
+  resumed_as Invert e o = decorator_resumed F T v e o
+  resumed_as AlwaysSucceed e o = decorator_resumed F T v e o
+  resumed_as Timeout e o = decorator_resumed F T v e o
+  resumed_as If e o = if_resumed v e o
+  resumed_as Sequence e o = sequence_resumed false v e o
+  resumed_as Select e o = sequence_resumed true v e o
+  resumed_as MemorylessSequence e o = memoryless_resumed false v e o
+  resumed_as MemorylessSelector e o = memoryless_resumed true v e o
+  resumed_as While e o = while_resumed v e o
+  resumed_as WhileAll e o = while_all_resumed v e o
+  resumed_as WhenAll e o = when_all_resumed false v e o
+  resumed_as WhenAny e o = when_all_resumed true v e o
+  resumed_as After e o = after_resumed v e o
+  resumed_as Race e o = race_resumed v e o
 
-  abbrev pub resumedBy : Level → Out → Out
-  resumedBy e o = resumedAs e.kind e o
+  abbrev pub resumed_by : Level → Out → Out
+  resumed_by e o = resumed_as e.kind e o
 
 -- a turn: the child's visit, and what is made of it; or a result
 abbrev pub goes : Resumed → Visitor → Turn → Step

@@ -1,8 +1,8 @@
 // If, a child at a time.
 ghost use Rattle.std.specs.Prelude.{◌≡◌, List, Float};
-ghost use Rattle.work.specs.Array.{fuelOf};
-ghost use Rattle.work.specs.Flat.{out, Visitor, ifNode};
-ghost use Rattle.turns.specs.Levels.{Fine, Entered, Keeps, goes, ifResumed};
+ghost use Rattle.work.specs.Array.{fuel_of};
+ghost use Rattle.work.specs.Flat.{out, Visitor, if_node};
+ghost use Rattle.turns.specs.Levels.{Fine, Entered, Keeps, goes, if_resumed};
 
 use crate::level::{Level, Turn, done, due};
 use work::{Result, child, choice, choose, end_of, place_of, stopped};
@@ -10,7 +10,7 @@ use work::{Result, child, choice, choose, end_of, place_of, stopped};
 // The branch that was chosen, or the condition.
 pub fn if_opened(work: &[u32; 260], level: Level) -> Turn
     requires { Entered level }
-    ensures ts_value { (v : Visitor) (ts : List Float) → ifNode v level.node level.whole work.now ts ≡ goes ifResumed v result work.now ts }
+    ensures ts_value { (v : Visitor) (ts : List Float) → if_node v level.node level.whole work.now ts ≡ goes if_resumed v result work.now ts }
     ensures keeps { Keeps level result }
 {
     let p = level.node;
@@ -37,9 +37,9 @@ pub fn if_opened(work: &[u32; 260], level: Level) -> Turn
 // The condition chooses the branch; the branch gives the result.
 pub fn if_resumed(work: &mut [u32; 260], times: &mut [f64], level: Level, res: Result) -> Turn
     requires { Fine level }
-    ensures times_value { (v : Visitor) → ifResumed v level (out res.seen res.left work.old times.old) ≡ goes ifResumed v result work.new times.new }
+    ensures times_value { (v : Visitor) → if_resumed v level (out res.seen res.left work.old times.old) ≡ goes if_resumed v result work.new times.new }
     ensures keeps { Keeps level result }
-    ensures work_unchanged { fuelOf work.new ≡ fuelOf work.old }
+    ensures work_unchanged { fuel_of work.new ≡ fuel_of work.old }
 {
     if level.index != 0 {
         return done(level, res);

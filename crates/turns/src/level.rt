@@ -1,7 +1,7 @@
 // An open node, which stands on a level of its own, and what its driver does next.
 ghost use Rattle.std.specs.Prelude.{◌≡◌, ◌<◌};
-ghost use Rattle.work.specs.Array.{setPlace, fuelOf};
-ghost use Rattle.turns.specs.Levels.{dueTurn, doneTurn, enteredLevel};
+ghost use Rattle.work.specs.Array.{set_place, fuel_of};
+ghost use Rattle.turns.specs.Levels.{due_turn, done_turn, entered_level};
 
 use rules::Kind;
 use work::{Result, Seen, put_place};
@@ -36,7 +36,7 @@ pub struct Turn {
 }
 
 pub fn due(level: Level, rest: f64) -> Turn
-    ensures { result ≡ dueTurn level rest }
+    ensures { result ≡ due_turn level rest }
 {
     Turn {
         due: true,
@@ -47,7 +47,7 @@ pub fn due(level: Level, rest: f64) -> Turn
 }
 
 pub fn done(level: Level, res: Result) -> Turn
-    ensures { result ≡ doneTurn level res }
+    ensures { result ≡ done_turn level res }
 {
     let seen = res.seen;
     Turn {
@@ -61,9 +61,9 @@ pub fn done(level: Level, res: Result) -> Turn
 // A node that is done, and keeps the number of its child as its place.
 pub fn done_in_place(work: &mut [u32; 260], level: Level, res: Result) -> Turn
     requires { level.node < 256 }
-    ensures value { result ≡ doneTurn level res }
-    ensures work_after { work.new ≡ setPlace work.old level.node level.index }
-    ensures work_unchanged { fuelOf work.new ≡ fuelOf work.old }
+    ensures value { result ≡ done_turn level res }
+    ensures work_after { work.new ≡ set_place work.old level.node level.index }
+    ensures work_unchanged { fuel_of work.new ≡ fuel_of work.old }
 {
     put_place(work, level.node, level.index);
     done(level, res)
@@ -71,7 +71,7 @@ pub fn done_in_place(work: &mut [u32; 260], level: Level, res: Result) -> Turn
 
 // A node that is entered with dt.
 pub fn entered(kind: Kind, node: usize, dt: f64) -> Level
-    ensures { result ≡ enteredLevel kind node dt }
+    ensures { result ≡ entered_level kind node dt }
 {
     Level {
         kind,

@@ -1,8 +1,8 @@
 // While and WhileAll, a child at a time.
 ghost use Rattle.std.specs.Prelude.{◌≡◌, List, ℕ, ◌+◌, ◌<◌, ◌≤◌, Float};
-ghost use Rattle.work.specs.Array.{fuelOf};
-ghost use Rattle.work.specs.Flat.{out, Visitor, whileGo, whileBody, whileLoop, whileAllGo, whileAll};
-ghost use Rattle.turns.specs.Levels.{Fine, Entered, Keeps, InBody, Bodied, goes, whileResumed, whileAllResumed};
+ghost use Rattle.work.specs.Array.{fuel_of};
+ghost use Rattle.work.specs.Flat.{out, Visitor, while_go, while_body, while_loop, while_all_go, while_all};
+ghost use Rattle.turns.specs.Levels.{Fine, Entered, Keeps, InBody, Bodied, goes, while_resumed, while_all_resumed};
 
 use crate::level::{Level, Turn, done, done_in_place, due};
 use work::{
@@ -13,7 +13,7 @@ use work::{
 // The condition, before any turn.
 pub fn while_opened(level: Level) -> Turn
     requires { Entered level }
-    ensures ts_value { (v : Visitor) (ws : List ℕ) (ts : List Float) → whileLoop v level.node level.whole ws ts ≡ goes whileResumed v result ws ts }
+    ensures ts_value { (v : Visitor) (ws : List ℕ) (ts : List Float) → while_loop v level.node level.whole ws ts ≡ goes while_resumed v result ws ts }
     ensures keeps { Keeps level result }
     ensures in_body { InBody result }
 {
@@ -33,7 +33,7 @@ fn while_next(level: Level, turns: u32, q: usize, i: u32, rest: f64) -> Turn
     requires next_bound { level.next ≤ 256 }
     requires i_bound { i ≤ 255 + q }
     requires node_lt_next { level.node < level.next }
-    ensures ts_value { (v : Visitor) (ws : List ℕ) (ts : List Float) → whileGo v level.node level.stop level.next turns q i rest ws ts ≡ goes whileResumed v result ws ts }
+    ensures ts_value { (v : Visitor) (ws : List ℕ) (ts : List Float) → while_go v level.node level.stop level.next turns q i rest ws ts ≡ goes while_resumed v result ws ts }
     ensures keeps { Keeps level result }
     ensures in_body { InBody result }
 {
@@ -53,7 +53,7 @@ fn while_next(level: Level, turns: u32, q: usize, i: u32, rest: f64) -> Turn
 // The condition is Running: the body with the whole dt, from the place on.
 fn while_body(work: &[u32; 260], level: Level) -> Turn
     requires { level.node < 255 }
-    ensures ts_value { (v : Visitor) (ts : List Float) → whileBody v level.node level.whole work.now ts ≡ goes whileResumed v result work.now ts }
+    ensures ts_value { (v : Visitor) (ts : List Float) → while_body v level.node level.whole work.now ts ≡ goes while_resumed v result work.now ts }
     ensures keeps { Keeps level result }
     ensures in_body { InBody result }
 {
@@ -77,11 +77,11 @@ pub fn while_resumed(work: &mut [u32; 260], times: &mut [f64], level: Level, res
     requires fine { Fine level }
     requires node_lt_next { 0 < level.count → level.node < level.next }
     ensures times_value { (v : Visitor)
-        → whileResumed v level (out res.seen res.left work.old times.old)
-        ≡ goes whileResumed v result work.new times.new }
+        → while_resumed v level (out res.seen res.left work.old times.old)
+        ≡ goes while_resumed v result work.new times.new }
     ensures keeps { Keeps level result }
     ensures in_body { InBody result }
-    ensures work_unchanged { fuelOf work.new ≡ fuelOf work.old }
+    ensures work_unchanged { fuel_of work.new ≡ fuel_of work.old }
 {
     let seen = res.seen;
     if level.count == 0 {
@@ -119,7 +119,7 @@ fn while_all_next(level: Level, turns: u32, q: usize, i: u32, rest: f64) -> Turn
     requires next_bound { level.next ≤ 256 }
     requires i_bound { i ≤ 255 + q }
     requires node_lt_next { level.node < level.next }
-    ensures ts_value { (v : Visitor) (ws : List ℕ) (ts : List Float) → whileAllGo v level.node level.stop level.next level.whole turns q i rest ws ts ≡ goes whileAllResumed v result ws ts }
+    ensures ts_value { (v : Visitor) (ws : List ℕ) (ts : List Float) → while_all_go v level.node level.stop level.next level.whole turns q i rest ws ts ≡ goes while_all_resumed v result ws ts }
     ensures keeps { Keeps level result }
     ensures bodied { Bodied result }
 {
@@ -143,7 +143,7 @@ fn while_all_next(level: Level, turns: u32, q: usize, i: u32, rest: f64) -> Turn
 
 pub fn while_all_opened(work: &[u32; 260], level: Level) -> Turn
     requires { level.node < 256 }
-    ensures ts_value { (v : Visitor) (ts : List Float) → whileAll v level.node level.whole work.now ts ≡ goes whileAllResumed v result work.now ts }
+    ensures ts_value { (v : Visitor) (ts : List Float) → while_all v level.node level.whole work.now ts ≡ goes while_all_resumed v result work.now ts }
     ensures keeps { Keeps level result }
     ensures bodied { Bodied result }
 {
@@ -174,11 +174,11 @@ pub fn while_all_resumed(
     requires fine { Fine level }
     requires node_lt_next { level.node < level.next }
     ensures times_value { (v : Visitor)
-        → whileAllResumed v level (out res.seen res.left work.old times.old)
-        ≡ goes whileAllResumed v result work.new times.new }
+        → while_all_resumed v level (out res.seen res.left work.old times.old)
+        ≡ goes while_all_resumed v result work.new times.new }
     ensures keeps { Keeps level result }
     ensures bodied { Bodied result }
-    ensures work_unchanged { fuelOf work.new ≡ fuelOf work.old }
+    ensures work_unchanged { fuel_of work.new ≡ fuel_of work.old }
 {
     let seen = res.seen;
     if level.index == 0 {

@@ -1,9 +1,9 @@
 // The driver of each kind.
 ghost use Rattle.std.specs.Prelude.{◌≡◌, false, List, ℕ, ◌<◌, ◌≤◌, Float};
 ghost use Rattle.std.specs.Float.{binary64};
-ghost use Rattle.work.specs.Array.{fuelOf};
-ghost use Rattle.work.specs.Flat.{out, Lent, lent, Visitor, isLeaf, isDecorator, by_kind, visit};
-ghost use Rattle.turns.specs.Levels.{Sound, KeepsSound, goes, enteredLevel, resumedBy};
+ghost use Rattle.work.specs.Array.{fuel_of};
+ghost use Rattle.work.specs.Flat.{out, Lent, lent, Visitor, is_leaf, is_decorator, by_kind, visit};
+ghost use Rattle.turns.specs.Levels.{Sound, KeepsSound, goes, entered_level, resumed_by};
 
 use crate::branches::{if_opened, if_resumed};
 use crate::level::{Level, Turn, done, entered};
@@ -18,11 +18,11 @@ use work::{Result, exchanges, stopped};
 
 // A node with children that is no decorator is entered.
 pub fn opened(work: &mut [u32; 260], times: &mut [f64], kind: Kind, p: usize, dt: f64) -> Turn
-    requires { (p < 256) × (isLeaf kind ≡ false) × (isDecorator kind ≡ false) }
+    requires { (p < 256) × (is_leaf kind ≡ false) × (is_decorator kind ≡ false) }
     ensures times_value { (T : Lent) (v : Visitor) → by_kind binary64 T v kind p dt work.old times.old
-        ≡ goes (resumedBy binary64 T) v result work.new times.new }
-    ensures keeps_sound { KeepsSound (enteredLevel kind p dt) result }
-    ensures work_unchanged { fuelOf work.new ≡ fuelOf work.old }
+        ≡ goes (resumed_by binary64 T) v result work.new times.new }
+    ensures keeps_sound { KeepsSound (entered_level kind p dt) result }
+    ensures work_unchanged { fuel_of work.new ≡ fuel_of work.old }
 {
     let level = entered(kind, p, dt);
     match kind {
@@ -55,10 +55,10 @@ pub fn resumed(
 ) -> Turn
     requires { Sound level }
     ensures by_index { (a : List ℕ) (b : List Float) (tk : Visitor) → let T = lent limits.now.now a b in let v = visit binary64 T tk in
-        resumedBy binary64 T v level (out res.seen res.left work.old times.old)
-        ≡ goes (resumedBy binary64 T) v result work.new times.new }
+        resumed_by binary64 T v level (out res.seen res.left work.old times.old)
+        ≡ goes (resumed_by binary64 T) v result work.new times.new }
     ensures keeps_sound { KeepsSound level result }
-    ensures work_bound { fuelOf work.new ≤ fuelOf work.old }
+    ensures work_bound { fuel_of work.new ≤ fuel_of work.old }
 {
     let kind = level.kind;
     match kind {

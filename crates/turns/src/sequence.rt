@@ -1,8 +1,8 @@
 // Sequence and Select, and their memoryless forms, a child at a time.
 ghost use Rattle.std.specs.Prelude.{◌≡◌, Bool, List, ◌<◌, ◌≤◌, Float};
-ghost use Rattle.work.specs.Array.{fuelOf};
-ghost use Rattle.work.specs.Flat.{out, Visitor, turnOut, turning, sequence, memoryless};
-ghost use Rattle.turns.specs.Levels.{Fine, Keeps, Behind, goes, sequenceResumed, memorylessResumed};
+ghost use Rattle.work.specs.Array.{fuel_of};
+ghost use Rattle.work.specs.Flat.{out, Visitor, turn_out, turning, sequence, memoryless};
+ghost use Rattle.turns.specs.Levels.{Fine, Keeps, Behind, goes, sequence_resumed, memoryless_resumed};
 
 use crate::level::{Level, Turn, done, done_in_place, due};
 use work::{
@@ -14,8 +14,8 @@ pub fn sequence_opened(work: &[u32; 260], level: Level) -> Turn
     requires node_bound { level.node < 256 }
     requires next_bound { level.next ≤ 256 }
     ensures ts_value { (v : Visitor) (x : Bool) (ts : List Float)
-        → turnOut x (sequence (turning x v) level.node level.whole work.now ts)
-        ≡ goes (sequenceResumed x) v result work.now ts }
+        → turn_out x (sequence (turning x v) level.node level.whole work.now ts)
+        ≡ goes (sequence_resumed x) v result work.now ts }
     ensures keeps { Keeps level result }
 {
     let p = level.node;
@@ -42,10 +42,10 @@ pub fn sequence_resumed(
 ) -> Turn
     requires { Fine level }
     ensures times_value { (v : Visitor)
-        → sequenceResumed exchange v level (out res.seen res.left work.old times.old)
-        ≡ goes (sequenceResumed exchange) v result work.new times.new }
+        → sequence_resumed exchange v level (out res.seen res.left work.old times.old)
+        ≡ goes (sequence_resumed exchange) v result work.new times.new }
     ensures keeps { Keeps level result }
-    ensures work_unchanged { fuelOf work.new ≡ fuelOf work.old }
+    ensures work_unchanged { fuel_of work.new ≡ fuel_of work.old }
 {
     let seen = res.seen;
     match seen.turned(exchange) {
@@ -82,11 +82,11 @@ pub fn memoryless_opened(
     requires node_bound { level.node < 256 }
     requires index_value { level.index ≡ 0 }
     ensures times_value { (v : Visitor)
-        → turnOut exchange (memoryless (turning exchange v) level.node level.whole work.old times.old)
-        ≡ goes (memorylessResumed exchange) v result work.new times.new }
+        → turn_out exchange (memoryless (turning exchange v) level.node level.whole work.old times.old)
+        ≡ goes (memoryless_resumed exchange) v result work.new times.new }
     ensures keeps { Keeps level result }
     ensures behind { Behind result }
-    ensures work_unchanged { fuelOf work.new ≡ fuelOf work.old }
+    ensures work_unchanged { fuel_of work.new ≡ fuel_of work.old }
 {
     let p = level.node;
     let dt = level.whole;
@@ -121,11 +121,11 @@ pub fn memoryless_resumed(
     requires fine { Fine level }
     requires child_lt_next { level.child < level.next }
     ensures times_value { (v : Visitor)
-        → memorylessResumed exchange v level (out res.seen res.left work.old times.old)
-        ≡ goes (memorylessResumed exchange) v result work.new times.new }
+        → memoryless_resumed exchange v level (out res.seen res.left work.old times.old)
+        ≡ goes (memoryless_resumed exchange) v result work.new times.new }
     ensures keeps { Keeps level result }
     ensures behind { Behind result }
-    ensures work_unchanged { fuelOf work.new ≡ fuelOf work.old }
+    ensures work_unchanged { fuel_of work.new ≡ fuel_of work.old }
 {
     let seen = res.seen;
     match seen.turned(exchange) {

@@ -3,9 +3,9 @@ ghost use Rattle.std.specs.Prelude.{◌≡◌, Bool, not, List, ℕ, ◌+◌, �
 ghost use Rattle.std.specs.Float.{binary64};
 ghost use Rattle.rules.specs.Outcome.{largest};
 ghost use Rattle.work.specs.Word.{mark_of};
-ghost use Rattle.work.specs.Array.{word_at, fuelOf};
-ghost use Rattle.work.specs.Flat.{out, lent, Visitor, visit, turnOut, turning, whenAllGo, whenAll, raceGo, race, afterGo, after};
-ghost use Rattle.turns.specs.Levels.{Fine, Keeps, Behind, goes, whenAllResumed, raceResumed, afterResumed};
+ghost use Rattle.work.specs.Array.{word_at, fuel_of};
+ghost use Rattle.work.specs.Flat.{out, lent, Visitor, visit, turn_out, turning, when_all_go, when_all, race_go, race, after_go, after};
+ghost use Rattle.turns.specs.Levels.{Fine, Keeps, Behind, goes, when_all_resumed, race_resumed, after_resumed};
 
 use crate::level::{Level, Turn, done, done_in_place, due};
 use leaves::past_waits;
@@ -18,7 +18,7 @@ use work::{
 fn unmarked(work: &[u32; 260], q: usize, stop: usize) -> usize
     requires { (q ≤ 256) × (stop ≤ 256) }
     ensures ts_value { (v : Visitor) (dt : Float) (all : Bool) (least : Float) (ts : List Float)
-        → whenAllGo v stop dt 256 q all least work.now ts ≡ whenAllGo v stop dt 256 result all least work.now ts }
+        → when_all_go v stop dt 256 q all least work.now ts ≡ when_all_go v stop dt 256 result all least work.now ts }
     ensures lower_bound { (q ≤ result) × (result ≤ 256) × (result < stop → mark_of (word_at work.now result) ≡ 0) }
 {
     let mut at = q;
@@ -37,8 +37,8 @@ fn when_all_next(work: &[u32; 260], any: bool, level: Level, q: usize, all: u32,
     requires q_bound { q ≤ 256 }
     requires stop_bound { level.stop ≤ 256 }
     requires index_bound { level.index ≤ 255 + q }
-    ensures ts_value { (v : Visitor) (ts : List Float) → turnOut any (whenAllGo (turning any v) level.stop level.whole 256 q (not (eqb all 0)) least work.now ts)
-        ≡ goes (whenAllResumed any) v result work.now ts }
+    ensures ts_value { (v : Visitor) (ts : List Float) → turn_out any (when_all_go (turning any v) level.stop level.whole 256 q (not (eqb all 0)) least work.now ts)
+        ≡ goes (when_all_resumed any) v result work.now ts }
     ensures keeps { Keeps level result }
     ensures behind { Behind result }
 {
@@ -68,8 +68,8 @@ fn when_all_next(work: &[u32; 260], any: bool, level: Level, q: usize, all: u32,
 pub fn when_all_opened(work: &[u32; 260], any: bool, level: Level) -> Turn
     requires node_bound { level.node < 256 }
     requires index_value { level.index ≡ 0 }
-    ensures ts_value { (v : Visitor) (ts : List Float) → turnOut any (whenAll (turning any v) (largest binary64) level.node level.whole work.now ts)
-        ≡ goes (whenAllResumed any) v result work.now ts }
+    ensures ts_value { (v : Visitor) (ts : List Float) → turn_out any (when_all (turning any v) (largest binary64) level.node level.whole work.now ts)
+        ≡ goes (when_all_resumed any) v result work.now ts }
     ensures keeps { Keeps level result }
     ensures behind { Behind result }
 {
@@ -102,11 +102,11 @@ pub fn when_all_resumed(
     requires fine { Fine level }
     requires child_lt_next { level.child < level.next }
     ensures by_index { (a : List ℕ) (b : List Float) (tk : Visitor) → let v = visit binary64 (lent limits.now.now a b) tk in
-        whenAllResumed any v level (out res.seen res.left work.old times.old)
-        ≡ goes (whenAllResumed any) v result work.new times.new }
+        when_all_resumed any v level (out res.seen res.left work.old times.old)
+        ≡ goes (when_all_resumed any) v result work.new times.new }
     ensures keeps { Keeps level result }
     ensures behind { Behind result }
-    ensures work_bound { fuelOf work.new ≤ fuelOf work.old }
+    ensures work_bound { fuel_of work.new ≤ fuel_of work.old }
 {
     let mut next = level.next;
     let least = level.rest;
@@ -142,7 +142,7 @@ fn race_next(work: &[u32; 260], level: Level, q: usize) -> Turn
     requires q_bound { q ≤ 256 }
     requires stop_bound { level.stop ≤ 256 }
     requires index_bound { level.index ≤ 255 + q }
-    ensures ts_value { (v : Visitor) (ts : List Float) → raceGo v level.stop level.whole 256 q work.now ts ≡ goes raceResumed v result work.now ts }
+    ensures ts_value { (v : Visitor) (ts : List Float) → race_go v level.stop level.whole 256 q work.now ts ≡ goes race_resumed v result work.now ts }
     ensures keeps { Keeps level result }
     ensures behind { Behind result }
 {
@@ -158,7 +158,7 @@ fn race_next(work: &[u32; 260], level: Level, q: usize) -> Turn
 pub fn race_opened(work: &[u32; 260], level: Level) -> Turn
     requires node_bound { level.node < 256 }
     requires index_value { level.index ≡ 0 }
-    ensures ts_value { (v : Visitor) (ts : List Float) → race v level.node level.whole work.now ts ≡ goes raceResumed v result work.now ts }
+    ensures ts_value { (v : Visitor) (ts : List Float) → race v level.node level.whole work.now ts ≡ goes race_resumed v result work.now ts }
     ensures keeps { Keeps level result }
     ensures behind { Behind result }
 {
@@ -179,10 +179,10 @@ pub fn race_resumed(
     requires fine { Fine level }
     requires child_lt_next { level.child < level.next }
     ensures by_index { (a : List ℕ) (b : List Float) (tk : Visitor) → let v = visit binary64 (lent limits.now.now a b) tk in
-        raceResumed v level (out res.seen res.left work.old times.old) ≡ goes raceResumed v result work.new times.new }
+        race_resumed v level (out res.seen res.left work.old times.old) ≡ goes race_resumed v result work.new times.new }
     ensures keeps { Keeps level result }
     ensures behind { Behind result }
-    ensures work_bound { fuelOf work.new ≤ fuelOf work.old }
+    ensures work_bound { fuel_of work.new ≤ fuel_of work.old }
 {
     let seen = res.seen;
     let Seen::Running = seen else {
@@ -202,11 +202,11 @@ fn after_next(work: &mut [u32; 260], level: Level, q: usize, i: u32, none: u32, 
     requires q_bound { q ≤ 256 }
     requires stop_bound { level.stop ≤ 256 }
     requires i_bound { i ≤ 255 + q }
-    ensures ts_value { (v : Visitor) (ts : List Float) → afterGo v level.node level.stop level.whole 256 q i (not (eqb none 0)) least work.old ts
-        ≡ goes afterResumed v result work.new ts }
+    ensures ts_value { (v : Visitor) (ts : List Float) → after_go v level.node level.stop level.whole 256 q i (not (eqb none 0)) least work.old ts
+        ≡ goes after_resumed v result work.new ts }
     ensures keeps { Keeps level result }
     ensures behind { Behind result }
-    ensures work_unchanged { fuelOf work.new ≡ fuelOf work.old }
+    ensures work_unchanged { fuel_of work.new ≡ fuel_of work.old }
 {
     if level.stop <= q {
         put_place(work, level.node, i);
@@ -232,10 +232,10 @@ fn after_next(work: &mut [u32; 260], level: Level, q: usize, i: u32, none: u32, 
 
 pub fn after_opened(work: &mut [u32; 260], level: Level) -> Turn
     requires { level.node < 256 }
-    ensures ts_value { (v : Visitor) (ts : List Float) → after v (largest binary64) level.node level.whole work.old ts ≡ goes afterResumed v result work.new ts }
+    ensures ts_value { (v : Visitor) (ts : List Float) → after v (largest binary64) level.node level.whole work.old ts ≡ goes after_resumed v result work.new ts }
     ensures keeps { Keeps level result }
     ensures behind { Behind result }
-    ensures work_unchanged { fuelOf work.new ≡ fuelOf work.old }
+    ensures work_unchanged { fuel_of work.new ≡ fuel_of work.old }
 {
     let p = level.node;
     let stop = end_of(work, p);
@@ -256,10 +256,10 @@ pub fn after_opened(work: &mut [u32; 260], level: Level) -> Turn
 pub fn after_resumed(work: &mut [u32; 260], level: Level, res: Result) -> Turn
     requires fine { Fine level }
     requires child_lt_next { level.child < level.next }
-    ensures ts_value { (v : Visitor) (ts : List Float) → afterResumed v level (out res.seen res.left work.old ts) ≡ goes afterResumed v result work.new ts }
+    ensures ts_value { (v : Visitor) (ts : List Float) → after_resumed v level (out res.seen res.left work.old ts) ≡ goes after_resumed v result work.new ts }
     ensures keeps { Keeps level result }
     ensures behind { Behind result }
-    ensures work_unchanged { fuelOf work.new ≡ fuelOf work.old }
+    ensures work_unchanged { fuel_of work.new ≡ fuel_of work.old }
 {
     let seen = res.seen;
     match seen {

@@ -44,11 +44,11 @@ farther h n l = omega arith
 pub fewer : {turns : ℕ} → 0 < turns → turns - 1 < turns
 fewer h = omega arith
 
-pub turns-left : {stop q k : ℕ} → q < stop → stop - q ≤ k → 0 < k
-turns-left h g = omega arith
+pub turns_left : {stop q k : ℕ} → q < stop → stop - q ≤ k → 0 < k
+turns_left h g = omega arith
 
-pub first-inside : {p : ℕ} → p < 255 → p + 1 < 256
-first-inside h = omega arith
+pub first_inside : {p : ℕ} → p < 255 → p + 1 < 256
+first_inside h = omega arith
 
 -- a visit to what was left as it was
 pub as_it_was : (v : Visitor) (q : ℕ) (dt : Float) {ws ws₁ : List ℕ} {ts ts₁ : List Float} {o : Out} → (ws₁ ≡ ws) × (ts₁ ≡ ts) → v q dt ws₁ ts₁ ≡ o → v q dt ws ts ≡ o

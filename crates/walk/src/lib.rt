@@ -6,7 +6,7 @@ mod when_all;
 
 ghost use Rattle.std.specs.Prelude.{◌≡◌, ◌<◌};
 ghost use Rattle.std.specs.Float.{binary64};
-ghost use Rattle.work.specs.Flat.{out, lent, decorator, ifNode, by_kind, tick, visiting};
+ghost use Rattle.work.specs.Flat.{out, lent, decorator, if_node, by_kind, tick, visiting};
 
 use leaves::{decorated, leaf, visit_leaf};
 use loops::{while_all, while_loop};
@@ -218,7 +218,7 @@ fn if_node(
     dt: f64,
 ) -> Result
     requires { p < 256 }
-    ensures { ifNode (visiting binary64 (lent limits.now.now statuses.now.now leftovers.now.now) depth) p dt work.old
+    ensures { if_node (visiting binary64 (lent limits.now.now statuses.now.now leftovers.now.now) depth) p dt work.old
         times.old ≡ out result.seen result.left work.new times.new }
 {
     let stop = end_of(work, p);

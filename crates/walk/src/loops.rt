@@ -2,7 +2,7 @@
 // there are no more turns than fuel.
 ghost use Rattle.std.specs.Prelude.{◌≡◌, ◌<◌};
 ghost use Rattle.std.specs.Float.{binary64};
-ghost use Rattle.work.specs.Flat.{out, lent, whileLoop, whileAll, visiting};
+ghost use Rattle.work.specs.Flat.{out, lent, while_loop, while_all, visiting};
 
 use crate::visit;
 use work::{
@@ -23,7 +23,7 @@ pub fn while_loop(
     dt: f64,
 ) -> Result
     requires { p < 256 }
-    ensures { whileLoop (visiting binary64 (lent limits.now.now statuses.now.now leftovers.now.now) depth) p dt work.old
+    ensures { while_loop (visiting binary64 (lent limits.now.now statuses.now.now leftovers.now.now) depth) p dt work.old
         times.old ≡ out result.seen result.left work.new times.new }
 {
     if 255 <= p {
@@ -85,7 +85,7 @@ pub fn while_all(
     dt: f64,
 ) -> Result
     requires { p < 256 }
-    ensures { whileAll (visiting binary64 (lent limits.now.now statuses.now.now leftovers.now.now) depth) p dt work.old
+    ensures { while_all (visiting binary64 (lent limits.now.now statuses.now.now leftovers.now.now) depth) p dt work.old
         times.old ≡ out result.seen result.left work.new times.new }
 {
     if 255 <= p {

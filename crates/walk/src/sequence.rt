@@ -2,7 +2,7 @@
 // exchanged.
 ghost use Rattle.std.specs.Prelude.{◌≡◌, ◌<◌};
 ghost use Rattle.std.specs.Float.{binary64};
-ghost use Rattle.work.specs.Flat.{out, lent, turnOut, turning, sequence, memoryless, visiting};
+ghost use Rattle.work.specs.Flat.{out, lent, turn_out, turning, sequence, memoryless, visiting};
 
 use crate::visit;
 use work::{
@@ -23,7 +23,7 @@ pub fn sequence(
     dt: f64,
 ) -> Result
     requires { p < 256 }
-    ensures { turnOut exchange (sequence
+    ensures { turn_out exchange (sequence
         (turning exchange (visiting binary64 (lent limits.now.now statuses.now.now leftovers.now.now) depth)) p dt
         work.old times.old) ≡ out result.seen result.left work.new times.new }
 {
@@ -82,7 +82,7 @@ pub fn memoryless(
     dt: f64,
 ) -> Result
     requires { p < 256 }
-    ensures { turnOut exchange (memoryless
+    ensures { turn_out exchange (memoryless
         (turning exchange (visiting binary64 (lent limits.now.now statuses.now.now leftovers.now.now) depth)) p dt
         work.old times.old) ≡ out result.seen result.left work.new times.new }
 {

@@ -3,7 +3,7 @@
 ghost use Rattle.std.specs.Prelude.{◌≡◌, ◌<◌};
 ghost use Rattle.std.specs.Float.{binary64};
 ghost use Rattle.rules.specs.Outcome.{largest};
-ghost use Rattle.work.specs.Flat.{out, lent, turnOut, turning, whenAll, race, after, visiting};
+ghost use Rattle.work.specs.Flat.{out, lent, turn_out, turning, when_all, race, after, visiting};
 
 use crate::visit;
 use leaves::{keeps_waiting, past_waits};
@@ -26,7 +26,7 @@ pub fn when_all(
     dt: f64,
 ) -> Result
     requires { p < 256 }
-    ensures { turnOut any (whenAll (turning any (visiting binary64 (lent limits.now.now statuses.now.now leftovers.now.now) depth))
+    ensures { turn_out any (when_all (turning any (visiting binary64 (lent limits.now.now statuses.now.now leftovers.now.now) depth))
         (largest binary64) p dt work.old times.old)
         ≡ out result.seen result.left work.new times.new }
 {

@@ -18,15 +18,15 @@ pub record Filling {A : Type 0} (d : A) (start : List A) (n i : ℕ) (l : List A
   pub is : l ≡ replicate i d ++ drop i start
   pub long : length l ≡ length start
 
-pub filling-start : {A : Type 0} {d : A} {start : List A} {n : ℕ} → Filling d start n 0 start
-filling-start = record { within = omega arith; is = refl; long = refl }
+pub filling_start : {A : Type 0} {d : A} {start : List A} {n : ℕ} → Filling d start n 0 start
+filling_start = record { within = omega arith; is = refl; long = refl }
 
-pub filling-more : {A : Type 0} {d : A} {start : List A} {n i : ℕ} {l : List A} → n ≤ length start → Filling d start n i l → i < n → Filling d start n (i + 1) (set l i d)
-filling-more {A} {d} {start} {n} {i} {l} a c h = record {
+pub filling_more : {A : Type 0} {d : A} {start : List A} {n i : ℕ} {l : List A} → n ≤ length start → Filling d start n i l → i < n → Filling d start n (i + 1) (set l i d)
+filling_more {A} {d} {start} {n} {i} {l} a c h = record {
   within = omega arith;
   is = rw (c.is, add-one) (fill_suc d i start (omega arith));
   long = length-set l i d ∙ c.long;
 }
 
-pub filling-end : {A : Type 0} {d : A} {start : List A} {n i : ℕ} {l : List A} → Filling d start n i l → n ≤ i → l ≡ replicate n d ++ drop n start
-filling-end {n} {i} c h = let e : n ≡ i = omega (arith, c.within) in rw e c.is
+pub filling_end : {A : Type 0} {d : A} {start : List A} {n i : ℕ} {l : List A} → Filling d start n i l → n ≤ i → l ≡ replicate n d ++ drop n start
+filling_end {n} {i} c h = let e : n ≡ i = omega (arith, c.within) in rw e c.is

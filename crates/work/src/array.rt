@@ -1,8 +1,8 @@
 // The working array: a word for each of 256 nodes, and behind them what the walk counts. Times stand
 // beside it, in the host's own slice; a read past their end gives zero, and a store there does nothing.
 ghost use Rattle.std.specs.Prelude.{◌≡◌, ℕ, ◌+◌, ◌-◌, ◌<◌, ◌≤◌, set};
-ghost use Rattle.work.specs.Array.{word_at, Covered, timeAt, number_at, updates, passed, end_of, setPlace, setMark, setSeen, freshWords, freshTimes, childFrom};
-ghost use Rattle.work.specs.Flat.{seenNo};
+ghost use Rattle.work.specs.Array.{word_at, Covered, time_at, number_at, updates, passed, end_of, set_place, set_mark, set_seen, fresh_words, fresh_times, child_from};
+ghost use Rattle.work.specs.Flat.{seen_no};
 
 use crate::result::Seen;
 use crate::word::{below_of, fresh_word, with_mark, with_place, with_seen};
@@ -57,7 +57,7 @@ pub fn words_of(work: &[u32; 260], at: usize) -> u32
 // Child i of those that begin at q, or the first place from `stop` on.
 pub fn child(work: &[u32; 260], stop: usize, i: u32, q: usize) -> usize
     requires { (q ≤ 256) × (stop ≤ 256) }
-    ensures { (result ≡ childFrom work.now stop i q) × (result ≤ 256) }
+    ensures { (result ≡ child_from work.now stop i q) × (result ≤ 256) }
 {
     let mut at = q;
     let mut left = i;
@@ -73,27 +73,27 @@ pub fn child(work: &[u32; 260], stop: usize, i: u32, q: usize) -> usize
 
 pub fn put_place(work: &mut [u32; 260], p: usize, i: u32)
     requires { p < 256 }
-    ensures { work.new ≡ setPlace work.old p i }
+    ensures { work.new ≡ set_place work.old p i }
 {
     work[p] = with_place(work[p], i);
 }
 
 pub fn put_mark(work: &mut [u32; 260], p: usize)
     requires { p < 256 }
-    ensures { work.new ≡ setMark work.old p }
+    ensures { work.new ≡ set_mark work.old p }
 {
     work[p] = with_mark(work[p]);
 }
 
 pub fn put_seen(work: &mut [u32; 260], p: usize, seen: Seen)
     requires { p < 256 }
-    ensures { work.new ≡ setSeen work.old p (seenNo seen) }
+    ensures { work.new ≡ set_seen work.old p (seen_no seen) }
 {
     work[p] = with_seen(work[p], seen.number());
 }
 
 pub fn time_at(times: &[f64], p: usize) -> f64
-    ensures { result ≡ timeAt times.now p }
+    ensures { result ≡ time_at times.now p }
 {
     if p < times.len() { times[p] } else { 0.0 }
 }
@@ -121,8 +121,8 @@ pub fn number_at(numbers: &&[f64], p: usize) -> f64
 // The nodes from `from` to `to` are made fresh.
 pub fn fresh(work: &mut [u32; 260], times: &mut [f64], from: usize, to: usize)
     requires { to ≤ 256 }
-    ensures work_after { work.new ≡ freshWords from (to - from) work.old }
-    ensures times_after { times.new ≡ freshTimes from (to - from) times.old }
+    ensures work_after { work.new ≡ fresh_words from (to - from) work.old }
+    ensures times_after { times.new ≡ fresh_times from (to - from) times.old }
 {
     let mut at = from;
     while at < to {

@@ -1,8 +1,8 @@
 // How a driver moves from one child to the next, and what it then makes fresh.
 ghost use Rattle.std.specs.Prelude.{◌≡◌, ◌&&◌, ◌+◌, ◌-◌, ◌<◌, ◌≤◌};
 ghost use Rattle.std.specs.Float.Ieee.{lt};
-ghost use Rattle.work.specs.Array.{index_after, childAfter, upOn, end_of, setPlace, freshWords, freshTimes, movedWords, movedTimes, childFrom, chosenWords, chosenTimes};
-ghost use Rattle.work.specs.Flat.{isLeaf, isDecorator, exchangesOf, choice_of};
+ghost use Rattle.work.specs.Array.{index_after, child_after, up_on, end_of, set_place, fresh_words, fresh_times, moved_words, moved_times, child_from, chosen_words, chosen_times};
+ghost use Rattle.work.specs.Flat.{is_leaf, is_decorator, exchanges_of, choice_of};
 
 use crate::array::{child, end_of, fresh, put_place};
 use crate::result::Seen;
@@ -10,21 +10,21 @@ use rules::Kind;
 
 // Wait, WaitForever and Action: the kinds that allow no children.
 pub fn is_leaf(kind: Kind) -> bool
-    ensures { result ≡ isLeaf kind }
+    ensures { result ≡ is_leaf kind }
 {
     kind.most() == 0
 }
 
 // Invert, AlwaysSucceed and Timeout.
 pub fn decorates(kind: Kind) -> bool
-    ensures { result ≡ isDecorator kind }
+    ensures { result ≡ is_decorator kind }
 {
     kind.most() == 1
 }
 
 // The kinds that are another with Success and Failure exchanged.
 pub fn exchanges(kind: Kind) -> bool
-    ensures { result ≡ exchangesOf kind }
+    ensures { result ≡ exchanges_of kind }
 {
     match kind {
         Kind::Select | Kind::MemorylessSelector | Kind::WhenAny => true,
@@ -35,7 +35,7 @@ pub fn exchanges(kind: Kind) -> bool
 // The place goes up on an update.
 pub fn up_on(update: bool, i: u32) -> u32
     requires { i < 4294967295 }
-    ensures { result ≡ upOn update i }
+    ensures { result ≡ up_on update i }
 {
     if update { i + 1 } else { i }
 }
@@ -56,7 +56,7 @@ pub fn index_after(i: u32, next: usize, stop: usize) -> u32
 }
 
 fn child_after(next: usize, stop: usize, body: usize) -> usize
-    ensures { result ≡ childAfter next stop body }
+    ensures { result ≡ child_after next stop body }
 {
     if next < stop { next } else { body }
 }
@@ -72,9 +72,9 @@ pub fn move_on(
     body: usize,
 ) -> usize
     requires { (next ≤ 256) × (body ≤ 256) }
-    ensures value { result ≡ childAfter next stop body }
-    ensures work_after { work.new ≡ movedWords q next stop body work.old }
-    ensures times_after { times.new ≡ movedTimes q next stop body work.old times.old }
+    ensures value { result ≡ child_after next stop body }
+    ensures work_after { work.new ≡ moved_words q next stop body work.old }
+    ensures times_after { times.new ≡ moved_times q next stop body work.old times.old }
 {
     fresh(work, times, q, next);
     let due = child_after(next, stop, body);
@@ -98,8 +98,8 @@ pub fn choice(condition: Seen) -> u32
 // The condition of the If at p and branch i are made fresh, and the choice is kept.
 pub fn choose(work: &mut [u32; 260], times: &mut [f64], p: usize, stop: usize, i: u32)
     requires { (p < 255) × (stop ≤ 256) }
-    ensures work_after { work.new ≡ chosenWords p stop i work.old }
-    ensures times_after { times.new ≡ chosenTimes p stop i work.old times.old }
+    ensures work_after { work.new ≡ chosen_words p stop i work.old }
+    ensures times_after { times.new ≡ chosen_times p stop i work.old times.old }
 {
     let behind = end_of(work, p + 1);
     fresh(work, times, p + 1, behind);

@@ -1,8 +1,8 @@
 // What a visit gives: a status together with its leftover time.
 ghost use Rattle.std.specs.Prelude.{◌≡◌};
-ghost use Rattle.rules.specs.Tree.{zeroTime};
-ghost use Rattle.rules.specs.Outcome.{smaller, statusOf};
-ghost use Rattle.work.specs.Flat.{seenAs, seenNo, turned, succeeded, result_of};
+ghost use Rattle.rules.specs.Tree.{zero_time};
+ghost use Rattle.rules.specs.Outcome.{smaller, status_of};
+ghost use Rattle.work.specs.Flat.{seen_as, seen_no, turned, succeeded, result_of};
 
 // The status of a visit; or the walk has stopped, to ask or for want of fuel.
 #[derive(Drop)]
@@ -25,7 +25,7 @@ pub const LARGEST: f64 = 1.7976931348623157e308;
 impl Seen {
     // The status of an answer's number, which is 1 to 3 in every answer that is not refused.
     pub fn of(number: u8) -> Seen
-        ensures { result ≡ seenAs (statusOf number) }
+        ensures { result ≡ seen_as (status_of number) }
     {
         match number {
             1 => Seen::Running,
@@ -36,7 +36,7 @@ impl Seen {
 
     // The board's number of a status.
     pub fn number(self) -> u32
-        ensures { result ≡ seenNo self }
+        ensures { result ≡ seen_no self }
     {
         match self {
             Seen::Stopped => 0,
@@ -76,7 +76,7 @@ impl Seen {
 
 // "Running" means (Running, 0).
 pub fn waiting() -> Result
-    ensures { result ≡ result_of Seen.Running zeroTime }
+    ensures { result ≡ result_of Seen.Running zero_time }
 {
     Result {
         seen: Seen::Running,
@@ -85,7 +85,7 @@ pub fn waiting() -> Result
 }
 
 pub fn stopped() -> Result
-    ensures { result ≡ result_of Seen.Stopped zeroTime }
+    ensures { result ≡ result_of Seen.Stopped zero_time }
 {
     Result {
         seen: Seen::Stopped,

@@ -1,7 +1,7 @@
 // The word of a node, from its low end: how many nodes stand below it (8 bits), its kind (8), its
 // place (8), its mark (1), whether it was made fresh in this tick (1), the status of its last visit (2).
 ghost use Rattle.std.specs.Prelude.{◌≡◌, ◌<◌};
-ghost use Rattle.work.specs.Word.{belowOf, code_of, kindIn, place_of, mark_of, anewOf, seenOf, withPlace, withMark, withSeen, freshWord};
+ghost use Rattle.work.specs.Word.{below_of, code_of, kind_in, place_of, mark_of, anew_of, seen_of, with_place, with_mark, with_seen, fresh_word};
 
 use rules::Kind;
 
@@ -16,7 +16,7 @@ const ANEW: u32 = 0x2000000;
 const SEEN: u32 = 0x4000000;
 
 pub fn below_of(w: u32) -> usize
-    ensures { (result ≡ belowOf w) × (result < 256) }
+    ensures { (result ≡ below_of w) × (result < 256) }
 {
     (w % KIND) as usize
 }
@@ -28,7 +28,7 @@ fn code_of(w: u32) -> u8
 }
 
 pub fn kind_of(w: u32) -> Kind
-    ensures { result ≡ kindIn w }
+    ensures { result ≡ kind_in w }
 {
     Kind::of(code_of(w))
 }
@@ -46,37 +46,37 @@ pub fn mark_of(w: u32) -> u32
 }
 
 pub fn anew_of(w: u32) -> bool
-    ensures { result ≡ anewOf w }
+    ensures { result ≡ anew_of w }
 {
     (w / ANEW) % 2 == 1
 }
 
 pub fn seen_of(w: u32) -> u32
-    ensures { (result ≡ seenOf w) × (result < 64) }
+    ensures { (result ≡ seen_of w) × (result < 64) }
 {
     w / SEEN
 }
 
 pub fn with_place(w: u32, i: u32) -> u32
-    ensures { result ≡ withPlace w i }
+    ensures { result ≡ with_place w i }
 {
     w % PLACE + i % 256 * PLACE + w / MARK * MARK
 }
 
 pub fn with_mark(w: u32) -> u32
-    ensures { result ≡ withMark w }
+    ensures { result ≡ with_mark w }
 {
     w % MARK + MARK + w / ANEW * ANEW
 }
 
 pub fn with_seen(w: u32, s: u32) -> u32
-    ensures { result ≡ withSeen w s }
+    ensures { result ≡ with_seen w s }
 {
     w % SEEN + s % 4 * SEEN
 }
 
 pub fn fresh_word(w: u32) -> u32
-    ensures { result ≡ freshWord w }
+    ensures { result ≡ fresh_word w }
 {
     w % PLACE + ANEW + w / SEEN * SEEN
 }

@@ -9,138 +9,138 @@ use lib.Dec.{lit<}
 use lib.ListN.{length, get_or, take, drop, set, length-append}
 use Rattle.frames.specs.Hex.{digit, digits}
 use Rattle.frames.specs.Digits.{length_digits}
-use Rattle.frames.specs.Over.{over_none, over-set, over-over, over-before, length_over}
+use Rattle.frames.specs.Over.{over_none, over_set, over_over, over_before, length_over}
 use Rattle.frames.specs.declared.Event.{Event}
 use Rattle.frames.specs.declared.Event.TheVariants.{Other, Update}
 use Rattle.frames.specs.declared.Frame.{Frame}
 use Rattle.frames.specs.declared.Frame.TheVariants.{Node, Asked, Said, Malformed}
-use Rattle.frames.specs.Line.{Field, Fit, fields, front, laid, answers, answersOf, eventNo}
-use Rattle.frames.specs.Answers.{pair, answers-more}
+use Rattle.frames.specs.Line.{Field, Fit, fields, front, laid, answers, answers_of, event_no}
+use Rattle.frames.specs.Answers.{pair, answers_more}
 use Rattle.frames.specs.Parts.{over, spread, sized, size_of, span, Puts}
 
 -- the last digit is put first
-pub digit-first : (d : List ℕ) (at i j n : ℕ) → j ≡ i + 1 → at + j ≤ length d
+pub digit_first : (d : List ℕ) (at i j n : ℕ) → j ≡ i + 1 → at + j ≤ length d
     → over (set d (at + i) (digit (n % 16))) at (digits i (n / 16)) ≡ over d at (digits j n)
 unfolding digits
-digit-first d at i j n e h =
+digit_first d at i j n e h =
     let s = digits i (n / 16) in
     let b = digit (n % 16) in
     let l : length s ≡ i = length_digits i (n / 16) in
-    ap (λ (x : List ℕ). over x at s) (over-set d (at + i) b (omega arith) ∙ ap (λ (k : ℕ). over d (at + k) (b ∷ [])) (sym l))
-    ∙ over-before d at s (b ∷ []) (omega arith)
+    ap (λ (x : List ℕ). over x at s) (over_set d (at + i) b (omega arith) ∙ ap (λ (k : ℕ). over d (at + k) (b ∷ [])) (sym l))
+    ∙ over_before d at s (b ∷ []) (omega arith)
     ∙ ap (λ (k : ℕ). over d at (digits k n)) (sym (e ∙ add-one i))
 
-pub one-put : (d : List ℕ) (at w v : ℕ) (d' : List ℕ) (next : ℕ) → at < length d → d' ≡ over (set d at 32) (at + 1) (digits w v) → next ≡ at + 1 + w
+pub one_put : (d : List ℕ) (at w v : ℕ) (d' : List ℕ) (next : ℕ) → at < length d → d' ≡ over (set d at 32) (at + 1) (digits w v) → next ≡ at + 1 + w
     → Puts d at ((w, v) ∷ []) d' next
-one-put d at w v d' next h e p =
+one_put d at w v d' next h e p =
     record {
       bytes =
-          e ∙ ap (λ (x : List ℕ). over x (at + 1) (digits w v)) (over-set d at 32 h)
-          ∙ over-over d at (32 ∷ []) (digits w v) (omega arith)
+          e ∙ ap (λ (x : List ℕ). over x (at + 1) (digits w v)) (over_set d at 32 h)
+          ∙ over_over d at (32 ∷ []) (digits w v) (omega arith)
           ∙ ap (over d at) (sym (append-nil (32 ∷ digits w v)));
       place = omega arith;
     }
 
-length-spread : (fs : List Field) → length (spread fs) ≡ span fs
-length-spread [] = refl
-length-spread (f ∷ fs) =
+length_spread : (fs : List Field) → length (spread fs) ≡ span fs
+length_spread [] = refl
+length_spread (f ∷ fs) =
     length-append (32 ∷ digits f.0 f.1) (spread fs)
     ∙ ap (λ (k : ℕ). k + length (spread fs)) (ap suc (length_digits f.0 f.1))
-    ∙ ap (λ (k : ℕ). suc f.0 + k) (length-spread fs)
+    ∙ ap (λ (k : ℕ). suc f.0 + k) (length_spread fs)
 
-spread-both : (fs gs : List Field) → spread (fs ++ gs) ≡ spread fs ++ spread gs
-spread-both [] gs = refl
-spread-both (f ∷ fs) gs =
-    ap (λ (l : List ℕ). (32 ∷ digits f.0 f.1) ++ l) (spread-both fs gs)
+spread_both : (fs gs : List Field) → spread (fs ++ gs) ≡ spread fs ++ spread gs
+spread_both [] gs = refl
+spread_both (f ∷ fs) gs =
+    ap (λ (l : List ℕ). (32 ∷ digits f.0 f.1) ++ l) (spread_both fs gs)
     ∙ sym (append_assoc (32 ∷ digits f.0 f.1) (spread fs) (spread gs))
 
-span-both : (fs gs : List Field) → span (fs ++ gs) ≡ span fs + span gs
-span-both [] gs = sym (zero-add (span gs))
-span-both (f ∷ fs) gs = omega (arith, span-both fs gs)
+span_both : (fs gs : List Field) → span (fs ++ gs) ≡ span fs + span gs
+span_both [] gs = sym (zero-add (span gs))
+span_both (f ∷ fs) gs = omega (arith, span_both fs gs)
 
-pub none-put : (d : List ℕ) (at : ℕ) → Puts d at [] d at
-none-put d at = record { bytes = sym (over_none d at); place = omega arith }
+pub none_put : (d : List ℕ) (at : ℕ) → Puts d at [] d at
+none_put d at = record { bytes = sym (over_none d at); place = omega arith }
 
-pub puts-on : {d : List ℕ} {at : ℕ} {fs gs : List Field} {d' d'' : List ℕ} {n m : ℕ} → at ≤ length d → Puts d at fs d' n → Puts d' n gs d'' m
+pub puts_on : {d : List ℕ} {at : ℕ} {fs gs : List Field} {d' d'' : List ℕ} {n m : ℕ} → at ≤ length d → Puts d at fs d' n → Puts d' n gs d'' m
     → Puts d at (fs ++ gs) d'' m
-puts-on {d} {at} {fs} {gs} {d'} {d''} {n} {m} h p q =
+puts_on {d} {at} {fs} {gs} {d'} {d''} {n} {m} h p q =
     record {
       bytes =
           q.bytes
           ∙ ap (λ (x : List ℕ). over x n (spread gs)) p.bytes
-          ∙ ap (λ (k : ℕ). over (over d at (spread fs)) k (spread gs)) (p.place ∙ ap (λ (k : ℕ). at + k) (sym (length-spread fs)))
-          ∙ over-over d at (spread fs) (spread gs) h
-          ∙ ap (over d at) (sym (spread-both fs gs));
-      place = omega (arith, p.place, q.place, span-both fs gs);
+          ∙ ap (λ (k : ℕ). over (over d at (spread fs)) k (spread gs)) (p.place ∙ ap (λ (k : ℕ). at + k) (sym (length_spread fs)))
+          ∙ over_over d at (spread fs) (spread gs) h
+          ∙ ap (over d at) (sym (spread_both fs gs));
+      place = omega (arith, p.place, q.place, span_both fs gs);
     }
 
-pub answer-put : {d : List ℕ} {at : ℕ} (i : ℕ) (ss ls : List ℕ) {d' d'' d''' : List ℕ} {n m o s l : ℕ} → at ≤ length d
+pub answer_put : {d : List ℕ} {at : ℕ} (i : ℕ) (ss ls : List ℕ) {d' d'' d''' : List ℕ} {n m o s l : ℕ} → at ≤ length d
     → Puts d at (answers i 0 ss ls) d' n → Puts d' n ((2, s) ∷ []) d'' m → Puts d'' m ((16, l) ∷ []) d''' o
     → (2, s) ∷ (16, l) ∷ [] ≡ pair i ss ls → Puts d at (answers (i + 1) 0 ss ls) d''' o
-answer-put {d} {at} i ss ls {d''' = d'''} {o = o} {s} {l} h p q r e =
-    let a = puts-on h p q in
-    let b = puts-on h a r in
-    rw (answers-more i ss ls, ← e)
+answer_put {d} {at} i ss ls {d''' = d'''} {o = o} {s} {l} h p q r e =
+    let a = puts_on h p q in
+    let b = puts_on h a r in
+    rw (answers_more i ss ls, ← e)
     (subst (λ (fs : List Field). Puts d at fs d''' o) (append_assoc (answers i 0 ss ls) ((2, s) ∷ []) ((16, l) ∷ [])) b)
 
-fields-spread : (fs : List Field) → spread fs ++ (10 ∷ []) ≡ fields fs
-fields-spread [] = refl
-fields-spread (f ∷ fs) =
+fields_spread : (fs : List Field) → spread fs ++ (10 ∷ []) ≡ fields fs
+fields_spread [] = refl
+fields_spread (f ∷ fs) =
     append_assoc (32 ∷ digits f.0 f.1) (spread fs) (10 ∷ [])
-    ∙ ap (λ (l : List ℕ). (32 ∷ digits f.0 f.1) ++ l) (fields-spread fs)
+    ∙ ap (λ (l : List ℕ). (32 ∷ digits f.0 f.1) ++ l) (fields_spread fs)
 
 -- ---- a line from its start
-pub kind-room : (d : List ℕ) (k : ℕ) → 2 ≤ length d → 2 ≤ length (over d 0 (digits 2 k))
-kind-room d k h = rw (length_over d 0 (digits 2 k) (omega (arith, length_digits 2 k))) h
+pub kind_room : (d : List ℕ) (k : ℕ) → 2 ≤ length d → 2 ≤ length (over d 0 (digits 2 k))
+kind_room d k h = rw (length_over d 0 (digits 2 k) (omega (arith, length_digits 2 k))) h
 
 -- the kind's digits, its fields and LF are the whole line
-pub line-put : (d : List ℕ) (k : ℕ) {fs : List Field} {d' : List ℕ} {n : ℕ} → Puts (over d 0 (digits 2 k)) 2 fs d' n → n < length d'
+pub line_put : (d : List ℕ) (k : ℕ) {fs : List Field} {d' : List ℕ} {n : ℕ} → Puts (over d 0 (digits 2 k)) 2 fs d' n → n < length d'
     → set d' n 10 ≡ laid (digits 2 k ++ fields fs) d
-line-put d k {fs} {d'} {n} p h =
+line_put d k {fs} {d'} {n} p h =
     let s = digits 2 k in
     let two : 2 ≡ 0 + length s = omega (arith, length_digits 2 k) in
-    let here : n ≡ 0 + length (s ++ spread fs) = omega (arith, p.place, length-append s (spread fs), length-spread fs) in
+    let here : n ≡ 0 + length (s ++ spread fs) = omega (arith, p.place, length-append s (spread fs), length_spread fs) in
     let q : d' ≡ over d 0 (s ++ spread fs) =
-    p.bytes ∙ ap (λ (j : ℕ). over (over d 0 s) j (spread fs)) two ∙ over-over d 0 s (spread fs) (omega arith) in
-    over-set d' n 10 h
+    p.bytes ∙ ap (λ (j : ℕ). over (over d 0 s) j (spread fs)) two ∙ over_over d 0 s (spread fs) (omega arith) in
+    over_set d' n 10 h
     ∙ ap₂ (λ (x : List ℕ) (j : ℕ). over x j (10 ∷ [])) q here
-    ∙ over-over d 0 (s ++ spread fs) (10 ∷ []) (omega arith)
-    ∙ ap (over d 0) (append_assoc s (spread fs) (10 ∷ []) ∙ ap (λ (t : List ℕ). s ++ t) (fields-spread fs))
+    ∙ over_over d 0 (s ++ spread fs) (10 ∷ []) (omega arith)
+    ∙ ap (over d 0) (append_assoc s (spread fs) (10 ∷ []) ∙ ap (λ (t : List ℕ). s ++ t) (fields_spread fs))
     ∙ ap (λ (j : ℕ). (s ++ fields fs) ++ drop j d) (zero-add (length (s ++ fields fs)))
 
 -- one field more
-sized-suc : (i : ℕ) (ws vs : List ℕ) → i < length ws → i < length vs
+sized_suc : (i : ℕ) (ws vs : List ℕ) → i < length ws → i < length vs
     → sized (take i ws) vs ++ ((get_or ws i 0, get_or vs i 0) ∷ []) ≡ sized (take (suc i) ws) vs
-sized-suc i [] vs h l = absurd (omega arith)
-sized-suc i (w ∷ ws) [] h l = absurd (omega arith)
-sized-suc zero (w ∷ ws) (v ∷ vs) h l = refl
-sized-suc (suc i) (w ∷ ws) (v ∷ vs) h l = ap (λ (fs : List Field). (w, v) ∷ fs) (sized-suc i ws vs (omega arith) (omega arith))
+sized_suc i [] vs h l = absurd (omega arith)
+sized_suc i (w ∷ ws) [] h l = absurd (omega arith)
+sized_suc zero (w ∷ ws) (v ∷ vs) h l = refl
+sized_suc (suc i) (w ∷ ws) (v ∷ vs) h l = ap (λ (fs : List Field). (w, v) ∷ fs) (sized_suc i ws vs (omega arith) (omega arith))
 
-pub sized-more : (i : ℕ) (ws vs : List ℕ) → i < length ws → i < length vs
+pub sized_more : (i : ℕ) (ws vs : List ℕ) → i < length ws → i < length vs
     → sized (take i ws) vs ++ ((get_or ws i 0, get_or vs i 0) ∷ []) ≡ sized (take (i + 1) ws) vs
-sized-more i ws vs h l = rw (add-one i) (sized-suc i ws vs h l)
+sized_more i ws vs h l = rw (add-one i) (sized_suc i ws vs h l)
 
 -- the i-th of n fields has its place among them
-pub sized-room : (i n : ℕ) (ws vs : List ℕ) → i < n → n ≤ length ws → n ≤ length vs
+pub sized_room : (i n : ℕ) (ws vs : List ℕ) → i < n → n ≤ length ws → n ≤ length vs
     → span (sized (take i ws) vs) + suc (get_or ws i 0) ≤ span (sized (take n ws) vs)
-sized-room i zero ws vs h k l = absurd (omega arith)
-sized-room i (suc n) [] vs h k l = absurd (omega arith)
-sized-room i (suc n) (w ∷ ws) [] h k l = absurd (omega arith)
-sized-room zero (suc n) (w ∷ ws) (v ∷ vs) h k l = omega arith
-sized-room (suc i) (suc n) (w ∷ ws) (v ∷ vs) h k l = omega (arith, sized-room i n ws vs (omega arith) (omega arith) (omega arith))
+sized_room i zero ws vs h k l = absurd (omega arith)
+sized_room i (suc n) [] vs h k l = absurd (omega arith)
+sized_room i (suc n) (w ∷ ws) [] h k l = absurd (omega arith)
+sized_room zero (suc n) (w ∷ ws) (v ∷ vs) h k l = omega arith
+sized_room (suc i) (suc n) (w ∷ ws) (v ∷ vs) h k l = omega (arith, sized_room i n ws vs (omega arith) (omega arith) (omega arith))
 
 -- a line's bytes: its kind, its fields up to the answers, the answers, and LF
-pub line-room : (f : Frame) → 3 + span (front f) + 20 * answersOf f ≡ size_of f
-line-room (Node kind n limit) = refl
-line-room (Asked call event fuel count) = refl
-line-room (Said call num status time visits used extra) = refl
-line-room (Malformed number) = refl
+pub line_room : (f : Frame) → 3 + span (front f) + 20 * answers_of f ≡ size_of f
+line_room (Node kind n limit) = refl
+line_room (Asked call event fuel count) = refl
+line_room (Said call num status time visits used extra) = refl
+line_room (Malformed number) = refl
 
 -- ---- numbers of their types have room in their fields
-pub event-small : (e : Event) → eventNo e < 16 ^ 2
-event-small (Other minus) = lit< tt
-event-small (Update dt) = lit< tt
+pub event_small : (e : Event) → event_no e < 16 ^ 2
+event_small (Other minus) = lit< tt
+event_small (Update dt) = lit< tt
 
-pub answers-fit : (k i : ℕ) (ss ls : List ℕ) → ((j : ℕ) → get_or ss j 0 < 2 ^ 8) → ((j : ℕ) → get_or ls j 0 < 2 ^ 64) → Fit (answers k i ss ls)
-answers-fit zero i ss ls p q = tt
-answers-fit (suc k) i ss ls p q = (p i, (q i, answers-fit k (suc i) ss ls p q))
+pub answers_fit : (k i : ℕ) (ss ls : List ℕ) → ((j : ℕ) → get_or ss j 0 < 2 ^ 8) → ((j : ℕ) → get_or ls j 0 < 2 ^ 64) → Fit (answers k i ss ls)
+answers_fit zero i ss ls p q = tt
+answers_fit (suc k) i ss ls p q = (p i, (q i, answers_fit k (suc i) ss ls p q))

@@ -1,7 +1,7 @@
 // Writing a frame: the two digits of its kind, its fields, each after a space, then LF.
 ghost use Rattle.std.specs.Prelude.{◌≡◌, [], ◌∷◌, ℕ, ◌+◌, ◌*◌, ◌≤◌, ◌<◌, length, take};
 ghost use Rattle.frames.specs.Hex.{digit, digits};
-ghost use Rattle.frames.specs.Line.{Fit, Good, body, line, answersOf, askedNo, saidNo, eventNo, eventTime, laid, wrote};
+ghost use Rattle.frames.specs.Line.{Fit, Good, body, line, answers_of, asked_no, said_no, event_no, event_time, laid, wrote};
 ghost use Rattle.frames.specs.Line.{answers as Line·answers};
 ghost use Rattle.frames.specs.Parts.{over, sized, size_of, span, Fronts, Puts};
 
@@ -52,7 +52,7 @@ fn size(frame: Frame) -> usize
 }
 
 fn asked_no(call: Call) -> u64
-    ensures { result ≡ askedNo call }
+    ensures { result ≡ asked_no call }
 {
     match call {
         Call::Tick => 0x02,
@@ -61,7 +61,7 @@ fn asked_no(call: Call) -> u64
 }
 
 fn said_no(call: Call) -> u64
-    ensures { result ≡ saidNo call }
+    ensures { result ≡ said_no call }
 {
     match call {
         Call::Tick => 0x82,
@@ -70,7 +70,7 @@ fn said_no(call: Call) -> u64
 }
 
 fn event_no(event: Event) -> u64
-    ensures { result ≡ eventNo event }
+    ensures { result ≡ event_no event }
 {
     match event {
         Event::Other(_) => 0,
@@ -79,7 +79,7 @@ fn event_no(event: Event) -> u64
 }
 
 fn event_time(event: Event) -> u64
-    ensures { result ≡ eventTime event }
+    ensures { result ≡ event_time event }
 {
     match event {
         Event::Other(minus) => { if minus { MINUS_ZERO } else { 0 } }
@@ -197,8 +197,8 @@ fn answers(room: &mut [u8], from: usize, count: usize, statuses: &[u8], leftover
 // A frame's line, at the start of a room that has place for it.
 fn lay(frame: Frame, statuses: &[u8], leftovers: &[u64], room: &mut [u8])
     requires frame_in_bounds { size_of frame ≤ length room.old }
-    requires frame_in_bounds_2 { answersOf frame ≤ length statuses.now }
-    requires frame_in_bounds_3 { answersOf frame ≤ length leftovers.now }
+    requires frame_in_bounds_2 { answers_of frame ≤ length statuses.now }
+    requires frame_in_bounds_3 { answers_of frame ≤ length leftovers.now }
     ensures room_after { room.new ≡ laid (line frame statuses.now leftovers.now) room.old }
     ensures fit { Fit (body frame statuses.now leftovers.now) }
 {

@@ -12,61 +12,61 @@ use Rattle.bench_lib.proofs.between.Tie as tie
 
 -- the arrays have their lengths
 record Arrays (input output kinds ns : List ℕ) (limits times : List Float) (places marks sinces : List ℕ) : Type 0 where
-  input-long : 65536 ≡ length input
-  output-long : 4096 ≡ length output
-  kinds-long : 257 ≡ length kinds
-  ns-long : 257 ≡ length ns
-  limits-long : 257 ≡ length limits
+  input_long : 65536 ≡ length input
+  output_long : 4096 ≡ length output
+  kinds_long : 257 ≡ length kinds
+  ns_long : 257 ≡ length ns
+  limits_long : 257 ≡ length limits
   times_long : 257 ≡ length times
-  places-long : 257 ≡ length places
-  marks-long : 257 ≡ length marks
-  sinces-long : 257 ≡ length sinces
+  places_long : 257 ≡ length places
+  marks_long : 257 ≡ length marks
+  sinces_long : 257 ≡ length sinces
 
-abbrev invariant-loop : tie.invariant-loop
-invariant-loop from to input₀ output₀ kinds₀ ns₀ limits₀ times₀ places₀ marks₀ sinces₀ at₀ turns₀ input output kinds ns limits times places marks sinces at turns =
+abbrev invariant_loop : tie.invariant-loop
+invariant_loop from to input₀ output₀ kinds₀ ns₀ limits₀ times₀ places₀ marks₀ sinces₀ at₀ turns₀ input output kinds ns limits times places marks sinces at turns =
     Arrays input output kinds ns limits times places marks sinces × Fits at input
 
-abbrev decreases-loop : tie.decreases-loop
-decreases-loop from to input₀ output₀ kinds₀ ns₀ limits₀ times₀ places₀ marks₀ sinces₀ at₀ turns₀ input output kinds ns limits times places marks sinces at turns = turns
+abbrev decreases_loop : tie.decreases-loop
+decreases_loop from to input₀ output₀ kinds₀ ns₀ limits₀ times₀ places₀ marks₀ sinces₀ at₀ turns₀ input output kinds ns limits times places marks sinces at turns = turns
 
 -- ---- what is known on the way
-abbrev turn : tie.After-lines invariant-loop decreases-loop → tie.At-loop invariant-loop decreases-loop
+abbrev turn : tie.After-lines invariant_loop decreases_loop → tie.At-loop invariant_loop decreases_loop
 turn c = c.before.before.before.before.before.before.before.before.before.before.before
 
-abbrev written : tie.Else1 invariant-loop decreases-loop → tie.After-lines invariant-loop decreases-loop
+abbrev written : tie.Else1 invariant_loop decreases_loop → tie.After-lines invariant_loop decreases_loop
 written c = c.before.before.before.before.before.before.before.before.before.before.before.before.before
 
-served : (c : tie.After-lines invariant-loop decreases-loop)
+served : (c : tie.After-lines invariant_loop decreases_loop)
     → let last = c.lines.new.1.1 in
     Arrays (turn c).loop.input last.1.1.1.1.1.1.1.0 last.0 last.1.0 last.1.1.0 last.1.1.1.0 last.1.1.1.1.0 last.1.1.1.1.1.0 last.1.1.1.1.1.1.0
 served c =
     let a = (turn c).loop.invariant.0 in
     let k = c.lines.auto.1.1 in
     record {
-      input-long = a.input-long;
-      output-long = omega (arith, k.1.1.1.1.1.1.1.0, a.output-long);
-      kinds-long = omega (arith, k.0, a.kinds-long);
-      ns-long = omega (arith, k.1.0, a.ns-long);
-      limits-long = omega (arith, k.1.1.0, a.limits-long);
+      input_long = a.input_long;
+      output_long = omega (arith, k.1.1.1.1.1.1.1.0, a.output_long);
+      kinds_long = omega (arith, k.0, a.kinds_long);
+      ns_long = omega (arith, k.1.0, a.ns_long);
+      limits_long = omega (arith, k.1.1.0, a.limits_long);
       times_long = omega (arith, k.1.1.1.0, a.times_long);
-      places-long = omega (arith, k.1.1.1.1.0, a.places-long);
-      marks-long = omega (arith, k.1.1.1.1.1.0, a.marks-long);
-      sinces-long = omega (arith, k.1.1.1.1.1.1.0, a.sinces-long);
+      places_long = omega (arith, k.1.1.1.1.0, a.places_long);
+      marks_long = omega (arith, k.1.1.1.1.1.0, a.marks_long);
+      sinces_long = omega (arith, k.1.1.1.1.1.1.0, a.sinces_long);
     }
 
-loop-holds : tie.Need-loop-init invariant-loop decreases-loop
-loop-holds c =
+loop_holds : tie.Need-loop-init invariant_loop decreases_loop
+loop_holds c =
     let f = c.first.ensures in (
       record {
-        input-long = refl;
-        output-long = refl;
-        kinds-long = refl;
-        ns-long = refl;
-        limits-long = refl;
+        input_long = refl;
+        output_long = refl;
+        kinds_long = refl;
+        ns_long = refl;
+        limits_long = refl;
         times_long = refl;
-        places-long = refl;
-        marks-long = refl;
-        sinces-long = refl;
+        places_long = refl;
+        marks_long = refl;
+        sinces_long = refl;
       },
       record {
         few = omega (arith, f.none);
@@ -75,55 +75,55 @@ loop-holds c =
       },
     )
 
-lines-requires : tie.Need-lines-requires invariant-loop decreases-loop
-lines-requires c κs =
+lines_requires : tie.Need-lines-requires invariant_loop decreases_loop
+lines_requires c κs =
     let v = c.before.before.before.before.before.before.before.before.before.before.loop.invariant in
     let a = v.0 in (
       v.1,
       (
-        record { kinds = omega (arith, a.kinds-long); ns = omega (arith, a.ns-long); limits = omega (arith, a.limits-long) },
-        omega (arith, a.output-long),
+        record { kinds = omega (arith, a.kinds_long); ns = omega (arith, a.ns_long); limits = omega (arith, a.limits_long) },
+        omega (arith, a.output_long),
       ),
     )
 
-slice-aggregate-read-on : tie.Need-slice-aggregate-read-on invariant-loop decreases-loop
-slice-aggregate-read-on c = (turn (written c.before.before.before.before)).loop.inv.0.input-long
+slice_aggregate_read_on : tie.Need-slice-aggregate-read-on invariant_loop decreases_loop
+slice_aggregate_read_on c = (turn (written c.before.before.before.before)).loop.inv.0.input_long
 
-loop-less : tie.Need-loop-smaller invariant-loop decreases-loop
-loop-less c = omega (arith, (written c.before.before.before.before.before.before).before.before.before.before.before.before.before.before.before.before.loop-test.taken)
+loop_less : tie.Need-loop-smaller invariant_loop decreases_loop
+loop_less c = omega (arith, (written c.before.before.before.before.before.before).before.before.before.before.before.before.before.before.before.before.loop-test.taken)
 
-loop-again : tie.Need-loop-preserved invariant-loop decreases-loop
-loop-again c =
+loop_again : tie.Need-loop-preserved invariant_loop decreases_loop
+loop_again c =
     let a = served (written c.before.before.before.before.before.before) in
     let r = c.before.read-on in (
       record {
-        input-long = omega (arith, r.auto.1.1.0, a.input-long);
-        output-long = a.output-long;
-        kinds-long = a.kinds-long;
-        ns-long = a.ns-long;
-        limits-long = a.limits-long;
+        input_long = omega (arith, r.auto.1.1.0, a.input_long);
+        output_long = a.output_long;
+        kinds_long = a.kinds_long;
+        ns_long = a.ns_long;
+        limits_long = a.limits_long;
         times_long = a.times_long;
-        places-long = a.places-long;
-        marks-long = a.marks-long;
-        sinces-long = a.sinces-long;
+        places_long = a.places_long;
+        marks_long = a.marks_long;
+        sinces_long = a.sinces_long;
       },
       r.ensures.fits,
     )
 
-loop-less-2 : tie.Need-loop-smaller-2 invariant-loop decreases-loop
-loop-less-2 c = omega (arith, (written c.before.before).before.before.before.before.before.before.before.before.before.before.loop-test.taken)
+loop_less_2 : tie.Need-loop-smaller-2 invariant_loop decreases_loop
+loop_less_2 c = omega (arith, (written c.before.before).before.before.before.before.before.before.before.before.before.before.loop-test.taken)
 
-loop-again-2 : tie.Need-loop-preserved-2 invariant-loop decreases-loop
-loop-again-2 c = let d = written c.before.before in (served d, d.lines.ensures.fits)
+loop_again_2 : tie.Need-loop-preserved-2 invariant_loop decreases_loop
+loop_again_2 c = let d = written c.before.before in (served d, d.lines.ensures.fits)
 
-pub between-spec : {M : Type 1} → statement M
-between-spec =
+pub between_spec : {M : Type 1} → statement M
+between_spec =
     tie.close
     (tie.spec
-    invariant-loop
-    decreases-loop
+    invariant_loop
+    decreases_loop
     (λ c κs. search rules)
-    loop-holds
+    loop_holds
     (λ c. search rules)
     (λ c. search rules)
     (λ c. search rules)
@@ -134,16 +134,16 @@ between-spec =
     (λ c. search rules)
     (λ c. search rules)
     (λ c. search rules)
-    lines-requires
+    lines_requires
     (λ c. search rules)
     (λ c κs. search rules)
     (λ c. search rules)
-    slice-aggregate-read-on
+    slice_aggregate_read_on
     (λ c κs. search rules)
-    loop-less
-    loop-again
-    loop-less-2
-    loop-again-2
+    loop_less
+    loop_again
+    loop_less_2
+    loop_again_2
     (λ c. tt)
     (λ c. tt)
     (λ c. tt))

@@ -5,8 +5,8 @@ use lib.ListN.{length-take}
 use Rattle.bench_lib.proofs.flush.Statement.{statement}
 use Rattle.bench_lib.proofs.flush.Tie as tie
 
-slice-aggregate-write-all : tie.Need-slice-aggregate-write-all
-slice-aggregate-write-all c = simp length-take (omega arith)
+slice_aggregate_write_all : tie.Need-slice-aggregate-write-all
+slice_aggregate_write_all c = simp length-take (omega arith)
 
-pub flush-spec : {M : Type 1} → statement M
-flush-spec = tie.close (tie.spec slice-aggregate-write-all (λ c κs. search rules) (λ c. search rules))
+pub flush_spec : {M : Type 1} → statement M
+flush_spec = tie.close (tie.spec slice_aggregate_write_all (λ c κs. search rules) (λ c. search rules))

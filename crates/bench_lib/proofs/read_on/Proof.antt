@@ -10,5 +10,5 @@ returns c =
     let shifted = fetched.before.before.before.before in
     reads_on _ _ _ _ _ _ shifted.before.before.before.before.requires shifted.shift.ensures fetched.fetch.ensures
 
-pub read-on-spec : {M : Type 1} → statement M
-read-on-spec = tie.close (tie.spec (λ c κs. search rules) (λ c κs. search rules) (λ c. search rules) returns)
+pub read_on_spec : {M : Type 1} → statement M
+read_on_spec = tie.close (tie.spec (λ c κs. search rules) (λ c κs. search rules) (λ c. search rules) returns)

@@ -4,7 +4,7 @@ use native.Mathlib.Omega.{arith}
 use borrow.Author.Rules.{rules}
 use Rattle.rules.specs.Call.{Given, given, run}
 use Rattle.rules.specs.Levels.{Levels, levels}
-use Rattle.refusals.proofs.Gates.{passed-refused, passed-open, passed_on}
+use Rattle.refusals.proofs.Gates.{passed_refused, passed_open, passed_on}
 use Rattle.call.proofs.value.Statement.{statement}
 use Rattle.call.proofs.value.Tie as tie
 
@@ -24,19 +24,19 @@ call c =
 abbrev lent : tie.Start → Levels
 lent c = let a = c.args in levels a.opens.now a.counts.now a.wholes.now a.rests.now
 
-carry-out-requires : tie.Need-carry-out-requires
-carry-out-requires c κs =
+carry_out_requires : tie.Need-carry-out-requires
+carry_out_requires c κs =
     let opened = c.before.before.before.before.before.before.before.before.before.before.before.before.before.before.before in
     let checks = opened.before.before in
     let s = start checks in
-    let passed = passed-open s.args.fresh (room checks).entries-of.result (call s) _ _ (checks.checks.ensures s.args.fuel) _ _ opened.n.given.1 in
+    let passed = passed_open s.args.fresh (room checks).entries-of.result (call s) _ _ (checks.checks.ensures s.args.fuel) _ _ opened.n.given.1 in
     (passed.2, omega (arith, (room checks).entries-of.ensures, passed.0))
 
 returns : tie.Need-returns
 returns c =
     let checks = c.before.before.before in
     let s = start checks in
-    passed-refused s.args.fresh (room checks).entries-of.result (call s) _ _ (checks.checks.ensures s.args.fuel) _ c.before.answer.given.1
+    passed_refused s.args.fresh (room checks).entries-of.result (call s) _ _ (checks.checks.ensures s.args.fuel) _ c.before.answer.given.1
     s.args.flat (lent s) (sym (room checks).entries-of.ensures)
 
 -- the slices come back in their order
@@ -45,8 +45,8 @@ carried c =
     let board = c.before.before.before.before.before.before.before.before in
     board.before.before.before.before.before.before.before.before.before.before.before.before.before.before.before.before.before.before
 
-returns-2 : tie.Need-returns-2
-returns-2 c =
+returns_2 : tie.Need-returns-2
+returns_2 c =
     let carry-out = (carried c).carry-out in
     let opened = (carried c).before.before.before.before.before.before.before.before.before.before.before.before.before.before.before.before in
     let checks = opened.before.before in
@@ -63,7 +63,7 @@ value_spec =
     (λ c κs. search rules)
     (λ c. search rules)
     (λ c. search rules)
-    carry-out-requires
+    carry_out_requires
     (λ c. search rules)
     (λ c. search rules)
     (λ c. search rules)
@@ -91,4 +91,4 @@ value_spec =
     (λ c. (carried c).carry-out.auto.1.1.1.1.1.1.1.1.1.1.1.1.1.1.1.1.1.1.1.0)
     (λ c. (carried c).carry-out.auto.1.1.1.1.1.1.1.1.1.1.1.1.1.1.1.1.1.1.1.1.0)
     (λ c. (carried c).carry-out.auto.1.1.1.1.1.1.1.1.1.1.1.1.1.1.1.1.1.1.1.1.1.0)
-    returns-2)
+    returns_2)

@@ -12,8 +12,8 @@ returns c =
     let cleared = c.before.before.before.before.before.before.before.before in
     ((climbed cleared).climb.ensures.0, cleared.clear.ensures ∙ (climbed cleared).climb.ensures.1)
 
-pub tick-flat-spec : {M : Type 1} → statement M
-tick-flat-spec =
+pub tick_flat_spec : {M : Type 1} → statement M
+tick_flat_spec =
     tie.close
     (tie.spec
     (λ c κs. search rules) (λ c κs. search rules)

@@ -3,8 +3,8 @@ use borrow.Author.Rules.{rules}
 use Rattle.host.proofs.bound_of.Statement.{statement}
 use Rattle.host.proofs.bound_of.Tie as tie
 
-pub bound-of-spec : {M : Type 1} → statement M
-bound-of-spec =
+pub bound_of_spec : {M : Type 1} → statement M
+bound_of_spec =
     tie.close
     (tie.spec
     (λ c. search rules)

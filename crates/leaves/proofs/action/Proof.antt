@@ -7,10 +7,10 @@ use lib.Dec.{ltb}
 use lib.Ieee.{Float}
 use lib.ListN.{length}
 use borrow.Author.Tests.{lt-ltb, le-ltb}
-use Rattle.rules.specs.Tree.{zeroTime}
+use Rattle.rules.specs.Tree.{zero_time}
 use Rattle.rules.specs.Table.{cleaned}
 use Rattle.work.specs.Flat.{action}
-use Rattle.work.proofs.Laws.{any-default}
+use Rattle.work.proofs.Laws.{any_default}
 use borrow.Author.Rules.{rules}
 use Rattle.leaves.proofs.action.Statement.{statement}
 use Rattle.leaves.proofs.action.Tie as tie
@@ -25,12 +25,12 @@ returns c =
     let within = c.before.before.before.before.before.if2.true in
     let leftover = lt-ltb u (length a.leftovers.now.now) within in
     let few = lt-ltb u 4294967295 (omega arith) in
-    let clean = c.before.before.cleaned.ensures ∙ ap (λ (x : Float). cleaned x) (any-default a.leftovers.now.now u _ zeroTime within) in
+    let clean = c.before.before.cleaned.ensures ∙ ap (λ (x : Float). cleaned x) (any_default a.leftovers.now.now u _ zero_time within) in
     λ x ts. rw (← at.wide.ensures, status, leftover, few, c.of.ensures, clean)
 
-returns-2 : tie.Need-returns-2
+returns_2 : tie.Need-returns-2
 unfolding action
-returns-2 c =
+returns_2 c =
     let at = c.before.before.before in
     let a = at.before.before.args in
     let u = at.wide.result in
@@ -59,4 +59,4 @@ action_spec =
     (λ c. search rules)
     (λ c. search rules)
     (λ c. search rules)
-    returns-2)
+    returns_2)

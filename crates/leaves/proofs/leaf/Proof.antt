@@ -19,19 +19,19 @@ returns : tie.Need-returns
 unfolding leaf
 returns c = rw c.before.before.before.before.before.enum_told.given.1 (c.before.before.wait.ensures _ _)
 
-returns-2 : tie.Need-returns-2
+returns_2 : tie.Need-returns-2
 unfolding leaf
-returns-2 c = rw c.before.before.enum-told2.given.1 (c.action.ensures _ _)
+returns_2 c = rw c.before.before.enum-told2.given.1 (c.action.ensures _ _)
 
-returns-3 : tie.Need-returns-3
+returns_3 : tie.Need-returns-3
 unfolding leaf kind_of
-returns-3 c =
+returns_3 c =
     let k = c.before.before.before.args.kind in
     let keys = c.before.match.keys3 in
     rw (arm (λ k. is k Wait ≡ false) others k keys (search depth 20), arm (λ k. is k Action ≡ false) others k keys (search depth 20), c.waiting.ensures)
 
-pub leaf-spec : {M : Type 1} → statement M
-leaf-spec =
+pub leaf_spec : {M : Type 1} → statement M
+leaf_spec =
     tie.close
     (tie.spec
     (λ c. search rules)
@@ -41,5 +41,5 @@ leaf-spec =
     (λ c κs. search rules)
     (λ c. search rules)
     returns
-    returns-2
-    returns-3)
+    returns_2
+    returns_3)

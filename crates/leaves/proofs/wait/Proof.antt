@@ -9,9 +9,9 @@ returns : tie.Need-returns
 unfolding wait
 returns c = let test = c.before.before in λ a b. rw (← test.updates.ensures, not-true test.updates.result c.before.if1.true, c.waiting.ensures)
 
-returns-2 : tie.Need-returns-2
+returns_2 : tie.Need-returns-2
 unfolding wait
-returns-2 c =
+returns_2 c =
     let put = c.before.before in
     let time = put.before.before.before in
     let limit = time.before.before in
@@ -19,9 +19,9 @@ returns-2 c =
     let update = not-false test.updates.result limit.before.if1.false in
     λ a b. rw (← test.updates.ensures, update, ← limit.number_at.ensures, ← time.time-at.ensures, put.before.before.if2.true, put.put-time.ensures)
 
-returns-3 : tie.Need-returns-3
+returns_3 : tie.Need-returns-3
 unfolding wait
-returns-3 c =
+returns_3 c =
     let put = c.before.before.before in
     let time = put.before.before.before in
     let limit = time.before.before in
@@ -40,8 +40,8 @@ wait_spec =
     (λ c κs. search rules)
     (λ c κs. search rules)
     (λ c. search rules)
-    returns-2
+    returns_2
     (λ c κs. search rules)
     (λ c κs. search rules)
     (λ c. search rules)
-    returns-3)
+    returns_3)

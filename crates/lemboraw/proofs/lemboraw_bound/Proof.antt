@@ -3,8 +3,8 @@ use borrow.Author.Rules.{rules}
 use Rattle.lemboraw.proofs.lemboraw_bound.Statement.{statement}
 use Rattle.lemboraw.proofs.lemboraw_bound.Tie as tie
 
-pub lemboraw-bound-spec : {M : Type 1} → statement M
-lemboraw-bound-spec =
+pub lemboraw_bound_spec : {M : Type 1} → statement M
+lemboraw_bound_spec =
     tie.close
     (tie.spec
     (λ c κs. search rules)

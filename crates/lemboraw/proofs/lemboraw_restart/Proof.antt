@@ -6,7 +6,7 @@ use contract.Running.{tables, tables_of}
 use denote.Triple.Spec.{triple_of}
 use denote.Triple.Table.{entered, cited}
 use Rattle.refusals.specs.Due.{call_of}
-use Rattle.host.specs.Host.{hostRestart}
+use Rattle.host.specs.Host.{host_restart}
 use Rattle.lemboraw.proofs.Outer.{meets}
 use Rattle.lemboraw.specs.contracts.value.deep_said as core
 use Rattle.lemboraw.proofs.value.deep_said.Symbol as core-def
@@ -17,9 +17,9 @@ use Rattle.lemboraw.specs.contracts.lemboraw_restart as outer
 use Rattle.lemboraw.proofs.lemboraw_restart.Statement as stated
 use Rattle.lemboraw.proofs.lemboraw_restart.Code as code
 
-pub lemboraw-restart-spec : {M : Type 1} → stated.statement M
-unfolding code.routine tables_of call_of hostRestart
-lemboraw-restart-spec 𝓤 𝓛 𝓜 𝓡 =
+pub lemboraw_restart_spec : {M : Type 1} → stated.statement M
+unfolding code.routine tables_of call_of host_restart
+lemboraw_restart_spec 𝓤 𝓛 𝓜 𝓡 =
     entered 𝓤 𝓛.H (triple_of 𝓛 outer.signature (outer.spec 𝓛 𝓜.mem 𝓡.run))
     (tables 𝓤 𝓛.H 𝓜 𝓡 code.env).C (tables 𝓤 𝓛.H 𝓜 𝓡 code.env).Λ #outer code.function (code.unfolded 𝓤 𝓛.H 𝓜 𝓡)
     (meets 𝓛 #core true

@@ -5,9 +5,9 @@ use base.Logic.{id⊢}
 use contract.Running.{tables, tables_of}
 use denote.Triple.Spec.{triple_of}
 use denote.Triple.Table.{entered, cited}
-use Rattle.rules.specs.Levels.{restartFlat}
+use Rattle.rules.specs.Levels.{restart_flat}
 use Rattle.refusals.specs.Due.{call_of}
-use Rattle.host.specs.Host.{hostRestartFlat}
+use Rattle.host.specs.Host.{host_restart_flat}
 use Rattle.lemboraw.proofs.Roomed.{meets}
 use Rattle.lemboraw.specs.contracts.value.flat_said as core
 use Rattle.lemboraw.proofs.value.flat_said.Symbol as core-def
@@ -18,9 +18,9 @@ use Rattle.lemboraw.specs.contracts.lemboraw_restart_flat as outer
 use Rattle.lemboraw.proofs.lemboraw_restart_flat.Statement as stated
 use Rattle.lemboraw.proofs.lemboraw_restart_flat.Code as code
 
-pub lemboraw-restart-flat-spec : {M : Type 1} → stated.statement M
-unfolding code.routine tables_of call_of hostRestartFlat restartFlat
-lemboraw-restart-flat-spec 𝓤 𝓛 𝓜 𝓡 =
+pub lemboraw_restart_flat_spec : {M : Type 1} → stated.statement M
+unfolding code.routine tables_of call_of host_restart_flat restart_flat
+lemboraw_restart_flat_spec 𝓤 𝓛 𝓜 𝓡 =
     entered 𝓤 𝓛.H (triple_of 𝓛 outer.signature (outer.spec 𝓛 𝓜.mem 𝓡.run))
     (tables 𝓤 𝓛.H 𝓜 𝓡 code.env).C (tables 𝓤 𝓛.H 𝓜 𝓡 code.env).Λ #outer code.function (code.unfolded 𝓤 𝓛.H 𝓜 𝓡)
     (meets 𝓛 #core true

@@ -6,7 +6,7 @@ use contract.Running.{tables, tables_of}
 use denote.Triple.Spec.{triple_of}
 use denote.Triple.Table.{entered, cited}
 use Rattle.refusals.specs.Due.{call_of}
-use Rattle.host.specs.Host.{hostTick}
+use Rattle.host.specs.Host.{host_tick}
 use Rattle.lemboraw.proofs.Outer.{meets}
 use Rattle.lemboraw.specs.contracts.value.deep_said as core
 use Rattle.lemboraw.proofs.value.deep_said.Symbol as core-def
@@ -17,9 +17,9 @@ use Rattle.lemboraw.specs.contracts.lemboraw_tick as outer
 use Rattle.lemboraw.proofs.lemboraw_tick.Statement as stated
 use Rattle.lemboraw.proofs.lemboraw_tick.Code as code
 
-pub lemboraw-tick-spec : {M : Type 1} → stated.statement M
-unfolding code.routine tables_of call_of hostTick
-lemboraw-tick-spec 𝓤 𝓛 𝓜 𝓡 =
+pub lemboraw_tick_spec : {M : Type 1} → stated.statement M
+unfolding code.routine tables_of call_of host_tick
+lemboraw_tick_spec 𝓤 𝓛 𝓜 𝓡 =
     entered 𝓤 𝓛.H (triple_of 𝓛 outer.signature (outer.spec 𝓛 𝓜.mem 𝓡.run))
     (tables 𝓤 𝓛.H 𝓜 𝓡 code.env).C (tables 𝓤 𝓛.H 𝓜 𝓡 code.env).Λ #outer code.function (code.unfolded 𝓤 𝓛.H 𝓜 𝓡)
     (meets 𝓛 #core false

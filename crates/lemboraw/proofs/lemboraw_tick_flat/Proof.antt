@@ -5,9 +5,9 @@ use base.Logic.{id⊢}
 use contract.Running.{tables, tables_of}
 use denote.Triple.Spec.{triple_of}
 use denote.Triple.Table.{entered, cited}
-use Rattle.rules.specs.Levels.{tickFlat}
+use Rattle.rules.specs.Levels.{tick_flat}
 use Rattle.refusals.specs.Due.{call_of}
-use Rattle.host.specs.Host.{hostTickFlat}
+use Rattle.host.specs.Host.{host_tick_flat}
 use Rattle.lemboraw.proofs.Roomed.{meets}
 use Rattle.lemboraw.specs.contracts.value.flat_said as core
 use Rattle.lemboraw.proofs.value.flat_said.Symbol as core-def
@@ -18,9 +18,9 @@ use Rattle.lemboraw.specs.contracts.lemboraw_tick_flat as outer
 use Rattle.lemboraw.proofs.lemboraw_tick_flat.Statement as stated
 use Rattle.lemboraw.proofs.lemboraw_tick_flat.Code as code
 
-pub lemboraw-tick-flat-spec : {M : Type 1} → stated.statement M
-unfolding code.routine tables_of call_of hostTickFlat tickFlat
-lemboraw-tick-flat-spec 𝓤 𝓛 𝓜 𝓡 =
+pub lemboraw_tick_flat_spec : {M : Type 1} → stated.statement M
+unfolding code.routine tables_of call_of host_tick_flat tick_flat
+lemboraw_tick_flat_spec 𝓤 𝓛 𝓜 𝓡 =
     entered 𝓤 𝓛.H (triple_of 𝓛 outer.signature (outer.spec 𝓛 𝓜.mem 𝓡.run))
     (tables 𝓤 𝓛.H 𝓜 𝓡 code.env).C (tables 𝓤 𝓛.H 𝓜 𝓡 code.env).Λ #outer code.function (code.unfolded 𝓤 𝓛.H 𝓜 𝓡)
     (meets 𝓛 #core false

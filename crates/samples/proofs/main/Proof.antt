@@ -4,43 +4,43 @@ use native.Mathlib.Omega.{arith}
 use Rattle.samples.proofs.main.Statement.{statement}
 use Rattle.samples.proofs.main.Tie as tie
 
-abbrev invariant-loop : tie.invariant-loop
-invariant-loop count i₀ i = Unit {0}
+abbrev invariant_loop : tie.invariant-loop
+invariant_loop count i₀ i = Unit {0}
 
-abbrev decreases-loop : tie.decreases-loop
-decreases-loop count i₀ i = count - i
+abbrev decreases_loop : tie.decreases-loop
+decreases_loop count i₀ i = count - i
 
-arg-count-requires : tie.Need-arg-count-requires invariant-loop decreases-loop
-arg-count-requires c κs = tt
+arg_count_requires : tie.Need-arg-count-requires invariant_loop decreases_loop
+arg_count_requires c κs = tt
 
-loop-holds : tie.Need-loop-init invariant-loop decreases-loop
-loop-holds c = tt
+loop_holds : tie.Need-loop-init invariant_loop decreases_loop
+loop_holds c = tt
 
-one-requires : tie.Need-one-requires invariant-loop decreases-loop
-one-requires c κs = tt
+one_requires : tie.Need-one-requires invariant_loop decreases_loop
+one_requires c κs = tt
 
-add-i : tie.Need-overflow-add-i invariant-loop decreases-loop
-add-i c = omega arith
+add_i : tie.Need-overflow-add-i invariant_loop decreases_loop
+add_i c = omega arith
 
-loop-less : tie.Need-loop-smaller invariant-loop decreases-loop
-loop-less c = omega arith
+loop_less : tie.Need-loop-smaller invariant_loop decreases_loop
+loop_less c = omega arith
 
-loop-again : tie.Need-loop-preserved invariant-loop decreases-loop
-loop-again c = tt
+loop_again : tie.Need-loop-preserved invariant_loop decreases_loop
+loop_again c = tt
 
-returns : tie.Need-returns invariant-loop decreases-loop
+returns : tie.Need-returns invariant_loop decreases_loop
 returns c = tt
 
 pub main_spec : {M : Type 1} → statement M
 main_spec =
     tie.close
     (tie.spec
-    invariant-loop
-    decreases-loop
-    arg-count-requires
-    loop-holds
-    one-requires
-    add-i
-    loop-less
-    loop-again
+    invariant_loop
+    decreases_loop
+    arg_count_requires
+    loop_holds
+    one_requires
+    add_i
+    loop_less
+    loop_again
     returns)

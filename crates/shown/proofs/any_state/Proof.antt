@@ -6,27 +6,27 @@ use borrow.Author.Count.{below_more}
 use lib.ListN.{length}
 use Rattle.work.specs.Array.{word_at}
 use Rattle.shown.specs.Show.{Bare}
-use Rattle.shown.proofs.ShowLaws.{none-shown}
+use Rattle.shown.proofs.ShowLaws.{none_shown}
 use borrow.Author.Rules.{rules}
 use Rattle.shown.proofs.any_state.Statement.{statement}
 use Rattle.shown.proofs.any_state.Tie as tie
 
-abbrev invariant-loop : tie.invariant-loop
-invariant-loop work n words sum₀ ahead₀ p₀ sum ahead p =
+abbrev invariant_loop : tie.invariant-loop
+invariant_loop work n words sum₀ ahead₀ p₀ sum ahead p =
     (p ≤ n)
     × (n ≤ length work)
     × (ahead ≡ 256 - n + p)
     × (sum ≤ 131072 * p)
     × (sum ≡ 0 → (q : ℕ) → q < p → Bare (word_at work q) (256 - n + q))
 
-abbrev decreases-loop : tie.decreases-loop
-decreases-loop work n words sum₀ ahead₀ p₀ sum ahead p = n - p
+abbrev decreases_loop : tie.decreases-loop
+decreases_loop work n words sum₀ ahead₀ p₀ sum ahead p = n - p
 
-loop-holds : tie.Need-loop-init invariant-loop decreases-loop
-loop-holds c = (omega arith, omega (arith, c.words.given.0, c.before.requires), omega arith, omega arith, λ e q h. absurd (omega arith))
+loop_holds : tie.Need-loop-init invariant_loop decreases_loop
+loop_holds c = (omega arith, omega (arith, c.words.given.0, c.before.requires), omega arith, omega arith, λ e q h. absurd (omega arith))
 
-loop-again : tie.Need-loop-preserved invariant-loop decreases-loop
-loop-again c =
+loop_again : tie.Need-loop-preserved invariant_loop decreases_loop
+loop_again c =
     let at = c.before.before.before in
     let inv = at.loop.invariant in (
       omega arith,
@@ -36,18 +36,18 @@ loop-again c =
       λ e. below_more _ _ (inv.4 (omega arith)) (rw (← inv.2) (c.state-in.ensures.0 (omega arith))),
     )
 
-returns : tie.Need-returns invariant-loop decreases-loop
-returns c = λ e. none-shown _ _ c.before.before.before.requires (λ q h. c.before.loop.invariant.4 e q (omega arith)) _ _ (omega arith)
+returns : tie.Need-returns invariant_loop decreases_loop
+returns c = λ e. none_shown _ _ c.before.before.before.requires (λ q h. c.before.loop.invariant.4 e q (omega arith)) _ _ (omega arith)
 
-pub any-state-spec : {M : Type 1} → statement M
-any-state-spec =
+pub any_state_spec : {M : Type 1} → statement M
+any_state_spec =
     tie.close
     (tie.spec
-    invariant-loop
-    decreases-loop
+    invariant_loop
+    decreases_loop
     (λ c. search rules)
     (λ c. search rules)
-    loop-holds
+    loop_holds
     (λ c. search rules)
     (λ c. search rules)
     (λ c κs. search rules)
@@ -55,5 +55,5 @@ any-state-spec =
     (λ c. search rules)
     (λ c. search rules)
     (λ c. search rules)
-    loop-again
+    loop_again
     returns)

@@ -3,33 +3,33 @@ use mathlib.Core.Path.{◌≡◌, sym, ◌∙◌}
 use Prim.Native.Nat.{◌-◌, ◌≤◌}
 use native.Mathlib.Omega.{arith}
 use native.Mathlib.Nat.{sub-zero}
-use Rattle.shown.specs.Show.{endedWords}
-use Rattle.shown.proofs.ShowLaws.{words-one, words-none}
+use Rattle.shown.specs.Show.{ended_words}
+use Rattle.shown.proofs.ShowLaws.{words_one, words_none}
 use borrow.Author.Rules.{rules}
 use Rattle.shown.proofs.show_ended.Statement.{statement}
 use Rattle.shown.proofs.show_ended.Tie as tie
 
-abbrev invariant-loop : tie.invariant-loop
-invariant-loop work₀ n p₀ work p = (p ≤ n) × (endedWords p (n - p) work ≡ endedWords 0 n work₀)
+abbrev invariant_loop : tie.invariant-loop
+invariant_loop work₀ n p₀ work p = (p ≤ n) × (ended_words p (n - p) work ≡ ended_words 0 n work₀)
 
-abbrev decreases-loop : tie.decreases-loop
-decreases-loop work₀ n p₀ work p = n - p
+abbrev decreases_loop : tie.decreases-loop
+decreases_loop work₀ n p₀ work p = n - p
 
-returns : tie.Need-returns invariant-loop decreases-loop
+returns : tie.Need-returns invariant_loop decreases_loop
 returns c = sym (c.before.any-state.ensures c.if1.true)
 
-loop-holds : tie.Need-loop-init invariant-loop decreases-loop
-loop-holds c = (omega arith, rw sub-zero)
+loop_holds : tie.Need-loop-init invariant_loop decreases_loop
+loop_holds c = (omega arith, rw sub-zero)
 
-loop-again : tie.Need-loop-preserved invariant-loop decreases-loop
-loop-again c =
+loop_again : tie.Need-loop-preserved invariant_loop decreases_loop
+loop_again c =
     let at = c.before.before.before in
-    (omega arith, words-one _ _ _ _ _ (omega arith) c.show-below.ensures ∙ at.loop.invariant.1)
+    (omega arith, words_one _ _ _ _ _ (omega arith) c.show-below.ensures ∙ at.loop.invariant.1)
 
-returns-2 : tie.Need-returns-2 invariant-loop decreases-loop
-returns-2 c = sym (words-none _ _ _ (omega arith)) ∙ c.before.loop.invariant.1
+returns_2 : tie.Need-returns-2 invariant_loop decreases_loop
+returns_2 c = sym (words_none _ _ _ (omega arith)) ∙ c.before.loop.invariant.1
 
-pub show-ended-spec : {M : Type 1} → statement M
-show-ended-spec =
+pub show_ended_spec : {M : Type 1} → statement M
+show_ended_spec =
     tie.close
-    (tie.spec invariant-loop decreases-loop (λ c κs. search rules) returns loop-holds (λ c κs. search rules) (λ c. search rules) (λ c. search rules) loop-again returns-2)
+    (tie.spec invariant_loop decreases_loop (λ c κs. search rules) returns loop_holds (λ c κs. search rules) (λ c. search rules) (λ c. search rules) loop_again returns_2)

@@ -8,5 +8,5 @@ use Rattle.shown.proofs.sixteen_leaves.Tie as tie
 returns : tie.Need-returns
 returns c = λ e i h. omega (arith, eqb-true c.below_of.result 0 e, c.below_of.ensures.0, (c.before.words_of.ensures i h).below)
 
-pub sixteen-leaves-spec : {M : Type 1} → statement M
-sixteen-leaves-spec = tie.close (tie.spec (λ c κs. search rules) (λ c κs. search rules) returns)
+pub sixteen_leaves_spec : {M : Type 1} → statement M
+sixteen_leaves_spec = tie.close (tie.spec (λ c κs. search rules) (λ c κs. search rules) returns)

@@ -4,8 +4,8 @@ use lib.ListN.{get_or-eq_default}
 use Rattle.told.proofs.number_at.Statement.{statement}
 use Rattle.told.proofs.number_at.Tie as tie
 
-returns-2 : tie.Need-returns-2
-returns-2 c = sym (get_or-eq_default c.before.args.ns.now 0 c.if1.false)
+returns_2 : tie.Need-returns-2
+returns_2 c = sym (get_or-eq_default c.before.args.ns.now 0 c.if1.false)
 
-pub number-at-spec : {M : Type 1} → statement M
-number-at-spec = tie.close (tie.spec (λ c. search rules) (λ c. search rules) (λ c. search rules) returns-2)
+pub number_at_spec : {M : Type 1} → statement M
+number_at_spec = tie.close (tie.spec (λ c. search rules) (λ c. search rules) (λ c. search rules) returns_2)

@@ -11,5 +11,5 @@ returns c =
     let status-of = c.before.before.before.before.before.status-of in
     rw (status-of.ensures, less.ensures, least.ensures, wide.ensures)
 
-pub told-done-spec : {M : Type 1} → statement M
-told-done-spec = tie.close (tie.spec (λ c κs. search rules) (λ c. search rules) (λ c κs. search rules) (λ c. search rules) (λ c κs. search rules) (λ c κs. search rules) returns)
+pub told_done_spec : {M : Type 1} → statement M
+told_done_spec = tie.close (tie.spec (λ c κs. search rules) (λ c. search rules) (λ c κs. search rules) (λ c. search rules) (λ c κs. search rules) (λ c κs. search rules) returns)

@@ -5,19 +5,19 @@ use native.Mathlib.Omega.{arith}
 use lib.ListN.{length}
 use Rattle.frames.specs.Line.{answers}
 use Rattle.frames.specs.Parts.{Puts}
-use Rattle.writer.proofs.Puts.{none-put, answer-put}
+use Rattle.writer.proofs.Puts.{none_put, answer_put}
 use Rattle.writer.proofs.answers.Statement.{statement}
 use Rattle.writer.proofs.answers.Tie as tie
 
-abbrev invariant-loop : tie.invariant-loop
-invariant-loop room₀ from count statuses leftovers at₀ i₀ room at i =
+abbrev invariant_loop : tie.invariant-loop
+invariant_loop room₀ from count statuses leftovers at₀ i₀ room at i =
     (i ≤ count) × (length room ≡ length room₀) × (at ≡ from + 20 * i) × Puts room₀ from (answers i 0 statuses leftovers) room at
 
-abbrev decreases-loop : tie.decreases-loop
-decreases-loop room₀ from count statuses leftovers at₀ i₀ room at i = count - i
+abbrev decreases_loop : tie.decreases-loop
+decreases_loop room₀ from count statuses leftovers at₀ i₀ room at i = count - i
 
-loop-again : tie.Need-loop-preserved invariant-loop decreases-loop
-loop-again c =
+loop_again : tie.Need-loop-preserved invariant_loop decreases_loop
+loop_again c =
     let second = c.before.before in
     let first = second.before.before.before.before.before in
     let read = first.before in
@@ -29,25 +29,25 @@ loop-again c =
       omega arith,
       p.auto.0 ∙ q.auto.0 ∙ l.invariant.1,
       omega (arith, p.ensures.place, q.ensures.place, l.invariant.2),
-      answer-put l.i a.statuses.now a.leftovers.now (omega arith) l.invariant.3 q.ensures p.ensures (rw read.wide.ensures),
+      answer_put l.i a.statuses.now a.leftovers.now (omega arith) l.invariant.3 q.ensures p.ensures (rw read.wide.ensures),
     )
 
-returns : tie.Need-returns invariant-loop decreases-loop
+returns : tie.Need-returns invariant_loop decreases_loop
 returns c =
     let l = c.before.loop in
     let e : l.i ≡ c.before.before.before.before.before.args.count = omega arith in
     rw (← e) l.invariant.3
 
-pub answers-spec : {M : Type 1} → statement M
-answers-spec =
+pub answers_spec : {M : Type 1} → statement M
+answers_spec =
     tie.close
     (tie.spec
-    invariant-loop
-    decreases-loop
-    (λ c. (omega arith, refl, omega arith, none-put _ _))
+    invariant_loop
+    decreases_loop
+    (λ c. (omega arith, refl, omega arith, none_put _ _))
     (λ c. omega arith) (λ c κs. tt) (λ c κs. omega arith)
     (λ c. omega arith) (λ c. omega arith) (λ c κs. omega arith)
     (λ c. omega arith) (λ c. omega arith)
-    loop-again
+    loop_again
     (λ c. c.before.loop.invariant.1)
     returns)

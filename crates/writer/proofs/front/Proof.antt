@@ -1,7 +1,7 @@
 -- `front` meets its contract, kind by kind.
 use mathlib.Core.Path.{refl}
 use native.Mathlib.Omega.{arith}
-use Rattle.writer.proofs.Puts.{event-small}
+use Rattle.writer.proofs.Puts.{event_small}
 use borrow.Author.Rules.{rules}
 use Rattle.writer.proofs.front.Statement.{statement}
 use Rattle.writer.proofs.front.Tie as tie
@@ -30,7 +30,7 @@ asked c =
       widths = omega arith;
       values = omega arith;
       fields = rw (c.before.event-no.ensures, t.ensures);
-      fit = (event-small f.0.1.0, (rw (← t.ensures) (omega (arith, t.type-inv)), (omega (arith, k), (omega (arith, k), tt))));
+      fit = (event_small f.0.1.0, (rw (← t.ensures) (omega (arith, t.type-inv)), (omega (arith, k), (omega (arith, k), tt))));
     })
 
 said : tie.Need-returns-3
@@ -50,8 +50,8 @@ malformed c =
     rw c.before.frame4.given.1
     (record { kind = refl; widths = omega arith; values = omega arith; fields = refl; fit = (omega (arith, c.known-told4.given), tt) })
 
-pub front-spec : {M : Type 1} → statement M
-front-spec =
+pub front_spec : {M : Type 1} → statement M
+front_spec =
     tie.close
     (tie.spec
     (λ c. search rules) (λ c. search rules) (λ c. search rules)

@@ -4,11 +4,11 @@ use mathlib.Core.List.{List}
 use Prim.Native.Nat.{◌+◌}
 use native.Mathlib.Omega.{arith}
 use lib.ListN.{length-set}
-use Rattle.frames.specs.Answers.{fit-both}
-use Rattle.frames.specs.Lengths.{answers-span}
+use Rattle.frames.specs.Answers.{fit_both}
+use Rattle.frames.specs.Lengths.{answers_span}
 use Rattle.frames.specs.Line.{Field, front}
 use Rattle.frames.specs.Parts.{span}
-use Rattle.writer.proofs.Puts.{puts-on, kind-room, line-put, line-room, answers-fit}
+use Rattle.writer.proofs.Puts.{puts_on, kind_room, line_put, line_room, answers_fit}
 use borrow.Author.Rules.{rules}
 use Rattle.writer.proofs.lay.Statement.{statement}
 use Rattle.writer.proofs.lay.Tie as tie
@@ -23,23 +23,23 @@ fronted c = c.before.before.before.before.before
 abbrev start : tie.After-front → tie.Start
 start c = c.before.before.before.before
 
-begin-requires : tie.Need-begin-requires
-begin-requires c κs =
+begin_requires : tie.Need-begin-requires
+begin_requires c κs =
     let r = (fronted c).front.ensures in
     let s = start (fronted c) in
-    (r.widths, (r.values, rw r.fields (omega (arith, line-room s.args.frame, s.pre.0))))
+    (r.widths, (r.values, rw r.fields (omega (arith, line_room s.args.frame, s.pre.0))))
 
 -- where the answers begin
 placed : (c : tie.After-count) → (begun c).begin.result ≡ 2 + span (front (start (fronted (begun c).before)).args.frame)
 placed c = (begun c).begin.ensures.place ∙ ap (λ (fs : List Field). 2 + span fs) (fronted (begun c).before).front.ensures.fields
 
-answers-requires : tie.Need-answers-requires
-answers-requires c κs =
+answers_requires : tie.Need-answers-requires
+answers_requires c κs =
     let s = start (fronted (begun c).before) in
-    (omega (arith, placed c, line-room s.args.frame, s.pre.0), (omega (arith, s.pre.1.0), omega (arith, s.pre.1.1)))
+    (omega (arith, placed c, line_room s.args.frame, s.pre.0), (omega (arith, s.pre.1.0), omega (arith, s.pre.1.1)))
 
-room-left : tie.Need-slice-write-room
-room-left c =
+room_left : tie.Need-slice-write-room
+room_left c =
     let d = c.before.before in
     let s = start (fronted (begun d.before).before) in
     let a = s.args in
@@ -47,9 +47,9 @@ room-left c =
     omega (
       arith,
       d.answers.ensures.place,
-      answers-span n 0 a.statuses.now a.leftovers.now,
+      answers_span n 0 a.statuses.now a.leftovers.now,
       placed d.before,
-      line-room a.frame,
+      line_room a.frame,
       s.pre.0,
     )
 
@@ -62,23 +62,23 @@ returns c =
     let a = s.args in
     let known = (fronted b.before).before.before in
     let n = d.before.count in
-    let put = puts-on (kind-room a.room.now r.result.kind (omega (arith, line-room a.frame, s.pre.0))) b.begin.ensures d.answers.ensures in
+    let put = puts_on (kind_room a.room.now r.result.kind (omega (arith, line_room a.frame, s.pre.0))) b.begin.ensures d.answers.ensures in
     rw (← n.ensures) (
-      rw (← r.ensures.kind, ← r.ensures.fields) (line-put _ _ put (room-left c)),
-      fit-both (front a.frame) _ r.ensures.fit
-          (answers-fit n.result 0 a.statuses.now a.leftovers.now
+      rw (← r.ensures.kind, ← r.ensures.fields) (line_put _ _ put (room_left c)),
+      fit_both (front a.frame) _ r.ensures.fit
+          (answers_fit n.result 0 a.statuses.now a.leftovers.now
           (λ j. omega (arith, known.before.shared-slice-known.given j))
           (λ j. omega (arith, known.shared-slice-known2.given j))),
     )
 
-pub lay-spec : {M : Type 1} → statement M
-lay-spec =
+pub lay_spec : {M : Type 1} → statement M
+lay_spec =
     tie.close
     (tie.spec
     (λ c κs. search rules) (λ c. search rules) (λ c. search rules)
-    begin-requires
+    begin_requires
     (λ c κs. search rules)
-    answers-requires
-    room-left
+    answers_requires
+    room_left
     (λ c. simp length-set (search rules))
     returns)

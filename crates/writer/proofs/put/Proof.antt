@@ -2,7 +2,7 @@
 use mathlib.Core.Path.{refl, ◌∙◌}
 use native.Mathlib.Omega.{arith}
 use lib.ListN.{length-set}
-use Rattle.writer.proofs.Puts.{one-put}
+use Rattle.writer.proofs.Puts.{one_put}
 use borrow.Author.Rules.{rules}
 use Rattle.writer.proofs.put.Statement.{statement}
 use Rattle.writer.proofs.put.Tie as tie
@@ -13,7 +13,7 @@ same_length c = let a = c.before.before.before.before.before.args in
 
 returns : tie.Need-returns
 returns c = let a = c.before.before.before.before.before.args in
-    one-put a.room.now a.at a.width a.value _ _ (omega arith) c.before.before.put-number.ensures refl
+    one_put a.room.now a.at a.width a.value _ _ (omega arith) c.before.before.put-number.ensures refl
 
 pub put_spec : {M : Type 1} → statement M
 put_spec =

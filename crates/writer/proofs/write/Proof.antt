@@ -1,6 +1,6 @@
 -- `write` meets its contract.
 use native.Mathlib.Omega.{arith}
-use Rattle.writer.proofs.Writes.{no-frame, too_short, bytes, none_written, short-written}
+use Rattle.writer.proofs.Writes.{no_frame, too_short, bytes, none_written, short_written}
 use borrow.Author.Rules.{rules}
 use Rattle.writer.proofs.write.Statement.{statement}
 use Rattle.writer.proofs.write.Tie as tie
@@ -15,19 +15,19 @@ start c = (counted c).before.before.before.before
 returns : tie.Need-returns
 returns c =
     let a = (start c.before).args in
-    (no-frame a.frame a.statuses.now a.leftovers.now _ _ (counted c.before).count.ensures (omega arith), λ n e. absurd (none_written e))
+    (no_frame a.frame a.statuses.now a.leftovers.now _ _ (counted c.before).count.ensures (omega arith), λ n e. absurd (none_written e))
 
-returns-2 : tie.Need-returns-2
-returns-2 c =
+returns_2 : tie.Need-returns-2
+returns_2 c =
     let sized = c.before in
     let known = sized.before.before in
     let a = (start known).args in (
       too_short a.frame a.statuses.now a.leftovers.now _ _ (counted known).count.ensures _ sized.size.ensures (omega arith) (omega arith),
-      λ n e. absurd (short-written e),
+      λ n e. absurd (short_written e),
     )
 
-returns-3 : tie.Need-returns-3
-returns-3 c =
+returns_3 : tie.Need-returns-3
+returns_3 c =
     let laid = c.before.before in
     let sized = laid.before.before.before in
     let known = sized.before.before in
@@ -44,6 +44,6 @@ write_spec =
     (λ c κs. search rules) (λ c κs. search rules) (λ c κs. search rules)
     returns
     (λ c κs. search rules)
-    returns-2
+    returns_2
     (λ c κs. search rules) (λ c. search rules)
-    returns-3)
+    returns_3)

@@ -6,8 +6,8 @@ use Rattle.bench_line.proofs.said.said.Tie as tie
 returns : tie.Need-returns
 returns c = rw (c.four2.ensures, c.before.four.ensures, c.before.before.bits.ensures, c.before.before.before.said.ensures)
 
-pub said-spec : {M : Type 1} → statement M
-said-spec =
+pub said_spec : {M : Type 1} → statement M
+said_spec =
     tie.close
     (tie.spec
     (λ c κs. search rules)

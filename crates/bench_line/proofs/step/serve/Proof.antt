@@ -7,23 +7,23 @@ use Rattle.frames.specs.declared.Event.{Event}
 use Rattle.rules.specs.declared.event.Event as events
 use Rattle.rules.specs.Call.{Given, Left, run, given}
 use Rattle.refusals.specs.Due as due
-use Rattle.bench_line.specs.Bench.{State, rows, eventOf, freshRun, freshBoard, call_of, served}
-use Rattle.bench_line.specs.Held.{state_of, restartsOf, Leaves}
+use Rattle.bench_line.specs.Bench.{State, rows, event_of, fresh_run, fresh_board, call_of, served}
+use Rattle.bench_line.specs.Held.{state_of, restarts_of, Leaves}
 use Rattle.bench_line.proofs.step.serve.Statement.{statement}
 use Rattle.bench_line.proofs.step.serve.Tie as tie
 
-by_flag : (call : Call) (g : Given) → call_of call g ≡ due.call_of (restartsOf call) g
+by_flag : (call : Call) (g : Given) → call_of call g ≡ due.call_of (restarts_of call) g
 unfolding due.call_of
 by_flag Tick g = refl
 by_flag Restart g = refl
 
-leaves : (s : State) (call : Call) (fresh : Bool) (e : Event) (h : events.Event) (fuel : ℕ) (ss : List ℕ) (ls : List Float) (x : Left) → fresh ≡ restartsOf call → h ≡ eventOf e
-    → due.call_of fresh (given s.record' s.table.kinds s.table.ns s.table.limits s.cells' freshRun freshBoard h fuel ss ls) ≡ x
+leaves : (s : State) (call : Call) (fresh : Bool) (e : Event) (h : events.Event) (fuel : ℕ) (ss : List ℕ) (ls : List Float) (x : Left) → fresh ≡ restarts_of call → h ≡ event_of e
+    → due.call_of fresh (given s.record' s.table.kinds s.table.ns s.table.limits s.cells' fresh_run fresh_board h fuel ss ls) ≡ x
     → Leaves (served s call e fuel ss ls) x.answer x.record' x.cells'
 unfolding served
 leaves s call fresh e h fuel ss ls x f p q =
     let r : served s call e fuel ss ls ≡ x = by_flag call _ ∙ rw (← f, ← p) q in
-    record { answer-is = ap (λ y. y.answer) r; record_is = ap (λ y. y.record') r; cells_are = ap (λ y. y.cells') r }
+    record { answer_is = ap (λ y. y.answer) r; record_is = ap (λ y. y.record') r; cells_are = ap (λ y. y.cells') r }
 
 abbrev happened : tie.After-restarts → tie.After-event-of
 happened c = c.before.before.before.before.before.before.before
@@ -32,7 +32,7 @@ abbrev start : tie.After-event-of → tie.Start
 start c = c.before.before.before.before.before.before.before.before.before.before.before.before.before.before.before.before.before.before.before.before.before.before.before
 
 returns : tie.Need-returns
-unfolding freshRun freshBoard of_bits
+unfolding fresh_run fresh_board of_bits
 returns c =
     let called = c.before.before.before.before.before.before.before.before.before.before.before.before.before.before.before.before.before in
     let restarts = called.before in
@@ -42,8 +42,8 @@ returns c =
     a.call restarts.restarts.result a.event event.event-of.result a.fuel (take a.count a.statuses.now) (take a.count a.leftovers.now) _
     restarts.restarts.ensures event.event-of.ensures (λ i. (called.value.ensures i).left')
 
-pub serve-spec : {M : Type 1} → statement M
-serve-spec =
+pub serve_spec : {M : Type 1} → statement M
+serve_spec =
     tie.close
     (tie.spec
     (λ c. simp length-take (omega arith))

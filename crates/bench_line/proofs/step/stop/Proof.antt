@@ -18,5 +18,5 @@ returns c =
       few = refl;
     }
 
-pub stop-spec : {M : Type 1} → statement M
-stop-spec = tie.close (tie.spec (λ c κs. search rules) (λ c κs. search rules) (λ c. search rules) returns)
+pub stop_spec : {M : Type 1} → statement M
+stop_spec = tie.close (tie.spec (λ c κs. search rules) (λ c κs. search rules) (λ c. search rules) returns)

@@ -11,5 +11,5 @@ returns c =
       few = refl;
     }
 
-pub tell-spec : {M : Type 1} → statement M
-tell-spec = tie.close (tie.spec (λ c κs. search rules) (λ c κs. search rules) (λ c. search rules) returns)
+pub tell_spec : {M : Type 1} → statement M
+tell_spec = tie.close (tie.spec (λ c κs. search rules) (λ c κs. search rules) (λ c. search rules) returns)

@@ -5,22 +5,22 @@ use native.Mathlib.Omega.{arith}
 use borrow.Author.Rules.{rules}
 use lib.ListN.{length, length-set}
 use Rattle.branch.specs.Depth.{Known}
-use Rattle.branch.proofs.Eachs.{size-pos}
+use Rattle.branch.proofs.Eachs.{size_pos}
 use Rattle.branch.proofs.Depths.{known_more}
 use Rattle.branch.proofs.depth.depth_of.Statement.{statement}
 use Rattle.branch.proofs.depth.depth_of.Tie as tie
 
-abbrev invariant-loop : tie.invariant-loop
-invariant-loop ends n deep₀ at₀ deep at = (at ≤ n) × (length deep ≡ 256) × Known deep ends at n
+abbrev invariant_loop : tie.invariant-loop
+invariant_loop ends n deep₀ at₀ deep at = (at ≤ n) × (length deep ≡ 256) × Known deep ends at n
 
-abbrev decreases-loop : tie.decreases-loop
-decreases-loop ends n deep₀ at₀ deep at = at
+abbrev decreases_loop : tie.decreases-loop
+decreases_loop ends n deep₀ at₀ deep at = at
 
-low : (c : tie.In-loop invariant-loop decreases-loop) → c.before.loop.at - 1 < 256
+low : (c : tie.In-loop invariant_loop decreases_loop) → c.before.loop.at - 1 < 256
 low c = omega (arith, c.before.loop.invariant.0, c.before.before.requires, c.loop-test.true)
 
-loop-again : tie.Need-loop-preserved invariant-loop decreases-loop
-loop-again c =
+loop_again : tie.Need-loop-preserved invariant_loop decreases_loop
+loop_again c =
     let wide = c.before.before in
     let test = wide.before.before.before in
     let loop = test.before.loop in
@@ -32,18 +32,18 @@ loop-again c =
           wide.wide.ensures c.before.deepest.ensures c.one_more.ensures,
     )
 
-returns : tie.Need-returns invariant-loop decreases-loop
+returns : tie.Need-returns invariant_loop decreases_loop
 returns c t h e d =
     let loop = c.before.before.loop in
     c.as-levels.ensures ∙ loop.invariant.2 0 t (omega (arith, c.before.loop-test.false)) (omega arith) h d
 
-pub depth-of-spec : {M : Type 1} → statement M
-depth-of-spec =
+pub depth_of_spec : {M : Type 1} → statement M
+depth_of_spec =
     tie.close
     (tie.spec
-    invariant-loop
-    decreases-loop
-    (λ c. (omega arith, refl, λ p t a z h d. absurd (omega (arith, size-pos t))))
+    invariant_loop
+    decreases_loop
+    (λ c. (omega arith, refl, λ p t a z h d. absurd (omega (arith, size_pos t))))
     (λ c. search rules)
     (λ c. omega (arith, low c.before))
     (λ c. omega (arith, low c.before))
@@ -53,7 +53,7 @@ depth-of-spec =
     (λ c κs. search rules)
     (λ c. low c.before.before.before.before.before)
     (λ c. omega arith)
-    loop-again
+    loop_again
     (λ c. search rules)
     (λ c κs. search rules)
     returns)

@@ -10,9 +10,9 @@ use Rattle.rules.specs.Exchange.{spot}
 use Rattle.branch.proofs.way.is_spot.Statement.{statement}
 use Rattle.branch.proofs.way.is_spot.Tie as tie
 
-pub is-spot-spec : {M : Type 1} → statement M
+pub is_spot_spec : {M : Type 1} → statement M
 unfolding kind_of
-is-spot-spec =
+is_spot_spec =
     tie.close
     (tie.spec
     (λ c κs. search rules)

@@ -4,5 +4,5 @@ use borrow.Author.Rules.{rules}
 use Rattle.branch.proofs.way.or_first.Statement.{statement}
 use Rattle.branch.proofs.way.or_first.Tie as tie
 
-pub or-first-spec : {M : Type 1} → statement M
-or-first-spec = tie.close (tie.spec (λ c κs. search rules) (λ c. omega arith) (λ c. omega (arith, c.wide.ensures)))
+pub or_first_spec : {M : Type 1} → statement M
+or_first_spec = tie.close (tie.spec (λ c κs. search rules) (λ c. omega arith) (λ c. omega (arith, c.wide.ensures)))

@@ -4,8 +4,8 @@ use borrow.Author.Rules.{rules}
 use Rattle.branch.proofs.way.or_last.Statement.{statement}
 use Rattle.branch.proofs.way.or_last.Tie as tie
 
-pub or-last-spec : {M : Type 1} → statement M
-or-last-spec =
+pub or_last_spec : {M : Type 1} → statement M
+or_last_spec =
     tie.close
     (tie.spec
     (λ c. search rules)

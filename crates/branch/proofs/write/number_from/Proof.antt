@@ -1,18 +1,18 @@
 -- Either arm.
 use borrow.Author.Rules.{rules}
-use Rattle.branch.proofs.Sources.{both-old, both-new}
+use Rattle.branch.proofs.Sources.{both_old, both_new}
 use Rattle.branch.proofs.write.number_from.Statement.{statement}
 use Rattle.branch.proofs.write.number_from.Tie as tie
 
-pub number-from-spec : {M : Type 1} → statement M
-number-from-spec =
+pub number_from_spec : {M : Type 1} → statement M
+number_from_spec =
     tie.close
     (tie.spec
     (λ c. search rules)
-    (λ c. let h = both-old _ _ _ _ c.before.before.before.requires c.before.place.given.1 in search rules)
-    (λ c. let k = c.before.before in both-old _ _ _ _ k.before.before.requires k.place.given.1)
+    (λ c. let h = both_old _ _ _ _ c.before.before.before.requires c.before.place.given.1 in search rules)
+    (λ c. let k = c.before.before in both_old _ _ _ _ k.before.before.requires k.place.given.1)
     (λ c. search rules)
-    (λ c. let h = both-new _ _ _ _ c.before.before.before.requires c.before.place2.given.1 in search rules)
-    (λ c. let k = c.before.before in both-new _ _ _ _ k.before.before.requires k.place2.given.1)
+    (λ c. let h = both_new _ _ _ _ c.before.before.before.requires c.before.place2.given.1 in search rules)
+    (λ c. let k = c.before.before in both_new _ _ _ _ k.before.before.requires k.place2.given.1)
     (λ c. rw c.before.before.place.given.1)
     (λ c. rw c.before.before.place2.given.1))

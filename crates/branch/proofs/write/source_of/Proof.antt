@@ -5,8 +5,8 @@ use borrow.Author.Tests.{lt-ltb, le-ltb}
 use Rattle.branch.proofs.write.source_of.Statement.{statement}
 use Rattle.branch.proofs.write.source_of.Tie as tie
 
-pub source-of-spec : {M : Type 1} → statement M
-source-of-spec =
+pub source_of_spec : {M : Type 1} → statement M
+source_of_spec =
     tie.close
     (tie.spec
     (λ c. rw (lt-ltb _ _ c.if1.true))

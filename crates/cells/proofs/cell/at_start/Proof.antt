@@ -8,8 +8,8 @@ use Rattle.cells.proofs.cell.at_start.Tie as tie
 returns : tie.Need-returns
 returns c = rw (sym c.before.zero_bits.ensures ∙ not-true c.before.zero_bits.result c.if1.true)
 
-returns-2 : tie.Need-returns-2
-returns-2 c = rw (sym c.before.zero_bits.ensures ∙ not-false c.before.zero_bits.result c.if1.false)
+returns_2 : tie.Need-returns-2
+returns_2 c = rw (sym c.before.zero_bits.ensures ∙ not-false c.before.zero_bits.result c.if1.false)
 
-pub at-start-spec : {M : Type 1} → statement M
-at-start-spec = tie.close (tie.spec (λ c κs. search rules) returns returns-2)
+pub at_start_spec : {M : Type 1} → statement M
+at_start_spec = tie.close (tie.spec (λ c κs. search rules) returns returns_2)

@@ -7,8 +7,8 @@ use Rattle.cells.proofs.cell.time_allowed.Tie as tie
 returns : tie.Need-returns
 returns c = rw (sym c.before.before.timed.ensures ∙ c.before.if1.true) c.elapsed.ensures
 
-returns-2 : tie.Need-returns-2
-returns-2 c = rw (sym c.before.before.timed.ensures ∙ c.before.if1.false) c.zero_bits.ensures
+returns_2 : tie.Need-returns-2
+returns_2 c = rw (sym c.before.before.timed.ensures ∙ c.before.if1.false) c.zero_bits.ensures
 
-pub time-allowed-spec : {M : Type 1} → statement M
-time-allowed-spec = tie.close (tie.spec (λ c κs. search rules) (λ c κs. search rules) (λ c κs. search rules) returns returns-2)
+pub time_allowed_spec : {M : Type 1} → statement M
+time_allowed_spec = tie.close (tie.spec (λ c κs. search rules) (λ c κs. search rules) (λ c κs. search rules) returns returns_2)

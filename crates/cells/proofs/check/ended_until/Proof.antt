@@ -6,8 +6,8 @@ use Rattle.cells.proofs.check.ended_until.Tie as tie
 returns : tie.Need-returns
 returns c = rw (eq-eqb c.before.args.mark 1 c.if1.true)
 
-returns-2 : tie.Need-returns-2
-returns-2 c = rw (ne_eqb c.before.args.mark 1 c.if1.false)
+returns_2 : tie.Need-returns-2
+returns_2 c = rw (ne_eqb c.before.args.mark 1 c.if1.false)
 
-pub ended-until-spec : {M : Type 1} → statement M
-ended-until-spec = tie.close (tie.spec returns returns-2)
+pub ended_until_spec : {M : Type 1} → statement M
+ended_until_spec = tie.close (tie.spec returns returns_2)

@@ -1,23 +1,23 @@
 -- The entries before i are zero.
 use Prim.Native.Nat.{◌-◌}
 use borrow.Author.Rules.{rules}
-use Rattle.work.proofs.Filling.{Filling, filling-start, filling-more, filling-end}
+use Rattle.work.proofs.Filling.{Filling, filling_start, filling_more, filling_end}
 use Rattle.cells.proofs.clear.clear_counts.Statement.{statement}
 use Rattle.cells.proofs.clear.clear_counts.Tie as tie
 
-abbrev invariant-loop : tie.invariant-loop
-invariant-loop counts₀ n i₀ counts i = Filling 0 counts₀ n i counts
+abbrev invariant_loop : tie.invariant-loop
+invariant_loop counts₀ n i₀ counts i = Filling 0 counts₀ n i counts
 
-abbrev decreases-loop : tie.decreases-loop
-decreases-loop counts₀ n i₀ counts i = n - i
+abbrev decreases_loop : tie.decreases-loop
+decreases_loop counts₀ n i₀ counts i = n - i
 
-loop-again : tie.Need-loop-preserved invariant-loop decreases-loop
-loop-again c = filling-more c.before.before.requires c.before.loop.invariant c.loop-test.true
+loop_again : tie.Need-loop-preserved invariant_loop decreases_loop
+loop_again c = filling_more c.before.before.requires c.before.loop.invariant c.loop-test.true
 
-pub clear-counts-spec : {M : Type 1} → statement M
-clear-counts-spec =
+pub clear_counts_spec : {M : Type 1} → statement M
+clear_counts_spec =
     tie.close
     (tie.spec
-    invariant-loop decreases-loop (λ c. filling-start) (λ c. search rules) (λ c. search rules) (λ c. search rules) (λ c. search rules) loop-again
+    invariant_loop decreases_loop (λ c. filling_start) (λ c. search rules) (λ c. search rules) (λ c. search rules) (λ c. search rules) loop_again
     (λ c. c.before.loop.invariant.long)
-    (λ c. filling-end c.before.loop.invariant c.loop-test.false))
+    (λ c. filling_end c.before.loop.invariant c.loop-test.false))

@@ -1,23 +1,23 @@
 -- The entries before i are zero.
 use Prim.Native.Nat.{◌-◌}
 use borrow.Author.Rules.{rules}
-use Rattle.work.proofs.Filling.{Filling, filling-start, filling-more, filling-end}
+use Rattle.work.proofs.Filling.{Filling, filling_start, filling_more, filling_end}
 use Rattle.cells.proofs.clear.clear_opens.Statement.{statement}
 use Rattle.cells.proofs.clear.clear_opens.Tie as tie
 
-abbrev invariant-loop : tie.invariant-loop
-invariant-loop opens₀ n i₀ opens i = Filling 0 opens₀ n i opens
+abbrev invariant_loop : tie.invariant-loop
+invariant_loop opens₀ n i₀ opens i = Filling 0 opens₀ n i opens
 
-abbrev decreases-loop : tie.decreases-loop
-decreases-loop opens₀ n i₀ opens i = n - i
+abbrev decreases_loop : tie.decreases-loop
+decreases_loop opens₀ n i₀ opens i = n - i
 
-loop-again : tie.Need-loop-preserved invariant-loop decreases-loop
-loop-again c = filling-more c.before.before.requires c.before.loop.invariant c.loop-test.true
+loop_again : tie.Need-loop-preserved invariant_loop decreases_loop
+loop_again c = filling_more c.before.before.requires c.before.loop.invariant c.loop-test.true
 
-pub clear-opens-spec : {M : Type 1} → statement M
-clear-opens-spec =
+pub clear_opens_spec : {M : Type 1} → statement M
+clear_opens_spec =
     tie.close
     (tie.spec
-    invariant-loop decreases-loop (λ c. filling-start) (λ c. search rules) (λ c. search rules) (λ c. search rules) (λ c. search rules) loop-again
+    invariant_loop decreases_loop (λ c. filling_start) (λ c. search rules) (λ c. search rules) (λ c. search rules) (λ c. search rules) loop_again
     (λ c. c.before.loop.invariant.long)
-    (λ c. filling-end c.before.loop.invariant c.loop-test.false))
+    (λ c. filling_end c.before.loop.invariant c.loop-test.false))

@@ -7,8 +7,8 @@ use Rattle.cells.proofs.copy.copy_cells.Tie as tie
 returns : tie.Need-returns
 returns c = c.before.before.before.before.before.before.before.before.copy-few.ensures
 
-returns-2 : tie.Need-returns-2
-returns-2 c =
+returns_2 : tie.Need-returns-2
+returns_2 c =
     let marks = c.before.before.before.before in
     let places = marks.before.before.before.before in
     let times = places.before.before.before.before in
@@ -18,8 +18,8 @@ returns-2 c =
     (marks.before.before.copy-marks.ensures i)
     (c.before.before.copy-sinces.ensures i)
 
-pub copy-cells-spec : {M : Type 1} → statement M
-copy-cells-spec =
+pub copy_cells_spec : {M : Type 1} → statement M
+copy_cells_spec =
     tie.close
     (tie.spec
     (λ c κs. search rules)
@@ -36,4 +36,4 @@ copy-cells-spec =
     (λ c. search rules)
     (λ c. search rules)
     (λ c. search rules)
-    returns-2)
+    returns_2)

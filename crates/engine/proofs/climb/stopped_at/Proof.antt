@@ -8,5 +8,5 @@ returns : tie.Need-returns
 unfolding of_bits
 returns c = refl
 
-pub stopped-at-spec : {M : Type 1} → statement M
-stopped-at-spec = tie.close (tie.spec returns)
+pub stopped_at_spec : {M : Type 1} → statement M
+stopped_at_spec = tie.close (tie.spec returns)

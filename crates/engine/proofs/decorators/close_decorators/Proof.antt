@@ -6,22 +6,22 @@ use borrow.Author.Rules.{rules}
 use borrow.Author.Tests.{not-false}
 use lib.Ieee.{binary64, nan}
 use lib.ListN.{length}
-use Rattle.rules.specs.Tree.{zeroTime}
-use Rattle.work.proofs.Laws.{any-default}
+use Rattle.rules.specs.Tree.{zero_time}
+use Rattle.work.proofs.Laws.{any_default}
 use Rattle.engine.specs.Climbs.{Closes}
-use Rattle.engine.proofs.DecoratorLaws.{close-start, close-on}
+use Rattle.engine.proofs.DecoratorLaws.{close_start, close_on}
 use Rattle.engine.proofs.decorators.close_decorators.Statement.{statement}
 use Rattle.engine.proofs.decorators.close_decorators.Tie as tie
 
-abbrev invariant-loop : tie.invariant-loop
-invariant-loop work₀ limits times₀ opens wholes deep at₀ seen₀ left₀ work times at seen left =
+abbrev invariant_loop : tie.invariant-loop
+invariant_loop work₀ limits times₀ opens wholes deep at₀ seen₀ left₀ work times at seen left =
     Closes binary64 limits.now opens wholes at₀ seen₀ left₀ work₀ times₀ at seen left work times × (length times ≡ length times₀)
 
-abbrev decreases-loop : tie.decreases-loop
-decreases-loop work₀ limits times₀ opens wholes deep at₀ seen₀ left₀ work times at seen left = at
+abbrev decreases_loop : tie.decreases-loop
+decreases_loop work₀ limits times₀ opens wholes deep at₀ seen₀ left₀ work times at seen left = at
 
 abbrev Stands : (tie.invariant-loop → tie.decreases-loop → Type 0) → Type 0
-Stands S = S invariant-loop decreases-loop
+Stands S = S invariant_loop decreases_loop
 
 abbrev loop : Stands tie.After-kind-in → Stands tie.At-loop
 loop c = c.before.before.before
@@ -41,26 +41,26 @@ node_in c =
 abbrev found : Stands tie.After-show → Stands tie.After-node-in
 found c = c.before.before.before.before.before.before.before.before
 
-loop-again : tie.Need-loop-preserved invariant-loop decreases-loop
-loop-again c =
+loop_again : tie.Need-loop-preserved invariant_loop decreases_loop
+loop_again c =
     let gave = c.before.before.before.before in
     let node = found c in
     let at = loop (inside node) in
     let few = at.loop.inv.0.few in
     let some = (inside node).before.before.loop-test.taken in (
-      close-on at.loop.inv.0 some _ _ node.node_in.ensures
-          (any-default (start at).args.wholes.now _ nan zeroTime (omega (arith, few, some, (start at).pre.0.2)))
+      close_on at.loop.inv.0 some _ _ node.node_in.ensures
+          (any_default (start at).args.wholes.now _ nan zero_time (omega (arith, few, some, (start at).pre.0.2)))
           (rw (← (inside node).kind-in.ensures, ← node.before.before.decorates.ensures) (not-false _ node.before.if1.left))
           gave.decorated.ensures c.show.ensures.0 c.show.ensures.1,
       gave.decorated.auto.1.1.0 ∙ at.loop.inv.1,
     )
 
-pub close-decorators-spec : {M : Type 1} → statement M
-close-decorators-spec =
+pub close_decorators_spec : {M : Type 1} → statement M
+close_decorators_spec =
     tie.close
     (tie.spec
-    invariant-loop decreases-loop
-    (λ c. (close-start, refl))
+    invariant_loop decreases_loop
+    (λ c. (close_start, refl))
     (λ c. omega (arith, c.loop-test.true))
     (λ c. omega (arith, c.before.loop.invariant.0.few, (start c.before).pre.0.0))
     (λ c. let at = c.before.before in omega (arith, at.loop.invariant.0.few, c.before.loop-test.true, (start at).requires.0.1))
@@ -78,6 +78,6 @@ close-decorators-spec =
     (λ c κs. node_in c.before.before.before.before.before.before.before)
     (λ c. omega (arith, (inside (found c)).before.before.loop-test.taken))
     (λ c. omega (arith, (inside (found c)).before.before.loop-test.taken))
-    loop-again
+    loop_again
     (λ c. c.before.loop.invariant.1)
     (λ c. c.before.loop.invariant.0))

@@ -6,5 +6,5 @@ use Rattle.engine.proofs.decorators.decorating.Tie as tie
 returns : tie.Need-returns
 returns c = rw c.entered.ensures
 
-pub decorating-spec : {M : Type 1} → statement M
-decorating-spec = tie.close (tie.spec (λ c κs. search rules) (λ c. search rules) returns)
+pub decorating_spec : {M : Type 1} → statement M
+decorating_spec = tie.close (tie.spec (λ c κs. search rules) (λ c. search rules) returns)

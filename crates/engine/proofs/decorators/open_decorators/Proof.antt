@@ -6,22 +6,22 @@ use borrow.Author.Rules.{rules}
 use borrow.Author.Tests.{not-false}
 use Rattle.rules.specs.Levels.{levels}
 use Rattle.engine.specs.Climbs.{Next}
-use Rattle.engine.proofs.DecoratorLaws.{WayOpen, any_way, open-start, open-on, opened}
+use Rattle.engine.proofs.DecoratorLaws.{WayOpen, any_way, open_start, open_on, opened}
 use Rattle.engine.proofs.decorators.open_decorators.Statement.{statement}
 use Rattle.engine.proofs.decorators.open_decorators.Tie as tie
 
-abbrev invariant-loop : tie.invariant-loop
-invariant-loop work₀ opens₀ counts₀ wholes₀ rests₀ deep p dt at₀ q₀ work opens counts wholes rests at q =
+abbrev invariant_loop : tie.invariant-loop
+invariant_loop work₀ opens₀ counts₀ wholes₀ rests₀ deep p dt at₀ q₀ work opens counts wholes rests at q =
     WayOpen binary64 deep p dt (levels opens₀ counts₀ wholes₀ rests₀) work₀ at q (levels opens counts wholes rests) work
 
-abbrev decreases-loop : tie.decreases-loop
-decreases-loop work₀ opens₀ counts₀ wholes₀ rests₀ deep p dt at₀ q₀ work opens counts wholes rests at q = 16 - at
+abbrev decreases_loop : tie.decreases-loop
+decreases_loop work₀ opens₀ counts₀ wholes₀ rests₀ deep p dt at₀ q₀ work opens counts wholes rests at q = 16 - at
 
 abbrev Stands : (tie.invariant-loop → tie.decreases-loop → Type 0) → Type 0
-Stands S = S invariant-loop decreases-loop
+Stands S = S invariant_loop decreases_loop
 
-loop-holds : tie.Need-loop-init invariant-loop decreases-loop
-loop-holds c = let start = c.before.before.before.before in open-start _ _ _ _ _ start.requires.0 start.requires.1.0 start.requires.1.1
+loop_holds : tie.Need-loop-init invariant_loop decreases_loop
+loop_holds c = let start = c.before.before.before.before in open_start _ _ _ _ _ start.requires.0 start.requires.1.0 start.requires.1.1
 
 -- the decorator that is opened
 abbrev loop : Stands tie.Else1 → Stands tie.At-loop
@@ -33,8 +33,8 @@ next c = c.before.next-opens.ensures (not-false _ c.if1.false)
 abbrev opening : Stands tie.After-decorating → Stands tie.Else1
 opening c = c.before.before.before.before
 
-keep-requires : tie.Need-keep-requires invariant-loop decreases-loop
-keep-requires c κs =
+keep_requires : tie.Need-keep-requires invariant_loop decreases_loop
+keep_requires c κs =
     let made = c.before.before.before.before in
     let way = (loop (opening made)).loop.inv in
     let held = (any_way way).held in
@@ -43,23 +43,23 @@ keep-requires c κs =
 abbrev made : Stands tie.After-slice-known8 → Stands tie.After-decorating
 made c = c.before.before.before.before.before.before.before.before.before.before.before.before.before
 
-loop-again : tie.Need-loop-preserved invariant-loop decreases-loop
-loop-again c =
+loop_again : tie.Need-loop-preserved invariant_loop decreases_loop
+loop_again c =
     let level = made c in
     let keep = c.before.before.before.before.before.before.before.before in
     let else = opening level in
-    open-on (loop else).loop.inv (next else) level.before.kind-of.ensures level.decorating.ensures keep.keep.ensures
+    open_on (loop else).loop.inv (next else) level.before.kind-of.ensures level.decorating.ensures keep.keep.ensures
 
-pub open-decorators-spec : {M : Type 1} → statement M
-open-decorators-spec =
+pub open_decorators_spec : {M : Type 1} → statement M
+open_decorators_spec =
     tie.close
     (tie.spec
-    invariant-loop decreases-loop loop-holds
+    invariant_loop decreases_loop loop_holds
     (λ c κs. c.before.loop.invariant.place)
-    (λ c. (any_way c.before.before.before.loop.invariant).opens-long)
-    (λ c. (any_way c.before.before.before.loop.invariant).counts-long)
-    (λ c. (any_way c.before.before.before.loop.invariant).wholes-long)
-    (λ c. (any_way c.before.before.before.loop.invariant).rests-long)
+    (λ c. (any_way c.before.before.before.loop.invariant).opens_long)
+    (λ c. (any_way c.before.before.before.loop.invariant).counts_long)
+    (λ c. (any_way c.before.before.before.loop.invariant).wholes_long)
+    (λ c. (any_way c.before.before.before.loop.invariant).rests_long)
     (λ c. opened c.before.before.before.loop.invariant)
     (λ c. search rules)
     (λ c. omega (arith, (loop c.before).loop.inv.place))
@@ -69,8 +69,8 @@ open-decorators-spec =
     (λ c. omega (arith, (next (opening c)).some))
     (λ c. search rules)
     (λ c. omega (arith, (loop (opening c.before.before.before.before)).loop.inv.some))
-    keep-requires
+    keep_requires
     (λ c. omega (arith, (next (opening (made c))).few))
     (λ c. omega (arith, (next (opening (made c))).place))
     (λ c. omega (arith, (next (opening (made c))).few))
-    loop-again)
+    loop_again)

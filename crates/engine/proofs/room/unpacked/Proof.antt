@@ -6,5 +6,5 @@ use Rattle.engine.proofs.room.unpacked.Tie as tie
 returns : tie.Need-returns
 returns c = rw (c.before.kind-in.ensures, c.node_in.ensures)
 
-pub unpacked-spec : {M : Type 1} → statement M
-unpacked-spec = tie.close (tie.spec (λ c κs. search rules) (λ c κs. search rules) (λ c. search rules) returns)
+pub unpacked_spec : {M : Type 1} → statement M
+unpacked_spec = tie.close (tie.spec (λ c κs. search rules) (λ c κs. search rules) (λ c. search rules) returns)

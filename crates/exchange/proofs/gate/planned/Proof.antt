@@ -5,7 +5,7 @@ use Prim.Native.Nat.{ℕ}
 use native.Mathlib.Omega.{arith}
 use borrow.Author.Rules.{rules}
 use Rattle.rules.specs.Call.{run}
-use Rattle.rules.specs.Exchange.{Room, room, GivenExchange, givenExchange}
+use Rattle.rules.specs.Exchange.{Room, room, GivenExchange, given_exchange}
 use Rattle.exchange.specs.Due.{Due}
 use Rattle.exchange.proofs.Cuts as cuts
 use Rattle.exchange.proofs.gate.planned.Statement.{statement}
@@ -18,7 +18,7 @@ entry c = c.before.before.before.before.before.before.before.before.before.befor
 abbrev call : tie.After-checks → Room → GivenExchange
 call c to =
     let a = (entry c).args in
-    givenExchange a.«record» a.kinds.now a.ns.now a.limits.now (run a.times.now a.places.now a.marks.now a.sinces.now) a.at
+    given_exchange a.«record» a.kinds.now a.ns.now a.limits.now (run a.times.now a.places.now a.marks.now a.sinces.now) a.at
     a.new-kinds.now a.new-ns.now a.new-limits.now to
 
 abbrev none : Room
@@ -28,12 +28,12 @@ none = room [] [] [] [] [] [] []
 abbrev ends : tie.After-checks → List ℕ
 ends c = c.checks.new.1.1.1.1.0
 
-abbrev newEnds : tie.After-checks → List ℕ
-newEnds c = c.checks.new.1.1.1.1.1.1.1.1.1.1.1.1.1.0
+abbrev new_ends : tie.After-checks → List ℕ
+new_ends c = c.checks.new.1.1.1.1.1.1.1.1.1.1.1.1.1.0
 
 -- the trees of both tables
-due : (c : tie.After-gate2) (to : Room) → let k = c.before.before in Due (call k to) (ends k) (newEnds k) c.gate2.given.0.0 c.gate2.given.0.1.0
-due c to = let k = c.before.before in cuts.opened (call k to) (ends k) (newEnds k) (k.checks.ensures to) c.gate2.given.1
+due : (c : tie.After-gate2) (to : Room) → let k = c.before.before in Due (call k to) (ends k) (new_ends k) c.gate2.given.0.0 c.gate2.given.0.1.0
+due c to = let k = c.before.before in cuts.opened (call k to) (ends k) (new_ends k) (k.checks.ensures to) c.gate2.given.1
 
 -- the way leads to the node
 abbrev trees : tie.After-way-to → tie.After-gate2
@@ -47,42 +47,42 @@ way c = (led c).before.before
 
 -- ---- the needs
 returns : tie.Need-returns
-returns c to e = let w = c.before.before in cuts.state-held (due (trees w) to) w.way-to.ensures c.enum_told.given.1
+returns c to e = let w = c.before.before in cuts.state_held (due (trees w) to) w.way-to.ensures c.enum_told.given.1
 
-returns-2 : tie.Need-returns-2
-returns-2 c to e = let w = way c.before in cuts.too_many (due (trees w) to) w.way-to.ensures (led c.before).above.given.1 c.before.wide.ensures c.if1.true
+returns_2 : tie.Need-returns-2
+returns_2 c to e = let w = way c.before in cuts.too_many (due (trees w) to) w.way-to.ensures (led c.before).above.given.1 c.before.wide.ensures c.if1.true
 
-add-if2 : tie.Need-overflow-add-if2
-add-if2 c =
+add_if2 : tie.Need-overflow-add-if2
+add_if2 c =
     let s = c.before.before.before in
     let w = way s in
-    omega (arith, cuts.small-sum (due (trees w) none) w.way-to.ensures (led s).above.given.1 s.wide.ensures c.before.before.if1.false c.depth-of.ensures)
+    omega (arith, cuts.small_sum (due (trees w) none) w.way-to.ensures (led s).above.given.1 s.wide.ensures c.before.before.if1.false c.depth-of.ensures)
 
-returns-3 : tie.Need-returns-3
-returns-3 c to e =
+returns_3 : tie.Need-returns-3
+returns_3 c to e =
     let few = c.before.before.before in
     let s = few.before in
     let w = way s in
-    cuts.too-deep (due (trees w) to) w.way-to.ensures (led s).above.given.1 s.wide.ensures few.if1.false c.before.depth-of.ensures c.if2.true
+    cuts.too_deep (due (trees w) to) w.way-to.ensures (led s).above.given.1 s.wide.ensures few.if1.false c.before.depth-of.ensures c.if2.true
 
-returns-4 : tie.Need-returns-4
-returns-4 c to e =
+returns_4 : tie.Need-returns-4
+returns_4 c to e =
     let flat = c.before in
     let few = flat.before.before.before in
     let s = few.before in
     let w = way s in
-    cuts.short-room (due (trees w) to) w.way-to.ensures (led s).above.given.1 s.wide.ensures few.if1.false flat.before.depth-of.ensures flat.if2.false (rw e c.if3.true)
+    cuts.short_room (due (trees w) to) w.way-to.ensures (led s).above.given.1 s.wide.ensures few.if1.false flat.before.depth-of.ensures flat.if2.false (rw e c.if3.true)
 
-returns-6 : tie.Need-returns-6
-returns-6 c to e =
+returns_6 : tie.Need-returns-6
+returns_6 c to e =
     let flat = c.before in
     let few = flat.before.before.before in
     let s = few.before in
     let w = way s in
     cuts.planned (due (trees w) to) w.way-to.ensures (led s).above.given.1 s.wide.ensures few.if1.false flat.before.depth-of.ensures flat.if2.false (rw e c.if3.false)
 
-pub planned-spec : {M : Type 1} → statement M
-planned-spec =
+pub planned_spec : {M : Type 1} → statement M
+planned_spec =
     tie.close
     (tie.spec
     (λ c κs. (refl, refl))
@@ -98,10 +98,10 @@ planned-spec =
     (λ c. let d = due (trees (way c)) none in omega (arith, cuts.ends_at d, c.wide.ensures))
     (λ c. let d = due (trees (way c)) none in omega (arith, cuts.ends_low d, c.wide.ensures))
     (λ c. let d = due (trees (way c)) none in omega (arith, d.old.few, d.new.few))
-    returns-2
+    returns_2
     (λ c κs. (due (trees (way c.before.before)) none).new.few)
-    add-if2
-    returns-3
-    returns-4
-    (λ c to e. let k = c.before.before.before in cuts.refused (call k to) (ends k) (newEnds k) (k.checks.ensures to) c.before.gate.given.1)
-    returns-6)
+    add_if2
+    returns_3
+    returns_4
+    (λ c to e. let k = c.before.before.before in cuts.refused (call k to) (ends k) (new_ends k) (k.checks.ensures to) c.before.gate.given.1)
+    returns_6)

@@ -4,8 +4,8 @@ use borrow.Author.Rules.{rules}
 use Rattle.frames.proofs.order.frame_admitted.Statement.{statement}
 use Rattle.frames.proofs.order.frame_admitted.Tie as tie
 
-pub frame-admitted-spec : {M : Type 1} → statement M
-frame-admitted-spec =
+pub frame_admitted_spec : {M : Type 1} → statement M
+frame_admitted_spec =
     tie.close
     (tie.spec
     (λ c. search rules) (λ c. search rules) (λ c. search rules) (λ c. search rules) (λ c. search rules)

@@ -1,7 +1,7 @@
 -- `malformed` meets its contract: its fields stand one after another up to the line's end, or no such fields do.
 use mathlib.Core.Path.{refl}
 use mathlib.Core.List.{List, [], ◌∷◌}
-use Rattle.frames.proofs.Bodies.{Seen, Chain, ended, not-ended, body_is, body-not}
+use Rattle.frames.proofs.Bodies.{Seen, Chain, ended, not_ended, body_is, body_not}
 use borrow.Author.Rules.{rules}
 use Rattle.frames.proofs.reader.malformed.Statement.{statement}
 use Rattle.frames.proofs.reader.malformed.Tie as tie
@@ -19,8 +19,8 @@ chain d = (d.before.field.ensures, refl)
 returns : tie.Need-returns
 returns c = let d = c.before.before in body_is 0x8f _ _ _ _ (read d) refl refl refl (chain d) (ended _ _ c.before.if1.true d.ends.ensures)
 
-returns-2 : tie.Need-returns-2
-returns-2 c = let d = c.before in body-not 0x8f _ _ _ (read d) (λ fs xs ys. refl) (chain d) (not-ended _ _ c.if1.false d.ends.ensures)
+returns_2 : tie.Need-returns-2
+returns_2 c = let d = c.before in body_not 0x8f _ _ _ (read d) (λ fs xs ys. refl) (chain d) (not_ended _ _ c.if1.false d.ends.ensures)
 
-pub malformed-spec : {M : Type 1} → statement M
-malformed-spec = tie.close (tie.spec (λ c κs. search rules) (λ c κs. search rules) (λ c. search rules) returns returns-2)
+pub malformed_spec : {M : Type 1} → statement M
+malformed_spec = tie.close (tie.spec (λ c κs. search rules) (λ c κs. search rules) (λ c. search rules) returns returns_2)

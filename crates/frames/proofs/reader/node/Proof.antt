@@ -1,7 +1,7 @@
 -- `node` meets its contract: its fields stand one after another up to the line's end, or no such fields do.
 use mathlib.Core.Path.{refl}
 use mathlib.Core.List.{List, [], ◌∷◌}
-use Rattle.frames.proofs.Bodies.{Seen, Chain, ended, not-ended, body_is, body-not}
+use Rattle.frames.proofs.Bodies.{Seen, Chain, ended, not_ended, body_is, body_not}
 use borrow.Author.Rules.{rules}
 use Rattle.frames.proofs.reader.node.Statement.{statement}
 use Rattle.frames.proofs.reader.node.Tie as tie
@@ -22,8 +22,8 @@ returns c =
     let d = test.before in
     body_is 0x01 _ _ _ _ (read d) refl refl refl (chain d) (ended _ _ test.if1.true d.ends.ensures)
 
-returns-2 : tie.Need-returns-2
-returns-2 c = let d = c.before in body-not 0x01 _ _ _ (read d) (λ fs xs ys. refl) (chain d) (not-ended _ _ c.if1.false d.ends.ensures)
+returns_2 : tie.Need-returns-2
+returns_2 c = let d = c.before in body_not 0x01 _ _ _ (read d) (λ fs xs ys. refl) (chain d) (not_ended _ _ c.if1.false d.ends.ensures)
 
-pub node-spec : {M : Type 1} → statement M
-node-spec = tie.close (tie.spec (λ c κs. search rules) (λ c κs. search rules) (λ c κs. search rules) (λ c κs. search rules) (λ c. search rules) (λ c. search rules) returns returns-2)
+pub node_spec : {M : Type 1} → statement M
+node_spec = tie.close (tie.spec (λ c κs. search rules) (λ c κs. search rules) (λ c κs. search rules) (λ c κs. search rules) (λ c. search rules) (λ c. search rules) returns returns_2)

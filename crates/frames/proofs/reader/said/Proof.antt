@@ -2,11 +2,11 @@
 use mathlib.Core.Path.{◌≡◌, refl}
 use mathlib.Core.List.{List, [], ◌∷◌}
 use Prim.Native.Nat.{ℕ}
-use Rattle.frames.specs.Line.{Field, saidNo, body}
+use Rattle.frames.specs.Line.{Field, said_no, body}
 use Rattle.frames.specs.Back.{frame_of}
 use Rattle.frames.specs.declared.Call.{Call}
 use Rattle.frames.specs.declared.Call.TheVariants.{Tick, Restart}
-use Rattle.frames.proofs.Bodies.{Seen, Chain, shaped, ended, not-ended, body_is, body-not}
+use Rattle.frames.proofs.Bodies.{Seen, Chain, shaped, ended, not_ended, body_is, body_not}
 use borrow.Author.Rules.{rules}
 use Rattle.frames.proofs.reader.said.Statement.{statement}
 use Rattle.frames.proofs.reader.said.Tie as tie
@@ -30,7 +30,7 @@ read d =
 
 -- as many as either call has
 shape : (d : tie.After-ends) (call : Call) (fs : List Field) (xs ys : List ℕ)
-    → let B = body (frame_of (saidNo call) fs) xs ys in shaped (read d) B ≡ B
+    → let B = body (frame_of (said_no call) fs) xs ys in shaped (read d) B ≡ B
 shape d Tick fs xs ys = refl
 shape d Restart fs xs ys = refl
 
@@ -48,19 +48,19 @@ returns : tie.Need-returns
 returns c =
     let test = c.before.before.before.before.before in
     let d = test.before in
-    body_is (saidNo (start d).args.call) _ _ _ _ (read d) refl refl refl (chain d) (ended _ _ test.if1.true d.ends.ensures)
+    body_is (said_no (start d).args.call) _ _ _ _ (read d) refl refl refl (chain d) (ended _ _ test.if1.true d.ends.ensures)
 
-returns-2 : tie.Need-returns-2
-returns-2 c =
+returns_2 : tie.Need-returns-2
+returns_2 c =
     let d = c.before in
     let call = (start d).args.call in
-    body-not (saidNo call) _ _ _ (read d) (shape d call) (chain d) (not-ended _ _ c.if1.false d.ends.ensures)
+    body_not (said_no call) _ _ _ (read d) (shape d call) (chain d) (not_ended _ _ c.if1.false d.ends.ensures)
 
-pub said-spec : {M : Type 1} → statement M
-said-spec =
+pub said_spec : {M : Type 1} → statement M
+said_spec =
     tie.close
     (tie.spec
     (λ c κs. search rules) (λ c κs. search rules) (λ c κs. search rules) (λ c κs. search rules) (λ c κs. search rules) (λ c κs. search rules) (λ c κs. search rules)
     (λ c. search rules) (λ c. search rules) (λ c. search rules) (λ c. search rules) (λ c. search rules)
     returns
-    returns-2)
+    returns_2)

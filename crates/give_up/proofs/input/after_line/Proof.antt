@@ -5,18 +5,18 @@ use lib.ListN.{length}
 use Rattle.give_up.proofs.input.after_line.Statement.{statement}
 use Rattle.give_up.proofs.input.after_line.Tie as tie
 
-abbrev invariant-loop : tie.invariant-loop
-invariant-loop input start i₀ i = start ≤ i
+abbrev invariant_loop : tie.invariant-loop
+invariant_loop input start i₀ i = start ≤ i
 
-abbrev decreases-loop : tie.decreases-loop
-decreases-loop input start i₀ i = length input - i
+abbrev decreases_loop : tie.decreases-loop
+decreases_loop input start i₀ i = length input - i
 
-pub after-line-spec : {M : Type 1} → statement M
-after-line-spec =
+pub after_line_spec : {M : Type 1} → statement M
+after_line_spec =
     tie.close
     (tie.spec
-    invariant-loop
-    decreases-loop
+    invariant_loop
+    decreases_loop
     (λ c. omega arith)
     (λ c. omega arith)
     (λ c. omega arith)

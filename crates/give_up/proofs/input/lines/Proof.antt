@@ -5,30 +5,30 @@ use lib.ListN.{length}
 use Rattle.give_up.proofs.input.lines.Statement.{statement}
 use Rattle.give_up.proofs.input.lines.Tie as tie
 
-abbrev invariant-loop : tie.invariant-loop
-invariant-loop input kinds₀ ns₀ limits₀ statuses₀ patterns₀ asked₀ start₀ kinds ns limits statuses patterns asked start = Unit {0}
+abbrev invariant_loop : tie.invariant-loop
+invariant_loop input kinds₀ ns₀ limits₀ statuses₀ patterns₀ asked₀ start₀ kinds ns limits statuses patterns asked start = Unit {0}
 
-abbrev decreases-loop : tie.decreases-loop
-decreases-loop input kinds₀ ns₀ limits₀ statuses₀ patterns₀ asked₀ start₀ kinds ns limits statuses patterns asked start =
+abbrev decreases_loop : tie.decreases-loop
+decreases_loop input kinds₀ ns₀ limits₀ statuses₀ patterns₀ asked₀ start₀ kinds ns limits statuses patterns asked start =
     length input - start
 
 -- A turn that goes on has passed a line.
-loop-less : tie.Need-loop-smaller invariant-loop decreases-loop
-loop-less c =
+loop_less : tie.Need-loop-smaller invariant_loop decreases_loop
+loop_less c =
     let h = c.before.before.before.before.before.before.before.if1.false in
     omega (arith, h, c.before.before.before.before.before.before.before.before.after_Line.ensures h)
 
-pub lines-spec : {M : Type 1} → statement M
-lines-spec =
+pub lines_spec : {M : Type 1} → statement M
+lines_spec =
     tie.close
     (tie.spec
-    invariant-loop
-    decreases-loop
+    invariant_loop
+    decreases_loop
     (λ c. tt)
     (λ c κs. tt)
     (λ c κs. tt)
     (λ c κs. tt)
-    loop-less
+    loop_less
     (λ c. tt)
     (λ c. tt)
     (λ c. tt))

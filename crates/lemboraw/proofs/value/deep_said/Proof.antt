@@ -3,7 +3,7 @@ use borrow.Author.Rules.{rules}
 use Rattle.rules.specs.declared.event.Event.{Event}
 use Rattle.rules.specs.Call.{Left, given, run}
 use Rattle.refusals.specs.Due.{call_of}
-use Rattle.host.proofs.Laws.{deep-told}
+use Rattle.host.proofs.Laws.{deep_told}
 use Rattle.lemboraw.proofs.value.deep_said.Statement.{statement}
 use Rattle.lemboraw.proofs.value.deep_said.Tie as tie
 
@@ -27,10 +27,10 @@ returns : tie.Need-returns
 returns c =
     let v = called c in
     let e = begun v in
-    deep-told (call (start e)) e.event-of.ensures (λ i. (v.value.ensures i).left') c.in-numbers.ensures
+    deep_told (call (start e)) e.event-of.ensures (λ i. (v.value.ensures i).left') c.in-numbers.ensures
 
-pub deep-said-spec : {M : Type 1} → statement M
-deep-said-spec =
+pub deep_said_spec : {M : Type 1} → statement M
+deep_said_spec =
     tie.close
     (tie.spec
     (λ c κs. search rules)

@@ -2,9 +2,9 @@
 use borrow.Author.Rules.{rules}
 use Rattle.rules.specs.declared.event.Event.{Event}
 use Rattle.rules.specs.Call.{given, run}
-use Rattle.rules.specs.Levels.{FlatLeft, levels, withRoom}
+use Rattle.rules.specs.Levels.{FlatLeft, levels, with_room}
 use Rattle.refusals.specs.Due.{call_of}
-use Rattle.host.proofs.Laws.{flat-told}
+use Rattle.host.proofs.Laws.{flat_told}
 use Rattle.lemboraw.proofs.value.flat_said.Statement.{statement}
 use Rattle.lemboraw.proofs.value.flat_said.Tie as tie
 
@@ -23,7 +23,7 @@ start c = c.before.before.before.before.before.before.before.before.before.befor
 abbrev call : tie.Start → Event → FlatLeft
 call c e =
     let a = c.args in
-    withRoom (call_of a.fresh) (given a.«record» a.kinds.now a.ns.now a.limits.now (run a.times.now a.places.now a.marks.now a.sinces.now)
+    with_room (call_of a.fresh) (given a.«record» a.kinds.now a.ns.now a.limits.now (run a.times.now a.places.now a.marks.now a.sinces.now)
     (run a.spare-times.now a.spare-places.now a.spare-marks.now a.spare-sinces.now) a.board.now e a.fuel a.statuses.now a.leftovers.now)
     (levels a.opens.now a.counts.now a.wholes.now a.rests.now)
 
@@ -31,10 +31,10 @@ returns : tie.Need-returns
 returns c =
     let v = called c in
     let e = begun v in
-    flat-told (call (start e)) e.event-of.ensures v.value.ensures c.in-numbers.ensures
+    flat_told (call (start e)) e.event-of.ensures v.value.ensures c.in-numbers.ensures
 
-pub flat-said-spec : {M : Type 1} → statement M
-flat-said-spec =
+pub flat_said_spec : {M : Type 1} → statement M
+flat_said_spec =
     tie.close
     (tie.spec
     (λ c κs. search rules)

@@ -5,14 +5,14 @@ use Rattle.rules.specs.Kinds.{kind_of, is}
 use Rattle.rules.specs.Table.{cleaned}
 use Rattle.rules.specs.declared.behavior.Kind.TheVariants.{After}
 use Rattle.rules.proofs.Arms.{gives}
-use Rattle.limits.proofs.WholeTimes.{whole-some, whole-none}
-use Rattle.limits.proofs.Nodes.{row-timed, row-after, row_other}
+use Rattle.limits.proofs.WholeTimes.{whole_some, whole_none}
+use Rattle.limits.proofs.Nodes.{row_timed, row_after, row_other}
 use Rattle.limits.proofs.node.bounded.Statement.{statement}
 use Rattle.limits.proofs.node.bounded.Tie as tie
 
-returns-4 : tie.Need-returns-4
+returns_4 : tie.Need-returns-4
 unfolding kind_of
-returns-4 c =
+returns_4 c =
     let a = c.before.before.before.args in
     let others : List ℕ = 0 ∷ 1 ∷ 2 ∷ 3 ∷ 4 ∷ 5 ∷ 6 ∷ 7 ∷ 8 ∷ 9 ∷ 10 ∷ 11 ∷ 12 ∷ 13 ∷ 14 ∷ 16 ∷ [] in
     let not_after = gives (λ k. is k After) others a.kind c.match2.keys2
@@ -26,7 +26,7 @@ bounded_spec = tie.close (tie.spec
     (λ c. search rules)
     (λ c. search rules)
     (λ c. search rules)
-    (λ c. search (row-timed, whole-some))
-    (λ c. search (row-timed, whole-none))
-    (λ c. search row-after)
-    returns-4)
+    (λ c. search (row_timed, whole_some))
+    (λ c. search (row_timed, whole_none))
+    (λ c. search row_after)
+    returns_4)

@@ -8,5 +8,5 @@ returns : tie.Need-returns
 unfolding pack
 returns c = search rules
 
-pub word-of-spec : {M : Type 1} → statement M
-word-of-spec = tie.close (tie.spec (λ c. search rules) (λ c. search rules) (λ c. search rules) (λ c. search rules) returns)
+pub word_of_spec : {M : Type 1} → statement M
+word_of_spec = tie.close (tie.spec (λ c. search rules) (λ c. search rules) (λ c. search rules) (λ c. search rules) returns)

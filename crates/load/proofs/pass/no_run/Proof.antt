@@ -5,8 +5,8 @@ use borrow.Author.Rules.{rules}
 use Rattle.load.proofs.pass.no_run.Statement.{statement}
 use Rattle.load.proofs.pass.no_run.Tie as tie
 
-returns-2 : tie.Need-returns-2
-returns-2 c e = absurd (false≢true (sym c.if1.false ∙ e))
+returns_2 : tie.Need-returns-2
+returns_2 c e = absurd (false≢true (sym c.if1.false ∙ e))
 
-pub no-run-spec : {M : Type 1} → statement M
-no-run-spec = tie.close (tie.spec (λ c e. refl) returns-2)
+pub no_run_spec : {M : Type 1} → statement M
+no_run_spec = tie.close (tie.spec (λ c e. refl) returns_2)

@@ -5,18 +5,18 @@ use borrow.Author.Rules.{rules}
 use Rattle.load.proofs.pass.run_end.Statement.{statement}
 use Rattle.load.proofs.pass.run_end.Tie as tie
 
-returns-2 : tie.Need-returns-2
-returns-2 c = (search rules, search rules, search rules, λ e. absurd (false≢true (sym c.before.before.before.if1.false ∙ e)))
+returns_2 : tie.Need-returns-2
+returns_2 c = (search rules, search rules, search rules, λ e. absurd (false≢true (sym c.before.before.before.if1.false ∙ e)))
 
-returns-3 : tie.Need-returns-3
-returns-3 c = (search rules, search rules, search rules, λ e. absurd (false≢true (sym c.before.before.before.before.if1.false ∙ e)))
+returns_3 : tie.Need-returns-3
+returns_3 c = (search rules, search rules, search rules, λ e. absurd (false≢true (sym c.before.before.before.before.if1.false ∙ e)))
 
 -- the next group is not far, and the run is long
-returns-4 : tie.Need-returns-4
-returns-4 c = (search rules, search rules, search rules, λ e. absurd (false≢true (sym c.before.before.before.before.if1.false ∙ e)))
+returns_4 : tie.Need-returns-4
+returns_4 c = (search rules, search rules, search rules, λ e. absurd (false≢true (sym c.before.before.before.before.if1.false ∙ e)))
 
-pub run-end-spec : {M : Type 1} → statement M
-run-end-spec =
+pub run_end_spec : {M : Type 1} → statement M
+run_end_spec =
     tie.close
     (tie.spec
     (λ c. search rules)
@@ -25,8 +25,8 @@ run-end-spec =
     (λ c κs. search rules)
     (λ c. search rules)
     (λ c. search rules)
-    returns-2
-    returns-3
+    returns_2
+    returns_3
     (λ c. search rules)
     (λ c. search rules)
-    returns-4)
+    returns_4)

@@ -6,8 +6,8 @@ use Rattle.load.proofs.pass.scan.Tie as tie
 returns : tie.Need-returns
 returns c = rw c.before.before.if1.true (c.look-fresh.ensures _ _ _)
 
-returns-2 : tie.Need-returns-2
-returns-2 c = rw c.before.before.if1.false c.look.ensures
+returns_2 : tie.Need-returns-2
+returns_2 c = rw c.before.before.if1.false c.look.ensures
 
-pub scan-spec : {M : Type 1} → statement M
-scan-spec = tie.close (tie.spec (λ c κs. search rules) returns (λ c κs. search rules) returns-2)
+pub scan_spec : {M : Type 1} → statement M
+scan_spec = tie.close (tie.spec (λ c κs. search rules) returns (λ c κs. search rules) returns_2)

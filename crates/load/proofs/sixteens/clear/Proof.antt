@@ -10,17 +10,17 @@ use lib.Seq.{get_or-set_same, get_or-set_other}
 use Rattle.load.proofs.sixteens.clear.Statement.{statement}
 use Rattle.load.proofs.sixteens.clear.Tie as tie
 
-abbrev invariant-loop : tie.invariant-loop
-invariant-loop plain₀ b₀ plain b = (b ≤ 16) × (length plain ≡ 16) × ((k : ℕ) → k < b → get_or plain k false ≡ false)
+abbrev invariant_loop : tie.invariant-loop
+invariant_loop plain₀ b₀ plain b = (b ≤ 16) × (length plain ≡ 16) × ((k : ℕ) → k < b → get_or plain k false ≡ false)
 
-abbrev decreases-loop : tie.decreases-loop
-decreases-loop plain₀ b₀ plain b = 16 - b
+abbrev decreases_loop : tie.decreases-loop
+decreases_loop plain₀ b₀ plain b = 16 - b
 
-loop-holds : tie.Need-loop-init invariant-loop decreases-loop
-loop-holds c = (omega arith, c.requires, λ k h. absurd (omega arith))
+loop_holds : tie.Need-loop-init invariant_loop decreases_loop
+loop_holds c = (omega arith, c.requires, λ k h. absurd (omega arith))
 
-loop-again : tie.Need-loop-preserved invariant-loop decreases-loop
-loop-again c =
+loop_again : tie.Need-loop-preserved invariant_loop decreases_loop
+loop_again c =
     let at = c.before in
     let inv = at.loop.invariant in
     let ps = at.loop.plain in
@@ -30,10 +30,10 @@ loop-again c =
       below_more _ b (λ k h. get_or-set_other ps b k false false (omega (arith, h)) ∙ inv.2 k h) (get_or-set_same ps b false false (omega arith)),
     )
 
-returns : tie.Need-returns invariant-loop decreases-loop
+returns : tie.Need-returns invariant_loop decreases_loop
 returns c = let inv = c.before.loop.invariant in (inv.1, λ b h. inv.2 b (omega arith))
 
 pub clear_spec : {M : Type 1} → statement M
 clear_spec =
     tie.close
-    (tie.spec invariant-loop decreases-loop loop-holds (λ c. search rules) (λ c. search rules) (λ c. search rules) loop-again returns)
+    (tie.spec invariant_loop decreases_loop loop_holds (λ c. search rules) (λ c. search rules) (λ c. search rules) loop_again returns)

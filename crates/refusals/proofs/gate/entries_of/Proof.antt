@@ -6,15 +6,15 @@ use Rattle.refusals.proofs.gate.entries_of.Tie as tie
 returns : tie.Need-returns
 returns c = rw (c.before.before.before.if1.true, ← c.before.before.least.ensures, ← c.before.least2.ensures) c.least3.ensures
 
-returns-2 : tie.Need-returns-2
-returns-2 c = rw c.if1.false
+returns_2 : tie.Need-returns-2
+returns_2 c = rw c.if1.false
 
-pub entries-of-spec : {M : Type 1} → statement M
-entries-of-spec =
+pub entries_of_spec : {M : Type 1} → statement M
+entries_of_spec =
     tie.close
     (tie.spec
     (λ c κs. search rules)
     (λ c κs. search rules)
     (λ c κs. search rules)
     returns
-    returns-2)
+    returns_2)

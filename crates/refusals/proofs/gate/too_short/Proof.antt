@@ -19,15 +19,15 @@ less a n = elim (dec_lt a n) [
 returns : tie.Need-returns
 returns c = rw (sym c.before.long-enough.ensures ∙ not-true _ c.if1.true)
 
-returns-2 : tie.Need-returns-2
-returns-2 c =
+returns_2 : tie.Need-returns-2
+returns_2 c =
     let cells = c.before.before in
     rw (sym cells.before.long-enough.ensures ∙ not-false _ cells.if1.false, sym c.before.long-enough2.ensures ∙ not-true _ c.if2.true)
 
-returns-3 : tie.Need-returns-3
-returns-3 c =
+returns_3 : tie.Need-returns-3
+returns_3 c =
     let cells = c.before.before in
     rw (sym cells.before.long-enough.ensures ∙ not-false _ cells.if1.false, sym c.before.long-enough2.ensures ∙ not-false _ c.if2.false, less)
 
-pub too-short-spec : {M : Type 1} → statement M
-too-short-spec = tie.close (tie.spec (λ c κs. search rules) returns (λ c κs. search rules) returns-2 returns-3)
+pub too_short_spec : {M : Type 1} → statement M
+too_short_spec = tie.close (tie.spec (λ c κs. search rules) returns (λ c κs. search rules) returns_2 returns_3)

@@ -18,19 +18,19 @@ is_zero (fin s (suc m) d) e =
     let more : 0 < suc m * up d = mul-pos (zero-lt-suc m) (up_pos d) in
     absurd (subst T (sym (rw (zero-mul (down d), ne_eqb (suc m * up d * 1) 0 (omega arith)) at e)) tt)
 
-is-no-zero : (x : Float) → eq x nought ≡ false → x ≡ cleaned x
+is_no_zero : (x : Float) → eq x nought ≡ false → x ≡ cleaned x
 unfolding eq of_bits of_fields odd
-is-no-zero nan e = refl
-is-no-zero (inf s) e = refl
-is-no-zero (fin true zero d) e = absurd (subst T (rw (zero-mul (up d), zero-mul (down d)) at e) tt)
-is-no-zero (fin false zero d) e = absurd (subst T (rw (zero-mul (up d), zero-mul (down d)) at e) tt)
-is-no-zero (fin s (suc m) d) e = refl
+is_no_zero nan e = refl
+is_no_zero (inf s) e = refl
+is_no_zero (fin true zero d) e = absurd (subst T (rw (zero-mul (up d), zero-mul (down d)) at e) tt)
+is_no_zero (fin false zero d) e = absurd (subst T (rw (zero-mul (up d), zero-mul (down d)) at e) tt)
+is_no_zero (fin s (suc m) d) e = refl
 
 returns : tie.Need-returns
 returns c = is_zero c.before.args.x c.if1.true
 
-returns-2 : tie.Need-returns-2
-returns-2 c = is-no-zero c.before.args.x c.if1.false
+returns_2 : tie.Need-returns-2
+returns_2 c = is_no_zero c.before.args.x c.if1.false
 
-pub cleaned-spec : {M : Type 1} → statement M
-cleaned-spec = tie.close (tie.spec returns returns-2)
+pub cleaned_spec : {M : Type 1} → statement M
+cleaned_spec = tie.close (tie.spec returns returns_2)

@@ -10,8 +10,8 @@ returns c =
     let put = states.put-states.ensures in
     (put.0, (put.1.0, (sinces, put.1.1)))
 
-pub put-back-spec : {M : Type 1} → statement M
-put-back-spec =
+pub put_back_spec : {M : Type 1} → statement M
+put_back_spec =
     tie.close
     (tie.spec
     (λ c κs. search rules)

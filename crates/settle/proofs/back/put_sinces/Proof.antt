@@ -5,42 +5,42 @@ use native.Mathlib.Omega.{arith}
 use borrow.Author.Rules.{rules}
 use borrow.Author.Tests.{not-true}
 use lib.ListN.{length}
-use Rattle.settle.proofs.BackLaws.{Stamping, stamping-start, stamping-more, stamping-end, stamped-none}
+use Rattle.settle.proofs.BackLaws.{Stamping, stamping_start, stamping_more, stamping_end, stamped_none}
 use Rattle.settle.proofs.back.put_sinces.Statement.{statement}
 use Rattle.settle.proofs.back.put_sinces.Tie as tie
 
-abbrev invariant-loop : tie.invariant-loop
-invariant-loop work sinces₀ n this words j₀ sinces j = Stamping this work sinces₀ n j sinces × (n ≤ length work)
+abbrev invariant_loop : tie.invariant-loop
+invariant_loop work sinces₀ n this words j₀ sinces j = Stamping this work sinces₀ n j sinces × (n ≤ length work)
 
-abbrev decreases-loop : tie.decreases-loop
-decreases-loop work sinces₀ n this words j₀ sinces j = n - j
+abbrev decreases_loop : tie.decreases-loop
+decreases_loop work sinces₀ n this words j₀ sinces j = n - j
 
-returns : tie.Need-returns invariant-loop decreases-loop
+returns : tie.Need-returns invariant_loop decreases_loop
 returns c =
     let words = c.before.before in
     let start = words.before.before in
-    sym (stamped-none _ _ _ _ (omega (arith, words.words.given.0, start.requires.0)) start.requires.1 (c.before.any-anew.ensures (not-true _ c.if1.true)))
+    sym (stamped_none _ _ _ _ (omega (arith, words.words.given.0, start.requires.0)) start.requires.1 (c.before.any-anew.ensures (not-true _ c.if1.true)))
 
-loop-holds : tie.Need-loop-init invariant-loop decreases-loop
-loop-holds c =
+loop_holds : tie.Need-loop-init invariant_loop decreases_loop
+loop_holds c =
     let words = c.before.before in
-    (stamping-start, omega (arith, words.words.given.0, words.before.before.requires.0))
+    (stamping_start, omega (arith, words.words.given.0, words.before.before.requires.0))
 
-loop-again : tie.Need-loop-preserved invariant-loop decreases-loop
-loop-again c =
+loop_again : tie.Need-loop-preserved invariant_loop decreases_loop
+loop_again c =
     let at = c.before.before.before.before in
     let inv = at.loop.invariant in
     let pre = at.before.before.before.before.before.requires in
-    (stamping-more inv.1 pre.1 inv.0 (omega arith) c.since.ensures, inv.1)
+    (stamping_more inv.1 pre.1 inv.0 (omega arith) c.since.ensures, inv.1)
 
-returns-2 : tie.Need-returns-2 invariant-loop decreases-loop
-returns-2 c = stamping-end c.before.loop.invariant.0 c.loop-test.false
+returns_2 : tie.Need-returns-2 invariant_loop decreases_loop
+returns_2 c = stamping_end c.before.loop.invariant.0 c.loop-test.false
 
-pub put-sinces-spec : {M : Type 1} → statement M
-put-sinces-spec = tie.close (tie.spec invariant-loop decreases-loop
+pub put_sinces_spec : {M : Type 1} → statement M
+put_sinces_spec = tie.close (tie.spec invariant_loop decreases_loop
     (λ c κs. search rules)
     returns
-    loop-holds
+    loop_holds
     (λ c. search rules)
     (λ c. search rules)
     (λ c. search rules)
@@ -50,6 +50,6 @@ put-sinces-spec = tie.close (tie.spec invariant-loop decreases-loop
     (λ c. search rules)
     (λ c. search rules)
     (λ c. search rules)
-    loop-again
+    loop_again
     (λ c. c.before.loop.invariant.0.long)
-    returns-2)
+    returns_2)

@@ -11,13 +11,13 @@ returns c =
     let kind = c.before.before.args.kind in
     rw (c.before.if1.true, c.fewest.ensures) (none_allowed (fewest kind) (most kind))
 
-returns-2 : tie.Need-returns-2
-returns-2 c = rw (← c.before.fewest2.ensures, lt-leb _ _ c.if2.true)
+returns_2 : tie.Need-returns-2
+returns_2 c = rw (← c.before.fewest2.ensures, lt-leb _ _ c.if2.true)
 
-returns-3 : tie.Need-returns-3
-returns-3 c = rw (← c.before.before.fewest2.ensures, le-leb _ _ c.before.if2.false, c.most.ensures)
+returns_3 : tie.Need-returns-3
+returns_3 c = rw (← c.before.before.fewest2.ensures, le-leb _ _ c.before.if2.false, c.most.ensures)
 
-pub count-allowed-spec : {M : Type 1} → statement M
-count-allowed-spec =
+pub count_allowed_spec : {M : Type 1} → statement M
+count_allowed_spec =
     tie.close
-    (tie.spec (λ c κs. search rules) returns (λ c κs. search rules) returns-2 (λ c κs. search rules) returns-3)
+    (tie.spec (λ c κs. search rules) returns (λ c κs. search rules) returns_2 (λ c κs. search rules) returns_3)

@@ -1,7 +1,7 @@
 -- What the status of the child, exchanged or not, leads to.
 use mathlib.Core.Path.{refl, sym, ◌∙◌}
 use native.Mathlib.Omega.{arith}
-use Rattle.turns.proofs.TurnLaws.{none, over, due-keeps, fuel-freshed}
+use Rattle.turns.proofs.TurnLaws.{none, over, due_keeps, fuel_freshed}
 use Rattle.turns.proofs.SequenceLaws as law
 use borrow.Author.Rules.{rules}
 use Rattle.turns.proofs.sequence.memoryless_resumed.Statement.{statement}
@@ -16,28 +16,28 @@ returns c =
     let turned = told.before.before in
     let a = turned.before.before.args in
     rw c.done3.ensures (
-      (λ v. law.mem-last a.exchange v a.level _ _ _ _ (sym turned.turned.ensures ∙ told.enum-told2.given.1) if1.if1.true _ passed.passed.ensures),
+      (λ v. law.mem_last a.exchange v a.level _ _ _ _ (sym turned.turned.ensures ∙ told.enum-told2.given.1) if1.if1.true _ passed.passed.ensures),
       (over refl refl, (none, refl)),
     )
 
 -- no child follows
-returns-2 : tie.Need-returns-2
-returns-2 c =
+returns_2 : tie.Need-returns-2
+returns_2 c =
     let turned = c.before.before in
     let a = turned.before.before.args in
-    rw c.done.ensures ((λ v. law.mem-ended a.exchange v a.level _ _ _ _ _ (sym turned.turned.ensures) c.before.match.keys1), (over refl refl, (none, refl)))
+    rw c.done.ensures ((λ v. law.mem_ended a.exchange v a.level _ _ _ _ _ (sym turned.turned.ensures) c.before.match.keys1), (over refl refl, (none, refl)))
 
-returns-3 : tie.Need-returns-3
-returns-3 c =
+returns_3 : tie.Need-returns-3
+returns_3 c =
     let told = c.before.before in
     let turned = told.before.before in
     let a = turned.before.before.args in
     rw (c.done2.ensures, c.before.waiting.ensures)
-    ((λ v. law.mem-running a.exchange v a.level a.result.seen a.result.left _ _ (sym turned.turned.ensures ∙ told.enum_told.given.1)), (over refl refl, (none, refl)))
+    ((λ v. law.mem_running a.exchange v a.level a.result.seen a.result.left _ _ (sym turned.turned.ensures ∙ told.enum_told.given.1)), (over refl refl, (none, refl)))
 
 -- the next child is due
-returns-4 : tie.Need-returns-4
-returns-4 c =
+returns_4 : tie.Need-returns-4
+returns_4 c =
     let end_of_lem = c.before in
     let fresh = end_of_lem.before.before.before.before in
     let if1 = fresh.before.before.before in
@@ -46,26 +46,26 @@ returns-4 c =
     let start = turned.before.before in
     let a = start.args in
     let pre = start.requires.0 in
-    let past = end_of_lem.end_of_lem.ensures.2 (omega (arith, if1.if1.false, pre.stop-in)) in (
-      (λ v. rw c.due.ensures (law.mem-again a.exchange v a.level a.result.seen a.result.left _ _
-          (sym turned.turned.ensures ∙ enum-told2.enum-told2.given.1) pre.stop-in if1.if1.false _ _ fresh.fresh.ensures.0 fresh.fresh.ensures.1 _
+    let past = end_of_lem.end_of_lem.ensures.2 (omega (arith, if1.if1.false, pre.stop_in)) in (
+      (λ v. rw c.due.ensures (law.mem_again a.exchange v a.level a.result.seen a.result.left _ _
+          (sym turned.turned.ensures ∙ enum-told2.enum-told2.given.1) pre.stop_in if1.if1.false _ _ fresh.fresh.ensures.0 fresh.fresh.ensures.1 _
           end_of_lem.end_of_lem.ensures.0)),
       (
-        due-keeps _ _ _ c.due.ensures _ refl refl (record {
+        due_keeps _ _ _ c.due.ensures _ refl refl (record {
           node_in = omega (arith, pre.node_in, start.requires.1);
-          child-in = omega (arith, if1.if1.false, pre.stop-in);
-          next-in = end_of_lem.end_of_lem.ensures.1;
-          stop-in = pre.stop-in;
+          child_in = omega (arith, if1.if1.false, pre.stop_in);
+          next_in = end_of_lem.end_of_lem.ensures.1;
+          stop_in = pre.stop_in;
           index_in = omega (arith, pre.index_in, start.requires.1);
         }),
-        ((λ h. rw c.due.ensures past), fuel-freshed _ _ _ _ pre.next-in fresh.fresh.ensures.0),
+        ((λ h. rw c.due.ensures past), fuel_freshed _ _ _ _ pre.next_in fresh.fresh.ensures.0),
       ),
     )
 
-pub memoryless-resumed-spec : {M : Type 1} → statement M
-memoryless-resumed-spec =
+pub memoryless_resumed_spec : {M : Type 1} → statement M
+memoryless_resumed_spec =
     tie.close
     (tie.spec
     (λ c κs. search rules) (λ c κs. search rules) (λ c. search rules) (λ c κs. search rules) (λ c κs. search rules) (λ c. search rules)
-    (λ c κs. search rules) (λ c κs. search rules) returns (λ c κs. search rules) (λ c κs. search rules) (λ c κs. search rules) returns-2 returns-3
-    (λ c. search rules) returns-4)
+    (λ c κs. search rules) (λ c κs. search rules) returns (λ c κs. search rules) (λ c κs. search rules) (λ c κs. search rules) returns_2 returns_3
+    (λ c. search rules) returns_4)

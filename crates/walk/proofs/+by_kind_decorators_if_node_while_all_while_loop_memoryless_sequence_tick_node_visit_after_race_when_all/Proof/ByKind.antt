@@ -17,40 +17,40 @@ use Rattle.leaves.proofs.leaf.Reads as leaf
 use Rattle.work.proofs.exchanges.Reads as exchanges
 use Rattle.walk.proofs.+by_kind_decorators_if_node_while_all_while_loop_memoryless_sequence_tick_node_visit_after_race_when_all as cycle
 use cycle.Lts-by_kind as lts
-use cycle.Proof.Measures.{at-choice, below-exchange, below-level}
+use cycle.Proof.Measures.{at_choice, below_exchange, below_level}
 
 abbrev callees : ℕ → lts.Claims
 callees t = (
   leaf.Asked,
   leaf.Learnt,
-  below-level 2 decorators.Pre t,
+  below_level 2 decorators.Pre t,
   decorators.Post,
-  below-level 2 if-node.Pre t,
+  below_level 2 if-node.Pre t,
   if-node.Post,
   exchanges.Asked,
   exchanges.Learnt,
-  below-exchange sequence.Pre t,
+  below_exchange sequence.Pre t,
   sequence.Post,
-  below-exchange memoryless.Pre t,
+  below_exchange memoryless.Pre t,
   memoryless.Post,
-  below-level 2 while-loop.Pre t,
+  below_level 2 while-loop.Pre t,
   while-loop.Post,
-  below-level 2 while-all.Pre t,
+  below_level 2 while-all.Pre t,
   while-all.Post,
-  below-exchange when-all.Pre t,
+  below_exchange when-all.Pre t,
   when-all.Post,
-  below-level 2 after.Pre t,
+  below_level 2 after.Pre t,
   after.Post,
-  below-level 2 race.Pre t,
+  below_level 2 race.Pre t,
   race.Post,
 )
 
 -- every driver is asked for the same node, and comes after the choice
-asks : {t : ℕ} (c : lts.Start (callees t) (at-choice t) own.Post) → (c.args.depth * 4 + 2 < t) × (c.args.p < 256)
+asks : {t : ℕ} (c : lts.Start (callees t) (at_choice t) own.Post) → (c.args.depth * 4 + 2 < t) × (c.args.p < 256)
 asks c = (omega arith, c.requires.1)
 
-pub met-by-kind : {M : Type 1} (t : ℕ) → lts.Closed (callees t) (at-choice t) own.Post M
-met-by-kind t = lts.spec (callees t) (at-choice t) own.Post
+pub met_by_kind : {M : Type 1} (t : ℕ) → lts.Closed (callees t) (at_choice t) own.Post M
+met_by_kind t = lts.spec (callees t) (at_choice t) own.Post
     -- leaf-requires
     (λ c κs. c.before.before.before.before.requires.1)
     -- decorators-requires
@@ -90,37 +90,37 @@ met-by-kind t = lts.spec (callees t) (at-choice t) own.Post
     -- same-length
     (λ c. c.before.before.leaf.auto.1.1.1.1.0)
     -- returns
-    (λ c. kind-law.by-leaf _ _ _ _ _ _ _ _ _ c.before.before.before.before.before.match.keys1 c.before.before.leaf.ensures)
+    (λ c. kind-law.by_leaf _ _ _ _ _ _ _ _ _ c.before.before.before.before.before.match.keys1 c.before.before.leaf.ensures)
     -- same-length-2
     (λ c. c.before.before.decorators.auto.1.1.1.1.0)
     -- returns-2
-    (λ c. kind-law.by-decorator _ _ _ _ _ _ _ _ _ c.before.before.before.before.before.match.keys2 c.before.before.decorators.ensures)
+    (λ c. kind-law.by_decorator _ _ _ _ _ _ _ _ _ c.before.before.before.before.before.match.keys2 c.before.before.decorators.ensures)
     -- same-length-3
     (λ c. c.before.before.if-node.auto.1.1.1.1.0)
     -- returns-3
-    (λ c. kind-law.by-if _ _ _ _ _ _ _ _ _ c.before.before.before.before.before.enum_told.given.1 c.before.before.if-node.ensures)
+    (λ c. kind-law.by_if _ _ _ _ _ _ _ _ _ c.before.before.before.before.before.enum_told.given.1 c.before.before.if-node.ensures)
     -- same-length-4
     (λ c. c.before.before.sequence.auto.1.1.1.1.0)
     -- returns-4
-    (λ c. kind-law.by-sequence _ _ _ _ _ _ _ _ _ _ c.before.before.before.exchanges.ensures
+    (λ c. kind-law.by_sequence _ _ _ _ _ _ _ _ _ _ c.before.before.before.exchanges.ensures
     c.before.before.before.before.before.before.match.keys4 c.before.before.sequence.ensures)
     -- same-length-5
     (λ c. c.before.before.memoryless.auto.1.1.1.1.0)
     -- returns-5
-    (λ c. kind-law.by-memoryless _ _ _ _ _ _ _ _ _ _ c.before.before.before.exchanges2.ensures
+    (λ c. kind-law.by_memoryless _ _ _ _ _ _ _ _ _ _ c.before.before.before.exchanges2.ensures
     c.before.before.before.before.before.before.match.keys5 c.before.before.memoryless.ensures)
     -- same-length-6
     (λ c. c.before.before.while-loop.auto.1.1.1.1.0)
     -- returns-6
-    (λ c. kind-law.by-while _ _ _ _ _ _ _ _ _ c.before.before.before.before.before.enum-told2.given.1 c.before.before.while-loop.ensures)
+    (λ c. kind-law.by_while _ _ _ _ _ _ _ _ _ c.before.before.before.before.before.enum-told2.given.1 c.before.before.while-loop.ensures)
     -- same-length-7
     (λ c. c.before.before.while-all.auto.1.1.1.1.0)
     -- returns-7
-    (λ c. kind-law.by-while-all _ _ _ _ _ _ _ _ _ c.before.before.before.before.before.enum-told3.given.1 c.before.before.while-all.ensures)
+    (λ c. kind-law.by_while_all _ _ _ _ _ _ _ _ _ c.before.before.before.before.before.enum-told3.given.1 c.before.before.while-all.ensures)
     -- same-length-8
     (λ c. c.before.before.when-all.auto.1.1.1.1.0)
     -- returns-8
-    (λ c. kind-law.by-when-all _ _ _ _ _ _ _ _ _ _ c.before.before.before.exchanges3.ensures
+    (λ c. kind-law.by_when_all _ _ _ _ _ _ _ _ _ _ c.before.before.before.exchanges3.ensures
     c.before.before.before.before.before.before.match.keys8 c.before.before.when-all.ensures)
     -- same-length-9
     (λ c. c.before.before.after.auto.1.1.1.1.0)
@@ -129,4 +129,4 @@ met-by-kind t = lts.spec (callees t) (at-choice t) own.Post
     -- same-length-10
     (λ c. c.before.before.race.auto.1.1.1.1.0)
     -- returns-10
-    (λ c. kind-law.by-race _ _ _ _ _ _ _ _ _ c.before.before.before.before.before.enum-told5.given.1 c.before.before.race.ensures)
+    (λ c. kind-law.by_race _ _ _ _ _ _ _ _ _ c.before.before.before.before.before.enum-told5.given.1 c.before.before.race.ensures)

@@ -6,19 +6,19 @@ use borrow.Author.Rules.{rules}
 use lib.Ieee.{binary64}
 use lib.ListN.{length}
 use Rattle.work.specs.Flat.{out, lent, decorator, visiting}
-use Rattle.work.proofs.VisitLaws.{Gave, gave-told}
+use Rattle.work.proofs.VisitLaws.{Gave, gave_told}
 use Rattle.walk.proofs.NodeLaws.{up}
 use Rattle.walk.proofs.NodeLaws as node_Law
 use Rattle.walk.proofs.decorators.Reads as own
 use Rattle.walk.proofs.visit.Reads as visit
-use Rattle.work.proofs.put_seen.Reads as put-seen
+use Rattle.work.proofs.put_seen.Reads as put_seen
 use Rattle.leaves.proofs.decorated.Reads as decorated
 use Rattle.work.proofs.decorates.Reads as decorates
 use Rattle.work.proofs.stopped.Reads as stopped
 use Rattle.work.proofs.kind_of.Reads as kind-of
 use Rattle.walk.proofs.+by_kind_decorators_if_node_while_all_while_loop_memoryless_sequence_tick_node_visit_after_race_when_all as cycle
 use cycle.Lts-decorators as lts
-use cycle.Proof.Measures.{at_level, visit-below}
+use cycle.Proof.Measures.{at_level, visit_below}
 
 abbrev Inv-loop : lts.invariant-loop
 Inv-loop work₀ limits statuses leftovers times p depth dt q₀ below₀ work q below =
@@ -27,8 +27,8 @@ Inv-loop work₀ limits statuses leftovers times p depth dt q₀ below₀ work q
     × (q < 256)
     × (below ≤ depth)
 
-abbrev μ-loop : lts.decreases-loop
-μ-loop work₀ limits statuses leftovers times p depth dt q₀ below₀ work q below =
+abbrev μ_loop : lts.decreases-loop
+μ_loop work₀ limits statuses leftovers times p depth dt q₀ below₀ work q below =
     below
 
 abbrev Inv-loop2 : lts.invariant-loop2
@@ -42,20 +42,20 @@ Inv-loop2 work₀ limits statuses leftovers times₀ p depth dt q₀ below resul
     × (q < 256)
     × (p < q)
 
-abbrev μ-loop2 : lts.decreases-loop2
-μ-loop2 work₀ limits statuses leftovers times₀ p depth dt q₀ below result₀ work times q result =
+abbrev μ_loop2 : lts.decreases-loop2
+μ_loop2 work₀ limits statuses leftovers times₀ p depth dt q₀ below result₀ work times q result =
     q
 
 abbrev callees : ℕ → lts.Claims
 callees t =
-    (stopped.Asked, stopped.Learnt, kind-of.Asked, kind-of.Learnt, decorates.Asked, decorates.Learnt, visit-below t, visit.Post, decorated.Asked, decorated.Learnt, put-seen.Asked, put-seen.Learnt)
+    (stopped.Asked, stopped.Learnt, kind-of.Asked, kind-of.Learnt, decorates.Asked, decorates.Learnt, visit_below t, visit.Post, decorated.Asked, decorated.Learnt, put_seen.Asked, put_seen.Learnt)
 
-pub met-decorators : {M : Type 1} (t : ℕ) → lts.Closed (callees t) (at_level 2 own.Pre t) own.Post M
-met-decorators t = lts.spec (callees t) (at_level 2 own.Pre t) own.Post Inv-loop μ-loop Inv-loop2 μ-loop2
+pub met_decorators : {M : Type 1} (t : ℕ) → lts.Closed (callees t) (at_level 2 own.Pre t) own.Post M
+met_decorators t = lts.spec (callees t) (at_level 2 own.Pre t) own.Post Inv-loop μ_loop Inv-loop2 μ_loop2
     -- stopped-requires
     (λ c κs. search rules)
     -- returns
-    (λ c. rw c.stopped.ensures (node_Law.decorator-none _ _ _ _ _ _ _ c.before.if1.true))
+    (λ c. rw c.stopped.ensures (node_Law.decorator_none _ _ _ _ _ _ _ c.before.if1.true))
     -- add-q
     (λ c. omega arith)
     -- loop-holds
@@ -70,7 +70,7 @@ met-decorators t = lts.spec (callees t) (at_level 2 own.Pre t) own.Post Inv-loop
     (λ c.
     let if2 = c.before.before in
     let kind-of = if2.before.before in
-    rw c.stopped2.ensures (kind-of.before.before.loop.invariant.0.1.1 ∙ node_Law.down-deep _ _ _ _ _ _ _ _ _
+    rw c.stopped2.ensures (kind-of.before.before.loop.invariant.0.1.1 ∙ node_Law.down_deep _ _ _ _ _ _ _ _ _
     kind-of.kind-of.ensures (sym if2.before.decorates.ensures ∙ if2.if2.true) _ c.before.if3.true))
     -- element-copy-out-fuel, stopped-requires-3
     (λ c. omega arith) (λ c κs. search rules)
@@ -78,7 +78,7 @@ met-decorators t = lts.spec (callees t) (at_level 2 own.Pre t) own.Post Inv-loop
     (λ c.
     let if2 = c.before.before.before.before in
     let kind-of = if2.before.before in
-    rw c.stopped3.ensures (kind-of.before.before.loop.invariant.0.1.1 ∙ node_Law.down-spent _ _ _ _ _ _ _ _ _
+    rw c.stopped3.ensures (kind-of.before.before.loop.invariant.0.1.1 ∙ node_Law.down_spent _ _ _ _ _ _ _ _ _
     kind-of.kind-of.ensures (sym if2.before.decorates.ensures ∙ if2.if2.true) _ c.before.if4.true))
     -- sub-work
     (λ c. omega (arith, c.if4.false))
@@ -89,7 +89,7 @@ met-decorators t = lts.spec (callees t) (at_level 2 own.Pre t) own.Post Inv-loop
     let if4 = c.before.before in
     let if2 = if4.before.before.before in
     let kind-of = if2.before.before in
-    rw c.stopped4.ensures (kind-of.before.before.loop.invariant.0.1.1 ∙ node_Law.down-end _ _ _ _ _ _ _ _ _ kind-of.kind-of.ensures
+    rw c.stopped4.ensures (kind-of.before.before.loop.invariant.0.1.1 ∙ node_Law.down_end _ _ _ _ _ _ _ _ _ kind-of.kind-of.ensures
     (sym if2.before.decorates.ensures ∙ if2.if2.true) if4.before.before.if3.false if4.if4.false _ refl _ c.before.if5.true))
     -- sub-below
     (λ c. omega (arith, c.before.before.before.if3.false))
@@ -108,7 +108,7 @@ met-decorators t = lts.spec (callees t) (at_level 2 own.Pre t) own.Post Inv-loop
         suc inv.0.0,
         (
           omega (arith, inv.0.1.0),
-          inv.0.1.1 ∙ node_Law.down-one _ _ _ _ _ _ _ _ _ kind-of.kind-of.ensures (sym if2.before.decorates.ensures ∙ if2.if2.true)
+          inv.0.1.1 ∙ node_Law.down_one _ _ _ _ _ _ _ _ _ kind-of.kind-of.ensures (sym if2.before.decorates.ensures ∙ if2.if2.true)
               if3.if3.false if4.if4.false _ refl _ inv.0.1.0 c.if5.false,
         ),
       ),
@@ -126,11 +126,11 @@ met-decorators t = lts.spec (callees t) (at_level 2 own.Pre t) own.Post Inv-loop
     -- returns-5
     (λ c.
     let visit = c.before.before.before.before in
-    visit.before.before.before.before.before.before.before.loop.invariant.0.1.1 ∙ rw visit.visit.ensures (node_Law.up-stopped _ _ _ _ _ _ _ _ _ c.enum_told.given.1))
+    visit.before.before.before.before.before.before.before.loop.invariant.0.1.1 ∙ rw visit.visit.ensures (node_Law.up_stopped _ _ _ _ _ _ _ _ _ c.enum_told.given.1))
     -- loop2-holds
     (λ c.
     let inv = c.before.before.before.before.before.before.before.before.before.before.loop.invariant in
-    ((λ n e. (n, (e, refl))), gave-told _ c.match.keys2, refl, inv.1, omega (arith, inv.0.1.0)))
+    ((λ n e. (n, (e, refl))), gave_told _ c.match.keys2, refl, inv.1, omega (arith, inv.0.1.0)))
     -- add-loop2
     (λ c. omega (arith, c.before.before.before.before.before.before.before.before.before.before.before.before.before.before.requires.1))
     -- sub-q
@@ -154,11 +154,11 @@ met-decorators t = lts.spec (callees t) (at_level 2 own.Pre t) own.Post Inv-loop
               omega (arith, i.1.0, loop2-test.loop2-test.true),
               i.1.1 ∙ node_Law.up_one _ _ _ _ _ _ _ (omega
                   (arith, i.1.0, loop2-test.loop2-test.true)) (omega (arith, i.1.0, loop2-test.loop2-test.true)) _ _ _ _ _ _ (decorated.decorated.ensures _ _)
-                  (node_Law.then-gave _ _ _ _ _ _ _ _ _ _ _ _ loop2.loop2.invariant.1
+                  (node_Law.then_gave _ _ _ _ _ _ _ _ _ _ _ _ loop2.loop2.invariant.1
                   (decorated.decorated.ensures start.args.statuses.now.now start.args.leftovers.now.now)) c.put-seen.ensures,
             ),
           )),
-      node_Law.then-gave _ _ _ _ _ _ _ _ _ _ _ _ loop2.loop2.invariant.1 (decorated.decorated.ensures start.args.statuses.now.now start.args.leftovers.now.now),
+      node_Law.then_gave _ _ _ _ _ _ _ _ _ _ _ _ loop2.loop2.invariant.1 (decorated.decorated.ensures start.args.statuses.now.now start.args.leftovers.now.now),
       decorated.decorated.auto.1.1.0 ∙ loop2.loop2.invariant.2,
       omega (arith, loop2.loop2.invariant.3),
       omega (arith, loop2-test.loop2-test.true),
@@ -180,4 +180,4 @@ met-decorators t = lts.spec (callees t) (at_level 2 own.Pre t) own.Post Inv-loop
     let inv = visit.before.before.before.before.before.before.before.loop.invariant in
     let i = loop2.loop2.invariant.0 inv.0.0 inv.0.1.0 in
     inv.0.1.1 ∙ rw visit.visit.ensures
-    (i.1.1 ∙ node_Law.up-end _ _ _ _ _ (omega (arith, i.1.0, loop2-test.loop2-test.false)) _ _ (decorated2.decorated2.ensures _ _)))
+    (i.1.1 ∙ node_Law.up_end _ _ _ _ _ (omega (arith, i.1.0, loop2-test.loop2-test.false)) _ _ (decorated2.decorated2.ensures _ _)))

@@ -15,14 +15,14 @@ use Rattle.work.proofs.stopped.Reads as stopped
 use Rattle.work.proofs.place_of.Reads as place
 use Rattle.walk.proofs.+by_kind_decorators_if_node_while_all_while_loop_memoryless_sequence_tick_node_visit_after_race_when_all as cycle
 use cycle.Lts-if_node as lts
-use cycle.Proof.Measures.{at_level, visit-below}
+use cycle.Proof.Measures.{at_level, visit_below}
 
 abbrev callees : ℕ → lts.Claims
 callees t =
-    (end.Asked, end.Learnt, place.Asked, place.Learnt, child.Asked, child.Learnt, stopped.Asked, stopped.Learnt, visit-below t, visit.Post, choice.Asked, choice.Learnt, choose.Asked, choose.Learnt)
+    (end.Asked, end.Learnt, place.Asked, place.Learnt, child.Asked, child.Learnt, stopped.Asked, stopped.Learnt, visit_below t, visit.Post, choice.Asked, choice.Learnt, choose.Asked, choose.Learnt)
 
-pub met-if-node : {M : Type 1} (t : ℕ) → lts.Closed (callees t) (at_level 2 own.Pre t) own.Post M
-met-if-node t = lts.spec (callees t) (at_level 2 own.Pre t) own.Post
+pub met_if_node : {M : Type 1} (t : ℕ) → lts.Closed (callees t) (at_level 2 own.Pre t) own.Post M
+met_if_node t = lts.spec (callees t) (at_level 2 own.Pre t) own.Post
     -- end-of-requires, mul-place-of, element-copy-out-place-of, place-of-requires, add-child
     (λ c κs. search rules) (λ c. omega arith) (λ c. omega arith) (λ c κs. search rules) (λ c. omega arith)
     -- child-requires
@@ -33,7 +33,7 @@ met-if-node t = lts.spec (callees t) (at_level 2 own.Pre t) own.Post
     (λ c.
     let child = c.before.before in
     let place_of = child.before.before.before in
-    rw c.stopped.ensures (node_Law.if-lost _ _ _ _ _ _ _ place_of.before.before.end_of_lem.ensures.0 place_of.place_of.ensures.0 _
+    rw c.stopped.ensures (node_Law.if_lost _ _ _ _ _ _ _ place_of.before.before.end_of_lem.ensures.0 place_of.place_of.ensures.0 _
     child.before.before.if1.true child.child.ensures.0 c.before.if2.true))
     -- visit-requires
     (λ c κs.
@@ -47,7 +47,7 @@ met-if-node t = lts.spec (callees t) (at_level 2 own.Pre t) own.Post
     let if2 = c.before.before.before.before.before in
     let child = if2.before in
     let place_of = child.before.before.before in
-    node_Law.if-held _ _ _ _ _ _ _ place_of.before.before.end_of_lem.ensures.0 place_of.place_of.ensures.0 _ child.before.before.if1.true
+    node_Law.if_held _ _ _ _ _ _ _ place_of.before.before.end_of_lem.ensures.0 place_of.place_of.ensures.0 _ child.before.before.if1.true
     child.child.ensures.0 if2.if2.false _ c.before.before.visit.ensures)
     -- stopped-requires-2
     (λ c κs. search rules)
@@ -68,7 +68,7 @@ met-if-node t = lts.spec (callees t) (at_level 2 own.Pre t) own.Post
     (λ c.
     let visit2 = c.before.before.before.before in
     let place_of = visit2.before.before.before.before.before in
-    node_Law.if-undecided _ _ _ _ _ _ _ place_of.before.before.end_of_lem.ensures.0 place_of.place_of.ensures.0 visit2.before.before.before.before.if1.false
+    node_Law.if_undecided _ _ _ _ _ _ _ place_of.before.before.end_of_lem.ensures.0 place_of.place_of.ensures.0 visit2.before.before.before.before.if1.false
     visit2.before.before.before.if3.false _ _ _ _ visit2.visit2.ensures (sym c.before.choice.ensures ∙ c.if4.true))
     -- choose-requires
     (λ c κs.
@@ -94,7 +94,7 @@ met-if-node t = lts.spec (callees t) (at_level 2 own.Pre t) own.Post
     let choice = choose.before.before.before.before in
     let visit2 = choice.before.before.before in
     let place_of = visit2.before.before.before.before.before in
-    rw c.stopped3.ensures (node_Law.if-chosen-lost _ _ _ _ _ _ _ place_of.before.before.end_of_lem.ensures.0 place_of.place_of.ensures.0
+    rw c.stopped3.ensures (node_Law.if_chosen_lost _ _ _ _ _ _ _ place_of.before.before.end_of_lem.ensures.0 place_of.place_of.ensures.0
     visit2.before.before.before.before.if1.false visit2.before.before.before.if3.false _ _ _ _ visit2.visit2.ensures _ choice.choice.ensures
     choose.before.before.before.if4.false _ _ choose.choose.ensures.0 choose.choose.ensures.1 _ child2.child2.ensures.0 c.before.if5.true))
     -- visit-requires-3
@@ -116,7 +116,7 @@ met-if-node t = lts.spec (callees t) (at_level 2 own.Pre t) own.Post
     let choice = choose.before.before.before.before in
     let visit2 = choice.before.before.before in
     let place_of = visit2.before.before.before.before.before in
-    node_Law.if-chosen _ _ _ _ _ _ _ place_of.before.before.end_of_lem.ensures.0 place_of.place_of.ensures.0
+    node_Law.if_chosen _ _ _ _ _ _ _ place_of.before.before.end_of_lem.ensures.0 place_of.place_of.ensures.0
     visit2.before.before.before.before.if1.false visit2.before.before.before.if3.false _ _ _ _ visit2.visit2.ensures _ choice.choice.ensures
     choose.before.before.before.if4.false _ _ choose.choose.ensures.0 choose.choose.ensures.1 _ child2.child2.ensures.0
     visit3.before.before.before.if5.false _ visit3.visit3.ensures)

@@ -14,11 +14,11 @@ use Rattle.walk.proofs.sequence.sequence.Kinds as sequence-kinds
 abbrev pub level : ℕ → Measures 8 visit-kinds.ps ℕ
 level n κs a = a.1.1.1.1.1.1.0 * 4 + n
 
-abbrev pub exchange-level : Measures 8 sequence-kinds.ps ℕ
-exchange-level κs a = a.1.1.1.1.1.1.1.0 * 4 + 2
+abbrev pub exchange_level : Measures 8 sequence-kinds.ps ℕ
+exchange_level κs a = a.1.1.1.1.1.1.1.0 * 4 + 2
 
-abbrev pub choice-level : Measures 8 by-kind-kinds.ps ℕ
-choice-level κs a = a.1.1.1.1.1.1.1.0 * 4 + 3
+abbrev pub choice_level : Measures 8 by-kind-kinds.ps ℕ
+choice_level κs a = a.1.1.1.1.1.1.1.0 * 4 + 3
 
 -- what a member takes at the measure t, and what it asks of a member that it calls
 module _ (ps : List (ParamKind 8)) (μ : Measures 8 ps ℕ) (Pre : In 8 ps) (t : ℕ) where
@@ -31,20 +31,20 @@ module _ (ps : List (ParamKind 8)) (μ : Measures 8 ps ℕ) (Pre : In 8 ps) (t :
 abbrev pub at_level : ℕ → In 8 visit-kinds.ps → ℕ → In 8 visit-kinds.ps
 at_level n = at visit-kinds.ps (level n)
 
-abbrev pub below-level : ℕ → In 8 visit-kinds.ps → ℕ → In 8 visit-kinds.ps
-below-level n = below visit-kinds.ps (level n)
+abbrev pub below_level : ℕ → In 8 visit-kinds.ps → ℕ → In 8 visit-kinds.ps
+below_level n = below visit-kinds.ps (level n)
 
-abbrev pub visit-below : ℕ → In 8 visit-kinds.ps
-visit-below = below-level 1 visit.Pre
+abbrev pub visit_below : ℕ → In 8 visit-kinds.ps
+visit_below = below_level 1 visit.Pre
 
-abbrev pub at-exchange : In 8 sequence-kinds.ps → ℕ → In 8 sequence-kinds.ps
-at-exchange = at sequence-kinds.ps exchange-level
+abbrev pub at_exchange : In 8 sequence-kinds.ps → ℕ → In 8 sequence-kinds.ps
+at_exchange = at sequence-kinds.ps exchange_level
 
-abbrev pub below-exchange : In 8 sequence-kinds.ps → ℕ → In 8 sequence-kinds.ps
-below-exchange = below sequence-kinds.ps exchange-level
+abbrev pub below_exchange : In 8 sequence-kinds.ps → ℕ → In 8 sequence-kinds.ps
+below_exchange = below sequence-kinds.ps exchange_level
 
-abbrev pub at-choice : ℕ → In 8 by-kind-kinds.ps
-at-choice = at by-kind-kinds.ps choice-level by_kind.Pre
+abbrev pub at_choice : ℕ → In 8 by-kind-kinds.ps
+at_choice = at by-kind-kinds.ps choice_level by_kind.Pre
 
-abbrev pub below-choice : ℕ → In 8 by-kind-kinds.ps
-below-choice = below by-kind-kinds.ps choice-level by_kind.Pre
+abbrev pub below_choice : ℕ → In 8 by-kind-kinds.ps
+below_choice = below by-kind-kinds.ps choice_level by_kind.Pre

@@ -4,8 +4,8 @@ use Prim.Native.Nat.{ℕ, ◌-◌, ◌≤◌}
 use native.Mathlib.Omega.{arith}
 use borrow.Author.Rules.{rules}
 use lib.ListN.{length}
-use Rattle.work.specs.Flat.{Out, race, raceGo}
-use Rattle.work.proofs.VisitLaws.{told-as, not-running-told}
+use Rattle.work.specs.Flat.{Out, race, race_go}
+use Rattle.work.proofs.VisitLaws.{told_as, not_running_told}
 use Rattle.work.proofs.end_of.Reads as end_of_lem
 use Rattle.work.proofs.waiting.Reads as waiting
 use Rattle.leaves.proofs.WaitLaws.{passed_on}
@@ -16,29 +16,29 @@ use Rattle.walk.proofs.visit.Reads as visit
 use Rattle.walk.proofs.when_all.race.Reads as own
 use Rattle.walk.proofs.+by_kind_decorators_if_node_while_all_while_loop_memoryless_sequence_tick_node_visit_after_race_when_all as cycle
 use cycle.Lts-when_all-race as lts
-use cycle.Proof.Measures.{at_level, visit-below}
+use cycle.Proof.Measures.{at_level, visit_below}
 
 abbrev Inv-loop : ℕ → lts.invariant-loop
 Inv-loop t work₀ limits statuses leftovers times₀ p depth dt stop q₀ work times q =
-    ((r : Out) → ((j : ℕ) → stop - q ≤ j → raceGo (visitor limits statuses leftovers depth) stop dt j q work times ≡ r)
+    ((r : Out) → ((j : ℕ) → stop - q ≤ j → race_go (visitor limits statuses leftovers depth) stop dt j q work times ≡ r)
     → race (visitor limits statuses leftovers depth) p dt work₀ times₀ ≡ r)
     × (Bounds t p depth stop)
     × (length times ≡ length times₀)
 
-abbrev μ-loop : lts.decreases-loop
-μ-loop work₀ limits statuses leftovers times₀ p depth dt stop q₀ work times q = stop - q
+abbrev μ_loop : lts.decreases-loop
+μ_loop work₀ limits statuses leftovers times₀ p depth dt stop q₀ work times q = stop - q
 
 abbrev callees : ℕ → lts.Claims
 callees t =
-    (end_of_lem.Asked, end_of_lem.Learnt, visit-below t, visit.Post, past-waits.Asked, past-waits.Learnt, waiting.Asked, waiting.Learnt)
+    (end_of_lem.Asked, end_of_lem.Learnt, visit_below t, visit.Post, past-waits.Asked, past-waits.Learnt, waiting.Asked, waiting.Learnt)
 
 pub met-when-all::race : {M : Type 1} (t : ℕ) → lts.Closed (callees t) (at_level 2 own.Pre t) own.Post M
-met-when-all::race t = lts.spec (callees t) (at_level 2 own.Pre t) own.Post (Inv-loop t) μ-loop
+met-when-all::race t = lts.spec (callees t) (at_level 2 own.Pre t) own.Post (Inv-loop t) μ_loop
     -- end-of-requires, add-q
     (λ c κs. search rules) (λ c. omega arith)
     -- loop-holds
     (λ c. (
-      (λ r e. when-law.race-start _ _ _ _ _ _ c.end_of_lem.ensures.0 _ (e 256 (omega (arith, c.end_of_lem.ensures.1)))),
+      (λ r e. when-law.race_start _ _ _ _ _ _ c.end_of_lem.ensures.0 _ (e 256 (omega (arith, c.end_of_lem.ensures.1)))),
       bounds _ _ _ _ c.before.before.before.requires c.end_of_lem.ensures.1,
       refl,
     ))
@@ -58,8 +58,8 @@ met-when-all::race t = lts.spec (callees t) (at_level 2 own.Pre t) own.Post (Inv
     (λ c.
     let visit = c.before.before.before in
     let loop-test = visit.before.before.before.before.before in
-    loop-test.before.loop.invariant.0 _ (λ k h. when-law.race-ended _ _ _ _ _ _ loop-test.loop-test.true _ _ _ k h _
-    (not-running-told visit.visit.result.seen c.match.keys2) visit.visit.ensures))
+    loop-test.before.loop.invariant.0 _ (λ k h. when-law.race_ended _ _ _ _ _ _ loop-test.loop-test.true _ _ _ k h _
+    (not_running_told visit.visit.result.seen c.match.keys2) visit.visit.ensures))
     -- past-waits-requires
     (λ c κs.
     let visit = c.before.before.before.before.before.before.before in
@@ -82,9 +82,9 @@ met-when-all::race t = lts.spec (callees t) (at_level 2 own.Pre t) own.Post (Inv
     let loop-test = end-of2.before.before in
     let loop = loop-test.before in
     let d = loop-test.loop-test.true in (
-      (λ r e. loop.loop.invariant.0 r (λ k h. when-law.race-running _ _ _ _ _ _ d _ _ _ k h (told-as visit.visit.ensures told.enum_told.given.1) _
+      (λ r e. loop.loop.invariant.0 r (λ k h. when-law.race_running _ _ _ _ _ _ d _ _ _ k h (told_as visit.visit.ensures told.enum_told.given.1) _
           end-of2.end-of2.ensures.0 (end-of2.end-of2.ensures.2 (inside loop.loop.invariant.1 d)) r
-          (when-law.race-waiting _ _ _ _ _ _ past.past-waits.ensures.0 past.past-waits.ensures.1 r e))),
+          (when-law.race_waiting _ _ _ _ _ _ past.past-waits.ensures.0 past.past-waits.ensures.1 r e))),
       loop.loop.invariant.1,
       past.past-waits.auto.1.1.0 ∙ visit.visit.auto.1.1.1.1.0 ∙ loop.loop.invariant.2,
     ))
@@ -102,7 +102,7 @@ met-when-all::race t = lts.spec (callees t) (at_level 2 own.Pre t) own.Post (Inv
     let loop-test = end-of2.before.before in
     let loop = loop-test.before in
     let d = loop-test.loop-test.true in (
-      (λ r e. loop.loop.invariant.0 r (λ k h. when-law.race-running _ _ _ _ _ _ d _ _ _ k h (told-as visit.visit.ensures told.enum_told.given.1) _
+      (λ r e. loop.loop.invariant.0 r (λ k h. when-law.race_running _ _ _ _ _ _ d _ _ _ k h (told_as visit.visit.ensures told.enum_told.given.1) _
           end-of2.end-of2.ensures.0 (end-of2.end-of2.ensures.2 (inside loop.loop.invariant.1 d)) r e)),
       loop.loop.invariant.1,
       visit.visit.auto.1.1.1.1.0 ∙ loop.loop.invariant.2,
@@ -112,4 +112,4 @@ met-when-all::race t = lts.spec (callees t) (at_level 2 own.Pre t) own.Post (Inv
     -- same-length-2
     (λ c. c.before.before.loop.invariant.2)
     -- returns-2
-    (λ c. rw c.waiting.ensures (c.before.before.loop.invariant.0 _ (λ k h. when-law.race-over _ _ _ _ _ _ k c.before.loop-test.false)))
+    (λ c. rw c.waiting.ensures (c.before.before.loop.invariant.0 _ (λ k h. when-law.race_over _ _ _ _ _ _ k c.before.loop-test.false)))

@@ -5,37 +5,37 @@ use native.Mathlib.Omega.{arith}
 use borrow.Author.Rules.{rules}
 use borrow.Author.Tests.{not-true, not-false}
 use lib.ListN.{length}
-use Rattle.work.specs.Flat.{Out, turning, sequence, sequenceGo}
-use Rattle.work.proofs.VisitLaws.{turn-out, turn-visit}
+use Rattle.work.specs.Flat.{Out, turning, sequence, sequence_go}
+use Rattle.work.proofs.VisitLaws.{turn_out_lem, turn_visit}
 use Rattle.work.proofs.child.Reads as child
 use Rattle.work.proofs.end_of.Reads as end_of_lem
 use Rattle.work.proofs.fresh.Reads as fresh
 use Rattle.work.proofs.place_of.Reads as place_of
-use Rattle.work.proofs.put_place.Reads as put-place
+use Rattle.work.proofs.put_place.Reads as put_place
 use Rattle.work.proofs.result.Seen.turned.Reads as turned
 use Rattle.work.proofs.up_on.Reads as up-on
 use Rattle.work.proofs.updates.Reads as updates
 use Rattle.work.proofs.waiting.Reads as waiting
 use Rattle.walk.proofs.SequenceLaws as seq-law
-use Rattle.walk.proofs.TurnLaws.{visitor, Bounds, bounds, inside, within, due, small, closer, turns-left}
+use Rattle.walk.proofs.TurnLaws.{visitor, Bounds, bounds, inside, within, due, small, closer, turns_left}
 use Rattle.walk.proofs.visit.Reads as visit
 use Rattle.walk.proofs.sequence.sequence.Reads as own
 use Rattle.walk.proofs.+by_kind_decorators_if_node_while_all_while_loop_memoryless_sequence_tick_node_visit_after_race_when_all as cycle
 use cycle.Lts-sequence-sequence as lts
-use cycle.Proof.Measures.{at-exchange, visit-below}
+use cycle.Proof.Measures.{at_exchange, visit_below}
 
 abbrev Inv-loop : ℕ → lts.invariant-loop
 Inv-loop t work₀ limits statuses leftovers times₀ exchange p depth dt stop i₀ q₀ rest₀ work times i q rest =
     ((r : Out) → ((j : ℕ) → stop - q ≤ j
-    → sequenceGo (turning exchange (visitor limits statuses leftovers depth)) p stop j q i rest work times ≡ r)
+    → sequence_go (turning exchange (visitor limits statuses leftovers depth)) p stop j q i rest work times ≡ r)
     → sequence (turning exchange (visitor limits statuses leftovers depth)) p dt work₀ times₀ ≡ r)
     × (Bounds t p depth stop)
     × (length times ≡ length times₀)
     × (i ≤ 255 + q)
     × (q < stop)
 
-abbrev μ-loop : lts.decreases-loop
-μ-loop work₀ limits statuses leftovers times₀ exchange p depth dt stop i₀ q₀ rest₀ work times i q rest = stop - q
+abbrev μ_loop : lts.decreases-loop
+μ_loop work₀ limits statuses leftovers times₀ exchange p depth dt stop i₀ q₀ rest₀ work times i q rest = stop - q
 
 abbrev callees : ℕ → lts.Claims
 callees t = (
@@ -47,12 +47,12 @@ callees t = (
   child.Learnt,
   waiting.Asked,
   waiting.Learnt,
-  visit-below t,
+  visit_below t,
   visit.Post,
   turned.Asked,
   turned.Learnt,
-  put-place.Asked,
-  put-place.Learnt,
+  put_place.Asked,
+  put_place.Learnt,
   updates.Asked,
   updates.Learnt,
   up-on.Asked,
@@ -61,8 +61,8 @@ callees t = (
   fresh.Learnt,
 )
 
-pub met-sequence::sequence : {M : Type 1} (t : ℕ) → lts.Closed (callees t) (at-exchange own.Pre t) own.Post M
-met-sequence::sequence t = lts.spec (callees t) (at-exchange own.Pre t) own.Post (Inv-loop t) μ-loop
+pub met-sequence::sequence : {M : Type 1} (t : ℕ) → lts.Closed (callees t) (at_exchange own.Pre t) own.Post M
+met-sequence::sequence t = lts.spec (callees t) (at_exchange own.Pre t) own.Post (Inv-loop t) μ_loop
     -- end-of-requires, mul-place-of, element-copy-out-place-of, place-of-requires, add-child
     (λ c κs. search rules) (λ c. omega arith) (λ c. omega arith) (λ c κs. search rules) (λ c. omega arith)
     -- child-requires, waiting-requires
@@ -72,7 +72,7 @@ met-sequence::sequence t = lts.spec (callees t) (at-exchange own.Pre t) own.Post
     let if1 = c.before in
     let child = if1.before in
     let place_of = child.before.before in
-    rw c.waiting.ensures (turn-out _ _ _ _ _ _ _ (seq-law.seq-over _ _ _ _ _ _ place_of.before.before.end_of_lem.ensures.0 _ _ place_of.place_of.ensures.0
+    rw c.waiting.ensures (turn_out_lem _ _ _ _ _ _ _ (seq-law.seq_over _ _ _ _ _ _ place_of.before.before.end_of_lem.ensures.0 _ _ place_of.place_of.ensures.0
     child.child.ensures.0 if1.if1.true) refl))
     -- loop-holds
     (λ c.
@@ -100,8 +100,8 @@ met-sequence::sequence t = lts.spec (callees t) (at-exchange own.Pre t) own.Post
     let visit = turned.before.before.before in
     let inv = visit.before.before.before.loop.invariant in
     let told = sym turned.turned.ensures ∙ c.enum_told.given.1 in
-    turn-out _ _ _ _ _ _ _ (inv.0 _ (λ k h. seq-law.seq_stopped _ _ _ _ _ _ _ _ _ _ _ k (turns-left inv.4 h)
-    (turn-visit _ _ _ _ _ _ _ visit.visit.ensures told))) told)
+    turn_out_lem _ _ _ _ _ _ _ (inv.0 _ (λ k h. seq-law.seq_stopped _ _ _ _ _ _ _ _ _ _ _ k (turns_left inv.4 h)
+    (turn_visit _ _ _ _ _ _ _ visit.visit.ensures told))) told)
     -- enum-told-2
     (λ c. search rules)
     -- put-place-requires
@@ -118,8 +118,8 @@ met-sequence::sequence t = lts.spec (callees t) (at-exchange own.Pre t) own.Post
     let turned = enum-told2.before.before in
     let visit = turned.before.before.before in
     let inv = visit.before.before.before.loop.invariant in
-    rw c.waiting2.ensures (turn-out _ _ _ _ _ _ _ (inv.0 _ (λ k h. seq-law.seq-running _ _ _ _ _ _ _ _ _ _ _ k (turns-left inv.4 h)
-    (turn-visit _ _ _ _ _ _ _ visit.visit.ensures (sym turned.turned.ensures ∙ enum-told2.enum-told2.given.1)) _ c.before.put-place.ensures)) refl))
+    rw c.waiting2.ensures (turn_out_lem _ _ _ _ _ _ _ (inv.0 _ (λ k h. seq-law.seq_running _ _ _ _ _ _ _ _ _ _ _ k (turns_left inv.4 h)
+    (turn_visit _ _ _ _ _ _ _ visit.visit.ensures (sym turned.turned.ensures ∙ enum-told2.enum-told2.given.1)) _ c.before.put-place.ensures)) refl))
     -- enum-told-3
     (λ c. search rules)
     -- put-place-requires-2
@@ -134,8 +134,8 @@ met-sequence::sequence t = lts.spec (callees t) (at-exchange own.Pre t) own.Post
     let visit = turned.before.before.before in
     let inv = visit.before.before.before.loop.invariant in
     let told = sym turned.turned.ensures ∙ c.before.before.enum-told3.given.1 in
-    turn-out _ _ _ _ _ _ _ (inv.0 _ (λ k h. seq-law.seq-failed _ _ _ _ _ _ _ _ _ _ _ k (turns-left inv.4 h)
-    (turn-visit _ _ _ _ _ _ _ visit.visit.ensures told) _ c.put-place2.ensures)) told)
+    turn_out_lem _ _ _ _ _ _ _ (inv.0 _ (λ k h. seq-law.seq_failed _ _ _ _ _ _ _ _ _ _ _ k (turns_left inv.4 h)
+    (turn_visit _ _ _ _ _ _ _ visit.visit.ensures told) _ c.put-place2.ensures)) told)
     -- enum-told-4
     (λ c. search rules)
     -- end-of-requires-2
@@ -163,8 +163,8 @@ met-sequence::sequence t = lts.spec (callees t) (at-exchange own.Pre t) own.Post
     let visit = turned.before.before.before in
     let inv = visit.before.before.before.loop.invariant in
     let told = sym turned.turned.ensures ∙ end-of2.before.before.enum-told4.given.1 in
-    turn-out _ _ _ _ _ _ _ (inv.0 _ (λ k h. seq-law.seq-last _ _ _ _ _ _ _ _ _ _ _ (turn-visit _ _ _ _ _ _ _ visit.visit.ensures told) _ end-of2.end-of2.ensures.0 k
-    (turns-left inv.4 h) if2.if2.true _ updates.updates.ensures _ up-on.up-on.ensures _ c.put-place3.ensures)) told)
+    turn_out_lem _ _ _ _ _ _ _ (inv.0 _ (λ k h. seq-law.seq_last _ _ _ _ _ _ _ _ _ _ _ (turn_visit _ _ _ _ _ _ _ visit.visit.ensures told) _ end-of2.end-of2.ensures.0 k
+    (turns_left inv.4 h) if2.if2.true _ updates.updates.ensures _ up-on.up-on.ensures _ c.put-place3.ensures)) told)
     -- end-of-requires-3
     (λ c κs. c.before.before.before.before.end-of2.ensures.1)
     -- fresh-requires
@@ -196,9 +196,9 @@ met-sequence::sequence t = lts.spec (callees t) (at-exchange own.Pre t) own.Post
     let turned = end-of2.before.before.before.before in
     let visit = turned.before.before.before in
     let inv = visit.before.before.before.loop.invariant in
-    rw c.waiting3.ensures (turn-out _ _ _ _ _ _ _ (inv.0 _ (λ k h. seq-law.seq-other _ _ _ _ _ _ _ _ _ _ _
-    (turn-visit _ _ _ _ _ _ _ visit.visit.ensures (sym turned.turned.ensures ∙ end-of2.before.before.enum-told4.given.1)) _ end-of2.end-of2.ensures.0
-    if2.if2.false _ end-of3.end-of3.ensures.0 _ _ fresh.fresh.ensures.0 fresh.fresh.ensures.1 k (turns-left inv.4 h)
+    rw c.waiting3.ensures (turn_out_lem _ _ _ _ _ _ _ (inv.0 _ (λ k h. seq-law.seq_other _ _ _ _ _ _ _ _ _ _ _
+    (turn_visit _ _ _ _ _ _ _ visit.visit.ensures (sym turned.turned.ensures ∙ end-of2.before.before.enum-told4.given.1)) _ end-of2.end-of2.ensures.0
+    if2.if2.false _ end-of3.end-of3.ensures.0 _ _ fresh.fresh.ensures.0 fresh.fresh.ensures.1 k (turns_left inv.4 h)
     (sym updates.updates.ensures ∙ not-true _ if3.if3.true) _ put-place4.put-place4.ensures)) refl))
     -- loop-less
     (λ c.
@@ -216,8 +216,8 @@ met-sequence::sequence t = lts.spec (callees t) (at-exchange own.Pre t) own.Post
     let visit = turned.before.before.before in
     let inv = visit.before.before.before.loop.invariant in
     let n = end-of2.end-of2.ensures.2 (inside inv.1 inv.4) in (
-      (λ r e. inv.0 r (λ k h. seq-law.seq-again _ _ _ _ _ _ _ _ _ _ _
-          (turn-visit _ _ _ _ _ _ _ visit.visit.ensures (sym turned.turned.ensures ∙ end-of2.before.before.enum-told4.given.1)) _ end-of2.end-of2.ensures.0
+      (λ r e. inv.0 r (λ k h. seq-law.seq_again _ _ _ _ _ _ _ _ _ _ _
+          (turn_visit _ _ _ _ _ _ _ visit.visit.ensures (sym turned.turned.ensures ∙ end-of2.before.before.enum-told4.given.1)) _ end-of2.end-of2.ensures.0
           if2.if2.false _ end-of3.end-of3.ensures.0 _ _ fresh.fresh.ensures.0 fresh.fresh.ensures.1 k h n
           (sym updates.updates.ensures ∙ not-false _ c.if3.false) r e)),
       inv.1,

@@ -5,13 +5,13 @@ use native.Mathlib.Omega.{arith}
 use borrow.Author.Rules.{rules}
 use lib.Ieee.{binary64, of_bits}
 use lib.ListN.{length}
-use Rattle.work.specs.Flat.{Out, turning, visiting, whenAll, whenAllGo}
-use Rattle.work.proofs.VisitLaws.{turn-out, turn-visit, turned-back}
+use Rattle.work.specs.Flat.{Out, turning, visiting, when_all, when_all_go}
+use Rattle.work.proofs.VisitLaws.{turn_out_lem, turn_visit, turned_back}
 use Rattle.work.proofs.end_of.Reads as end_of_lem
 use Rattle.work.proofs.fresh.Reads as fresh
 use Rattle.work.proofs.mark_of.Reads as mark_of
 use Rattle.work.proofs.passed.Reads as passed
-use Rattle.work.proofs.put_mark.Reads as put-mark
+use Rattle.work.proofs.put_mark.Reads as put_mark
 use Rattle.work.proofs.result.Seen.turned.Reads as turned
 use Rattle.work.proofs.smaller.Reads as smaller
 use Rattle.work.proofs.waiting.Reads as waiting
@@ -24,18 +24,18 @@ use Rattle.walk.proofs.visit.Reads as visit
 use Rattle.walk.proofs.when_all.when_all.Reads as own
 use Rattle.walk.proofs.+by_kind_decorators_if_node_while_all_while_loop_memoryless_sequence_tick_node_visit_after_race_when_all as cycle
 use cycle.Lts-when_all-when_all as lts
-use cycle.Proof.Measures.{at-exchange, visit-below}
+use cycle.Proof.Measures.{at_exchange, visit_below}
 
 abbrev Inv-loop : ℕ → lts.invariant-loop
 Inv-loop t work₀ limits statuses leftovers times₀ any p depth dt stop q₀ ended least₀ all-marked₀ work times q least all-marked =
     ((r : Out) → ((j : ℕ) → stop - q ≤ j
-    → whenAllGo (turning any (visitor limits statuses leftovers depth)) stop dt j q all-marked least work times ≡ r)
-    → whenAll (turning any (visitor limits statuses leftovers depth)) least₀ p dt work₀ times₀ ≡ r)
+    → when_all_go (turning any (visitor limits statuses leftovers depth)) stop dt j q all-marked least work times ≡ r)
+    → when_all (turning any (visitor limits statuses leftovers depth)) least₀ p dt work₀ times₀ ≡ r)
     × (Bounds t p depth stop)
     × (length times ≡ length times₀)
 
-abbrev μ-loop : lts.decreases-loop
-μ-loop work₀ limits statuses leftovers times₀ any p depth dt stop q₀ ended least₀ all-marked₀ work times q least all-marked = stop - q
+abbrev μ_loop : lts.decreases-loop
+μ_loop work₀ limits statuses leftovers times₀ any p depth dt stop q₀ ended least₀ all-marked₀ work times q least all-marked = stop - q
 
 abbrev callees : ℕ → lts.Claims
 callees t = (
@@ -51,33 +51,33 @@ callees t = (
   keeps-waiting.Learnt,
   past-waits.Asked,
   past-waits.Learnt,
-  visit-below t,
+  visit_below t,
   visit.Post,
   fresh.Asked,
   fresh.Learnt,
-  put-mark.Asked,
-  put-mark.Learnt,
+  put_mark.Asked,
+  put_mark.Learnt,
   smaller.Asked,
   smaller.Learnt,
   waiting.Asked,
   waiting.Learnt,
 )
 
-pub met-when-all::when-all : {M : Type 1} (t : ℕ) → lts.Closed (callees t) (at-exchange own.Pre t) own.Post M
+pub met-when-all::when-all : {M : Type 1} (t : ℕ) → lts.Closed (callees t) (at_exchange own.Pre t) own.Post M
 unfolding of_bits
-met-when-all::when-all t = lts.spec (callees t) (at-exchange own.Pre t) own.Post (Inv-loop t) μ-loop
+met-when-all::when-all t = lts.spec (callees t) (at_exchange own.Pre t) own.Post (Inv-loop t) μ_loop
     -- end-of-requires, add-q, turned-requires, passed-requires
     (λ c κs. search rules) (λ c. omega arith) (λ c κs. search rules) (λ c κs. search rules)
     -- returns
     (λ c.
     let turned = c.before.before in
     let if1 = turned.before in
-    turn-out _ _ _ _ _ _ _ (when-law.when-empty _ _ _ _ _ _ if1.before.end_of_lem.ensures.0 _ if1.if1.true _ c.passed.ensures)
-    (turned-back _ _ _ (sym turned.turned.ensures)))
+    turn_out_lem _ _ _ _ _ _ _ (when-law.when_empty _ _ _ _ _ _ if1.before.end_of_lem.ensures.0 _ if1.if1.true _ c.passed.ensures)
+    (turned_back _ _ _ (sym turned.turned.ensures)))
     -- loop-holds
     (λ c.
     let end_of_lem = c.before in (
-      (λ r e. when-law.when-start _ _ _ _ _ _ end_of_lem.end_of_lem.ensures.0 _ c.if1.false _ (e 256 (omega (arith, end_of_lem.end_of_lem.ensures.1)))),
+      (λ r e. when-law.when_start _ _ _ _ _ _ end_of_lem.end_of_lem.ensures.0 _ c.if1.false _ (e 256 (omega (arith, end_of_lem.end_of_lem.ensures.1)))),
       bounds _ _ _ _ end_of_lem.before.before.before.requires end_of_lem.end_of_lem.ensures.1,
       refl,
     ))
@@ -120,9 +120,9 @@ met-when-all::when-all t = lts.spec (callees t) (at-exchange own.Pre t) own.Post
     let mark_of = if2.before in
     let loop-test = mark_of.before.before.before.before in
     let told = sym turned2.turned2.ensures ∙ c.enum_told.given.1 in
-    turn-out _ _ _ _ _ _ _ (loop-test.before.loop.invariant.0 _ (λ k h. when-law.when-stopped _ _ _ _ _ _ _ _ loop-test.loop-test.true _
+    turn_out_lem _ _ _ _ _ _ _ (loop-test.before.loop.invariant.0 _ (λ k h. when-law.when_stopped _ _ _ _ _ _ _ _ loop-test.loop-test.true _
     mark_of.mark_of.ensures.0 if2.if2.true _ _ _ k h (as_it_was (turning _ (visiting binary64 _ _)) _ _ (keeps.keeps-waiting.ensures.1 else3.if3.false)
-    (turn-visit _ _ _ _ _ _ _ visit.visit.ensures told)))) told)
+    (turn_visit _ _ _ _ _ _ _ visit.visit.ensures told)))) told)
     -- enum-told-2
     (λ c. search rules)
     -- same-length-2
@@ -140,9 +140,9 @@ met-when-all::when-all t = lts.spec (callees t) (at-exchange own.Pre t) own.Post
     let mark_of = if2.before in
     let loop-test = mark_of.before.before.before.before in
     let told = sym turned2.turned2.ensures ∙ c.enum-told2.given.1 in
-    turn-out _ _ _ _ _ _ _ (loop-test.before.loop.invariant.0 _ (λ k h. when-law.when-failed _ _ _ _ _ _ _ _ loop-test.loop-test.true _
+    turn_out_lem _ _ _ _ _ _ _ (loop-test.before.loop.invariant.0 _ (λ k h. when-law.when_failed _ _ _ _ _ _ _ _ loop-test.loop-test.true _
     mark_of.mark_of.ensures.0 if2.if2.true _ _ _ k h (as_it_was (turning _ (visiting binary64 _ _)) _ _ (keeps.keeps-waiting.ensures.1 else3.if3.false)
-    (turn-visit _ _ _ _ _ _ _ visit.visit.ensures told)))) told)
+    (turn_visit _ _ _ _ _ _ _ visit.visit.ensures told)))) told)
     -- enum-told-3, enum-told-4
     (λ c. search rules) (λ c. search rules)
     -- fresh-requires
@@ -175,10 +175,10 @@ met-when-all::when-all t = lts.spec (callees t) (at-exchange own.Pre t) own.Post
     let end-of2 = mark_of.before.before in
     let d = end-of2.before.before.loop-test.true in
     let inv = end-of2.before.before.before.loop.invariant in (
-      (λ r e. inv.0 r (λ k h. when-law.when-running _ _ _ _ _ _ _ _ d _ mark_of.mark_of.ensures.0 if2.if2.true _ _ _ k h
-          (turn-visit _ _ _ _ _ _ _ (keeps.keeps-waiting.ensures.0 if3.if3.true _ _ _) refl) _ end-of2.end-of2.ensures.0
+      (λ r e. inv.0 r (λ k h. when-law.when_running _ _ _ _ _ _ _ _ d _ mark_of.mark_of.ensures.0 if2.if2.true _ _ _ k h
+          (turn_visit _ _ _ _ _ _ _ (keeps.keeps-waiting.ensures.0 if3.if3.true _ _ _) refl) _ end-of2.end-of2.ensures.0
           (end-of2.end-of2.ensures.2 (inside inv.1 d)) r
-          (when-law.when-waiting _ _ _ _ _ _ _ _ past.past-waits.ensures.0 past.past-waits.ensures.1 r e))),
+          (when-law.when_waiting _ _ _ _ _ _ _ _ past.past-waits.ensures.0 past.past-waits.ensures.1 r e))),
       inv.1,
       past.past-waits.auto.1.1.0 ∙ keeps.keeps-waiting.auto.1.1.0 ∙ inv.2,
     ))
@@ -196,8 +196,8 @@ met-when-all::when-all t = lts.spec (callees t) (at-exchange own.Pre t) own.Post
     let end-of2 = mark_of.before.before in
     let d = end-of2.before.before.loop-test.true in
     let inv = end-of2.before.before.before.loop.invariant in (
-      (λ r e. inv.0 r (λ k h. when-law.when-running _ _ _ _ _ _ _ _ d _ mark_of.mark_of.ensures.0 if2.if2.true _ _ _ k h
-          (turn-visit _ _ _ _ _ _ _ (keeps.keeps-waiting.ensures.0 if3.if3.true _ _ _) refl) _ end-of2.end-of2.ensures.0
+      (λ r e. inv.0 r (λ k h. when-law.when_running _ _ _ _ _ _ _ _ d _ mark_of.mark_of.ensures.0 if2.if2.true _ _ _ k h
+          (turn_visit _ _ _ _ _ _ _ (keeps.keeps-waiting.ensures.0 if3.if3.true _ _ _) refl) _ end-of2.end-of2.ensures.0
           (end-of2.end-of2.ensures.2 (inside inv.1 d)) r e)),
       inv.1,
       keeps.keeps-waiting.auto.1.1.0 ∙ inv.2,
@@ -219,9 +219,9 @@ met-when-all::when-all t = lts.spec (callees t) (at-exchange own.Pre t) own.Post
     let end-of2 = mark_of.before.before in
     let d = end-of2.before.before.loop-test.true in
     let inv = end-of2.before.before.before.loop.invariant in (
-      (λ r e. inv.0 r (λ k h. when-law.when-running _ _ _ _ _ _ _ _ d _ mark_of.mark_of.ensures.0 if2.if2.true _ _ _ k h
+      (λ r e. inv.0 r (λ k h. when-law.when_running _ _ _ _ _ _ _ _ d _ mark_of.mark_of.ensures.0 if2.if2.true _ _ _ k h
           (as_it_was (turning _ (visiting binary64 _ _)) _ _ (keeps.keeps-waiting.ensures.1 else3.if3.false)
-          (turn-visit _ _ _ _ _ _ _ visit.visit.ensures (sym turned2.turned2.ensures ∙ c.enum-told3.given.1))) _ end-of2.end-of2.ensures.0
+          (turn_visit _ _ _ _ _ _ _ visit.visit.ensures (sym turned2.turned2.ensures ∙ c.enum-told3.given.1))) _ end-of2.end-of2.ensures.0
           (end-of2.end-of2.ensures.2 (inside inv.1 d)) r e)),
       inv.1,
       visit.visit.auto.1.1.1.1.0 ∙ keeps.keeps-waiting.auto.1.1.0 ∙ inv.2,
@@ -235,8 +235,8 @@ met-when-all::when-all t = lts.spec (callees t) (at-exchange own.Pre t) own.Post
     closer d (end-of2.end-of2.ensures.2 (inside end-of2.before.before.before.loop.invariant.1 d)))
     -- loop-again-4
     (λ c.
-    let put-mark = c.before in
-    let fresh = put-mark.before.before.before.before in
+    let put_mark = c.before in
+    let fresh = put_mark.before.before.before.before in
     let enum-told4 = fresh.before.before.before in
     let turned2 = enum-told4.before.before in
     let visit = turned2.before.before.before in
@@ -247,10 +247,10 @@ met-when-all::when-all t = lts.spec (callees t) (at-exchange own.Pre t) own.Post
     let end-of2 = mark_of.before.before in
     let d = end-of2.before.before.loop-test.true in
     let inv = end-of2.before.before.before.loop.invariant in (
-      (λ r e. inv.0 r (λ k h. when-law.when-success _ _ _ _ _ _ _ _ d _ mark_of.mark_of.ensures.0 if2.if2.true _ _ _ k h
+      (λ r e. inv.0 r (λ k h. when-law.when_success _ _ _ _ _ _ _ _ d _ mark_of.mark_of.ensures.0 if2.if2.true _ _ _ k h
           (as_it_was (turning _ (visiting binary64 _ _)) _ _ (keeps.keeps-waiting.ensures.1 else3.if3.false)
-          (turn-visit _ _ _ _ _ _ _ visit.visit.ensures (sym turned2.turned2.ensures ∙ enum-told4.enum-told4.given.1))) _ end-of2.end-of2.ensures.0
-          (end-of2.end-of2.ensures.2 (inside inv.1 d)) _ _ fresh.fresh.ensures.0 fresh.fresh.ensures.1 _ put-mark.put-mark.ensures _
+          (turn_visit _ _ _ _ _ _ _ visit.visit.ensures (sym turned2.turned2.ensures ∙ enum-told4.enum-told4.given.1))) _ end-of2.end-of2.ensures.0
+          (end-of2.end-of2.ensures.2 (inside inv.1 d)) _ _ fresh.fresh.ensures.0 fresh.fresh.ensures.1 _ put_mark.put_mark.ensures _
           c.smaller.ensures r e)),
       inv.1,
       fresh.fresh.auto.1.0 ∙ visit.visit.auto.1.1.1.1.0 ∙ keeps.keeps-waiting.auto.1.1.0 ∙ inv.2,
@@ -266,7 +266,7 @@ met-when-all::when-all t = lts.spec (callees t) (at-exchange own.Pre t) own.Post
     let end-of2 = mark_of.before.before in
     let d = end-of2.before.before.loop-test.true in
     let inv = end-of2.before.before.before.loop.invariant in (
-      (λ r e. inv.0 r (λ k h. when-law.when-marked _ _ _ _ _ _ _ _ d _ mark_of.mark_of.ensures.0 k h c.if2.false _ end-of2.end-of2.ensures.0
+      (λ r e. inv.0 r (λ k h. when-law.when_marked _ _ _ _ _ _ _ _ d _ mark_of.mark_of.ensures.0 k h c.if2.false _ end-of2.end-of2.ensures.0
           (end-of2.end-of2.ensures.2 (inside inv.1 d)) r e)),
       inv.1,
       inv.2,
@@ -278,8 +278,8 @@ met-when-all::when-all t = lts.spec (callees t) (at-exchange own.Pre t) own.Post
     -- returns-4
     (λ c.
     let loop-test = c.before.before in
-    turn-out _ _ _ _ _ _ _ (loop-test.before.loop.invariant.0 _ (λ k h. when-law.when-all-over _ _ _ _ _ _ _ _ k loop-test.loop-test.false c.before.if5.true))
-    (turned-back _ _ _ (sym c.turned3.ensures)))
+    turn_out_lem _ _ _ _ _ _ _ (loop-test.before.loop.invariant.0 _ (λ k h. when-law.when_all_over _ _ _ _ _ _ _ _ k loop-test.loop-test.false c.before.if5.true))
+    (turned_back _ _ _ (sym c.turned3.ensures)))
     -- waiting-requires
     (λ c κs. search rules)
     -- same-length-4
@@ -287,5 +287,5 @@ met-when-all::when-all t = lts.spec (callees t) (at-exchange own.Pre t) own.Post
     -- returns-5
     (λ c.
     let loop-test = c.before.before in
-    rw c.waiting.ensures (turn-out _ _ _ _ _ _ _
-    (loop-test.before.loop.invariant.0 _ (λ k h. when-law.when-some-over _ _ _ _ _ _ _ _ k loop-test.loop-test.false c.before.if5.false)) refl))
+    rw c.waiting.ensures (turn_out_lem _ _ _ _ _ _ _
+    (loop-test.before.loop.invariant.0 _ (λ k h. when-law.when_some_over _ _ _ _ _ _ _ _ k loop-test.loop-test.false c.before.if5.false)) refl))

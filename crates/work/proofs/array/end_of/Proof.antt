@@ -10,9 +10,9 @@ returns : tie.Need-returns
 unfolding end_of
 returns c = let below = c.before.below_of.ensures in (rw (← below.0, lt-ltb _ 256 c.if1.true), omega arith, (λ h. omega arith))
 
-returns-2 : tie.Need-returns-2
+returns_2 : tie.Need-returns-2
 unfolding end_of
-returns-2 c = let below = c.before.below_of.ensures in (rw (← below.0, le-ltb _ 256 c.if1.false), omega arith, (λ h. omega arith))
+returns_2 c = let below = c.before.below_of.ensures in (rw (← below.0, le-ltb _ 256 c.if1.false), omega arith, (λ h. omega arith))
 
-pub end-of-spec : {M : Type 1} → statement M
-end-of-spec = tie.close (tie.spec (λ c. search rules) (λ c. search rules) (λ c. search rules) (λ c κs. search rules) (λ c. search rules) returns returns-2)
+pub end_of_spec : {M : Type 1} → statement M
+end_of_spec = tie.close (tie.spec (λ c. search rules) (λ c. search rules) (λ c. search rules) (λ c κs. search rules) (λ c. search rules) returns returns_2)

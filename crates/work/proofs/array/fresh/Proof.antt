@@ -4,47 +4,47 @@ use Prim.Native.Nat.{◌-◌}
 use native.Mathlib.Omega.{arith}
 use lib.Ieee.{of_bits}
 use lib.ListN.{length}
-use Rattle.work.specs.Array.{freshWords, freshTimes}
-use Rattle.work.proofs.Laws.{fresh-word-one, fresh-word-none, fresh-time-one, fresh-time-none}
+use Rattle.work.specs.Array.{fresh_words, fresh_times}
+use Rattle.work.proofs.Laws.{fresh_word_one, fresh_word_none, fresh_time_one, fresh_time_none}
 use borrow.Author.Rules.{rules}
 use Rattle.work.proofs.array.fresh.Statement.{statement}
 use Rattle.work.proofs.array.fresh.Tie as tie
 
-abbrev invariant-loop : tie.invariant-loop
-invariant-loop work₀ times₀ from to at₀ work times at =
-    (freshWords at (to - at) work ≡ freshWords from (to - from) work₀)
-    × (freshTimes at (to - at) times ≡ freshTimes from (to - from) times₀)
+abbrev invariant_loop : tie.invariant-loop
+invariant_loop work₀ times₀ from to at₀ work times at =
+    (fresh_words at (to - at) work ≡ fresh_words from (to - from) work₀)
+    × (fresh_times at (to - at) times ≡ fresh_times from (to - from) times₀)
     × (length times ≡ length times₀)
 
-abbrev decreases-loop : tie.decreases-loop
-decreases-loop work₀ times₀ from to at₀ work times at = to - at
+abbrev decreases_loop : tie.decreases-loop
+decreases_loop work₀ times₀ from to at₀ work times at = to - at
 
-loop-holds : tie.Need-loop-init invariant-loop decreases-loop
-loop-holds c = (refl, refl, refl)
+loop_holds : tie.Need-loop-init invariant_loop decreases_loop
+loop_holds c = (refl, refl, refl)
 
-loop-again : tie.Need-loop-preserved invariant-loop decreases-loop
+loop_again : tie.Need-loop-preserved invariant_loop decreases_loop
 unfolding of_bits
-loop-again c =
+loop_again c =
     let put = c.before.before.before.before.put-time in
     let inv = c.before.before.before.before.before.before.before.loop.invariant in (
-      fresh-word-one _ _ _ _ _ (omega arith) c.fresh-word.ensures ∙ inv.0,
-      fresh-time-one _ _ _ _ _ (omega arith) put.ensures ∙ inv.1,
+      fresh_word_one _ _ _ _ _ (omega arith) c.fresh-word.ensures ∙ inv.0,
+      fresh_time_one _ _ _ _ _ (omega arith) put.ensures ∙ inv.1,
       put.auto.0 ∙ inv.2,
     )
 
-same_length : tie.Need-same-length invariant-loop decreases-loop
+same_length : tie.Need-same-length invariant_loop decreases_loop
 same_length c = c.before.loop.invariant.2
 
-returns : tie.Need-returns invariant-loop decreases-loop
-returns c = let inv = c.before.loop.invariant in (sym (fresh-word-none _ _ _ (omega arith)) ∙ inv.0, sym (fresh-time-none _ _ _ (omega arith)) ∙ inv.1)
+returns : tie.Need-returns invariant_loop decreases_loop
+returns c = let inv = c.before.loop.invariant in (sym (fresh_word_none _ _ _ (omega arith)) ∙ inv.0, sym (fresh_time_none _ _ _ (omega arith)) ∙ inv.1)
 
-pub fresh-spec : {M : Type 1} → statement M
-fresh-spec =
+pub fresh_spec : {M : Type 1} → statement M
+fresh_spec =
     tie.close
     (tie.spec
-    invariant-loop
-    decreases-loop
-    loop-holds
+    invariant_loop
+    decreases_loop
+    loop_holds
     (λ c κs. search rules)
     (λ c. search rules)
     (λ c. search rules)
@@ -53,6 +53,6 @@ fresh-spec =
     (λ c. search rules)
     (λ c. search rules)
     (λ c. search rules)
-    loop-again
+    loop_again
     same_length
     returns)

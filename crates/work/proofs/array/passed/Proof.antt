@@ -9,9 +9,9 @@ returns : tie.Need-returns
 unfolding passed
 returns c = rw (← c.before.updates.ensures, c.if1.true)
 
-returns-2 : tie.Need-returns-2
+returns_2 : tie.Need-returns-2
 unfolding passed of_bits
-returns-2 c = rw (← c.before.updates.ensures, c.if1.false)
+returns_2 c = rw (← c.before.updates.ensures, c.if1.false)
 
-pub passed-spec : {M : Type 1} → statement M
-passed-spec = tie.close (tie.spec (λ c κs. search rules) returns returns-2)
+pub passed_spec : {M : Type 1} → statement M
+passed_spec = tie.close (tie.spec (λ c κs. search rules) returns returns_2)

@@ -5,8 +5,8 @@ use borrow.Author.Rules.{rules}
 use Rattle.work.proofs.array.put_time.Statement.{statement}
 use Rattle.work.proofs.array.put_time.Tie as tie
 
-returns-2 : tie.Need-returns-2
-returns-2 c = sym (set_out _ _ _ c.if1.false)
+returns_2 : tie.Need-returns-2
+returns_2 c = sym (set_out _ _ _ c.if1.false)
 
-pub put-time-spec : {M : Type 1} → statement M
-put-time-spec = tie.close (tie.spec (λ c. search rules) (λ c. search rules) (λ c. search rules) (λ c. search rules) returns-2)
+pub put_time_spec : {M : Type 1} → statement M
+put_time_spec = tie.close (tie.spec (λ c. search rules) (λ c. search rules) (λ c. search rules) (λ c. search rules) returns_2)

@@ -6,8 +6,8 @@ use Rattle.work.proofs.moves.child_after.Tie as tie
 returns : tie.Need-returns
 returns c = rw (lt-ltb _ _ c.if1.true)
 
-returns-2 : tie.Need-returns-2
-returns-2 c = rw (le-ltb _ _ c.if1.false)
+returns_2 : tie.Need-returns-2
+returns_2 c = rw (le-ltb _ _ c.if1.false)
 
-pub child-after-spec : {M : Type 1} → statement M
-child-after-spec = tie.close (tie.spec returns returns-2)
+pub child_after_spec : {M : Type 1} → statement M
+child_after_spec = tie.close (tie.spec returns returns_2)

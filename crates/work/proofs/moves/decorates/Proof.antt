@@ -9,5 +9,5 @@ use Rattle.work.proofs.moves.decorates.Tie as tie
 returns : tie.Need-returns
 returns c = ap (λ (m : ℕ). eqb m 1) c.most.ensures
 
-pub decorates-spec : {M : Type 1} → statement M
-decorates-spec = tie.close (tie.spec (λ c κs. search rules) returns)
+pub decorates_spec : {M : Type 1} → statement M
+decorates_spec = tie.close (tie.spec (λ c κs. search rules) returns)

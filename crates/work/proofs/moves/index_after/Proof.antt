@@ -7,8 +7,8 @@ use Rattle.work.proofs.moves.index_after.Tie as tie
 returns : tie.Need-returns
 returns c = rw (lt-ltb _ _ c.if1.true)
 
-returns-2 : tie.Need-returns-2
-returns-2 c = rw (le-ltb _ _ c.if1.false)
+returns_2 : tie.Need-returns-2
+returns_2 c = rw (le-ltb _ _ c.if1.false)
 
-pub index-after-spec : {M : Type 1} → statement M
-index-after-spec = tie.close (tie.spec (λ c. search rules) returns returns-2)
+pub index_after_spec : {M : Type 1} → statement M
+index_after_spec = tie.close (tie.spec (λ c. search rules) returns returns_2)

@@ -9,5 +9,5 @@ use Rattle.work.proofs.moves.is_leaf.Tie as tie
 returns : tie.Need-returns
 returns c = ap (λ (m : ℕ). eqb m 0) c.most.ensures
 
-pub is-leaf-spec : {M : Type 1} → statement M
-is-leaf-spec = tie.close (tie.spec (λ c κs. search rules) returns)
+pub is_leaf_spec : {M : Type 1} → statement M
+is_leaf_spec = tie.close (tie.spec (λ c κs. search rules) returns)

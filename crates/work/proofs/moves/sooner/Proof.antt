@@ -6,5 +6,5 @@ use Rattle.work.proofs.moves.sooner.Tie as tie
 returns : tie.Need-returns
 returns c = rw c.if1.true
 
-pub sooner-spec : {M : Type 1} → statement M
-sooner-spec = tie.close (tie.spec returns (λ c. search rules))
+pub sooner_spec : {M : Type 1} → statement M
+sooner_spec = tie.close (tie.spec returns (λ c. search rules))

@@ -8,5 +8,5 @@ returns : tie.Need-returns
 unfolding of_bits
 returns c = refl
 
-pub waiting-spec : {M : Type 1} → statement M
-waiting-spec = tie.close (tie.spec returns)
+pub waiting_spec : {M : Type 1} → statement M
+waiting_spec = tie.close (tie.spec returns)

@@ -8,5 +8,5 @@ returns : tie.Need-returns
 unfolding code_of
 returns c = search rules
 
-pub code-of-spec : {M : Type 1} → statement M
-code-of-spec = tie.close (tie.spec (λ c. search rules) returns)
+pub code_of_spec : {M : Type 1} → statement M
+code_of_spec = tie.close (tie.spec (λ c. search rules) returns)

@@ -8,5 +8,5 @@ returns : tie.Need-returns
 unfolding mark_of
 returns c = search rules
 
-pub mark-of-spec : {M : Type 1} → statement M
-mark-of-spec = tie.close (tie.spec returns)
+pub mark_of_spec : {M : Type 1} → statement M
+mark_of_spec = tie.close (tie.spec returns)

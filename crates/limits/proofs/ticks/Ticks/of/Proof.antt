@@ -7,8 +7,8 @@ use Rattle.limits.proofs.ticks.Ticks.of.Tie as tie
 returns : tie.Need-returns
 returns c = ap Within (omega arith)
 
-returns-2 : tie.Need-returns-2
-returns-2 c = ap Within (omega arith)
+returns_2 : tie.Need-returns-2
+returns_2 c = ap Within (omega arith)
 
 pub of_spec : {M : Type 1} → statement M
-of_spec = tie.close (tie.spec returns returns-2)
+of_spec = tie.close (tie.spec returns returns_2)

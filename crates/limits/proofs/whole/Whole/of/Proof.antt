@@ -2,30 +2,30 @@
 use Rattle.std.proofs.Common.{T, sym, subst}
 use denote.Floats.{passes}
 use lib.Ieee.{binary64, of_bits, neg}
-use Rattle.limits.proofs.WholeTimes.{below_no_nan, whole_float, whole-no-nan, whole-yes, whole-other, whole-large, whole-high, whole-low}
+use Rattle.limits.proofs.WholeTimes.{below_no_nan, whole_float, whole_no_nan, whole_yes, whole_other, whole_large, whole_high, whole_low}
 use Rattle.limits.proofs.whole.Whole.of.Statement.{statement}
 use Rattle.limits.proofs.whole.Whole.of.Tie as tie
 
-truncating-f64-to-u64-requires : tie.Need-truncating-f64-to-u64-requires
+truncating_f64_to_u64_requires : tie.Need-truncating-f64-to-u64-requires
 unfolding of_bits neg
-truncating-f64-to-u64-requires c κs = (subst T (sym c.before.if1.true) tt, subst T (sym c.if2.true) tt)
+truncating_f64_to_u64_requires c κs = (subst T (sym c.before.if1.true) tt, subst T (sym c.if2.true) tt)
 
-returns-4 : tie.Need-returns-4
+returns_4 : tie.Need-returns-4
 unfolding of_bits
-returns-4 c = whole-high binary64 _ c.if2.false
+returns_4 c = whole_high binary64 _ c.if2.false
 
-returns-5 : tie.Need-returns-5
+returns_5 : tie.Need-returns-5
 unfolding of_bits neg
-returns-5 c = whole-low binary64 _ c.if1.false
+returns_5 c = whole_low binary64 _ c.if1.false
 
 pub of_spec : {M : Type 1} → statement M
 of_spec = tie.close (tie.spec
-    truncating-f64-to-u64-requires
+    truncating_f64_to_u64_requires
     (λ c. search whole_float)
-    (λ c. search whole-no-nan)
+    (λ c. search whole_no_nan)
     (λ c. search below_no_nan)
-    (λ c. search (whole-yes, passes))
-    (λ c. search (whole-other, passes, c.if4.false))
-    (λ c. search whole-large)
-    returns-4
-    returns-5)
+    (λ c. search (whole_yes, passes))
+    (λ c. search (whole_other, passes, c.if4.false))
+    (λ c. search whole_large)
+    returns_4
+    returns_5)

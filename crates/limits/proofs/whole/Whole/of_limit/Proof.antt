@@ -8,5 +8,5 @@ use Rattle.limits.proofs.whole.Whole.of_limit.Tie as tie
 returns : tie.Need-returns
 returns c = c.of.ensures ∙ ap (whole_of binary64) c.before.cleaned.ensures
 
-pub of-limit-spec : {M : Type 1} → statement M
-of-limit-spec = tie.close (tie.spec (λ c κs. search rules) (λ c κs. search rules) returns)
+pub of_limit_spec : {M : Type 1} → statement M
+of_limit_spec = tie.close (tie.spec (λ c κs. search rules) (λ c κs. search rules) returns)

@@ -11,5 +11,5 @@ others c =
     let kinds : List ℕ = 0 ∷ 1 ∷ 3 ∷ 4 ∷ 5 ∷ 6 ∷ 7 ∷ 8 ∷ 9 ∷ 10 ∷ 11 ∷ 12 ∷ 13 ∷ 14 ∷ 15 ∷ 16 ∷ [] in
     gives (λ k. children k c.before.args.n) kinds c.before.args.self c.match.keys2 (search rules)
 
-pub children-spec : {M : Type 1} → statement M
-children-spec = tie.close (tie.spec (λ c. search rules) (λ c. rw c.enum_told.given.1) others)
+pub children_spec : {M : Type 1} → statement M
+children_spec = tie.close (tie.spec (λ c. search rules) (λ c. rw c.enum_told.given.1) others)

@@ -5,9 +5,9 @@ use Rattle.rules.specs.Kinds.{kind_of, fewest}
 use Rattle.rules.proofs.behavior.Kind.fewest.Statement.{statement}
 use Rattle.rules.proofs.behavior.Kind.fewest.Tie as tie
 
-pub fewest-spec : {M : Type 1} → statement M
+pub fewest_spec : {M : Type 1} → statement M
 unfolding kind_of
-fewest-spec =
+fewest_spec =
     tie.close
     (tie.spec
     (λ c. search rules)

@@ -11,15 +11,15 @@ stays_on c =
     let others : List ℕ = 0 ∷ 1 ∷ 2 ∷ 3 ∷ 4 ∷ 5 ∷ 6 ∷ 7 ∷ 8 ∷ 11 ∷ 12 ∷ 13 ∷ 14 ∷ 15 ∷ 16 ∷ [] in
     rw c.before.if1.true (arm (λ k. k ≡ memory true k) others c.before.before.args.self c.match.keys3 (search depth 20))
 
-stays-off : tie.Need-returns-6
+stays_off : tie.Need-returns-6
 unfolding memory kind_of
-stays-off c =
+stays_off c =
     let others : List ℕ = 0 ∷ 1 ∷ 2 ∷ 3 ∷ 4 ∷ 5 ∷ 7 ∷ 9 ∷ 10 ∷ 11 ∷ 12 ∷ 13 ∷ 14 ∷ 15 ∷ 16 ∷ [] in
     rw c.before.if1.false (arm (λ k. k ≡ memory false k) others c.before.before.args.self c.match2.keys3 (search depth 20))
 
-pub memory-spec : {M : Type 1} → statement M
+pub memory_spec : {M : Type 1} → statement M
 unfolding memory
-memory-spec =
+memory_spec =
     tie.close
     (tie.spec
     (λ c. search rules)
@@ -31,4 +31,4 @@ memory-spec =
     stays_on
     (λ c. rw (c.before.before.if1.false, c.enum-told3.given.1))
     (λ c. rw (c.before.before.if1.false, c.enum-told4.given.1))
-    stays-off)
+    stays_off)

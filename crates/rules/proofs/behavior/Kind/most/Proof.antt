@@ -5,9 +5,9 @@ use Rattle.rules.specs.Kinds.{kind_of, most}
 use Rattle.rules.proofs.behavior.Kind.most.Statement.{statement}
 use Rattle.rules.proofs.behavior.Kind.most.Tie as tie
 
-pub most-spec : {M : Type 1} → statement M
+pub most_spec : {M : Type 1} → statement M
 unfolding kind_of
-most-spec =
+most_spec =
     tie.close
     (tie.spec
     (λ c. search rules)

@@ -3,8 +3,8 @@ use Rattle.std.proofs.Common.{rules}
 use Rattle.rules.proofs.behavior.Kind.number.Statement.{statement}
 use Rattle.rules.proofs.behavior.Kind.number.Tie as tie
 
-pub number-spec : {M : Type 1} → statement M
-number-spec =
+pub number_spec : {M : Type 1} → statement M
+number_spec =
     tie.close
     (tie.spec
     (λ c. search rules)

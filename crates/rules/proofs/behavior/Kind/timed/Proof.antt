@@ -5,9 +5,9 @@ use Rattle.rules.specs.Kinds.{kind_of, timed}
 use Rattle.rules.proofs.behavior.Kind.timed.Statement.{statement}
 use Rattle.rules.proofs.behavior.Kind.timed.Tie as tie
 
-pub timed-spec : {M : Type 1} → statement M
+pub timed_spec : {M : Type 1} → statement M
 unfolding kind_of
-timed-spec =
+timed_spec =
     tie.close
     (tie.spec
     (λ c. gives timed (0 ∷ 5 ∷ []) c.before.args.self c.match.keys1 (search depth 20))

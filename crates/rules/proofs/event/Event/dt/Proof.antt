@@ -4,6 +4,6 @@ use lib.Ieee.{of_bits}
 use Rattle.rules.proofs.event.Event.dt.Statement.{statement}
 use Rattle.rules.proofs.event.Event.dt.Tie as tie
 
-pub dt-spec : {M : Type 1} → statement M
+pub dt_spec : {M : Type 1} → statement M
 unfolding of_bits
-dt-spec = tie.close (tie.spec (λ c. search rules) (λ c. search rules) (λ c. search rules) (λ c. rw c.enum_told.given.1))
+dt_spec = tie.close (tie.spec (λ c. search rules) (λ c. search rules) (λ c. search rules) (λ c. rw c.enum_told.given.1))

@@ -3,8 +3,8 @@ use Rattle.std.proofs.Common.{rules}
 use Rattle.rules.proofs.exchanged.Exchanged.said.Statement.{statement}
 use Rattle.rules.proofs.exchanged.Exchanged.said.Tie as tie
 
-pub said-spec : {M : Type 1} → statement M
-said-spec =
+pub said_spec : {M : Type 1} → statement M
+said_spec =
     tie.close
     (tie.spec
     (λ c. search rules)

@@ -3,8 +3,8 @@ use Rattle.std.proofs.Common.{rules}
 use Rattle.rules.proofs.status.Status.byte.Statement.{statement}
 use Rattle.rules.proofs.status.Status.byte.Tie as tie
 
-pub byte-spec : {M : Type 1} → statement M
-byte-spec =
+pub byte_spec : {M : Type 1} → statement M
+byte_spec =
     tie.close
     (tie.spec
     (λ c. search rules)

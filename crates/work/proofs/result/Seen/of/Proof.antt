@@ -6,11 +6,11 @@ use Rattle.work.proofs.result.Seen.of.Tie as tie
 returns : tie.Need-returns
 returns c = rw c.match.keys1
 
-returns-2 : tie.Need-returns-2
-returns-2 c = rw c.match.keys2
+returns_2 : tie.Need-returns-2
+returns_2 c = rw c.match.keys2
 
-returns-3 : tie.Need-returns-3
-returns-3 c = simp (ne_eqb _ _ c.match.rest.0.1, ne_eqb _ _ c.match.rest.1)
+returns_3 : tie.Need-returns-3
+returns_3 c = simp (ne_eqb _ _ c.match.rest.0.1, ne_eqb _ _ c.match.rest.1)
 
 pub of_spec : {M : Type 1} → statement M
-of_spec = tie.close (tie.spec returns returns-2 returns-3)
+of_spec = tie.close (tie.spec returns returns_2 returns_3)

@@ -1,21 +1,21 @@
 -- Each status, exchanged or not.
 use borrow.Author.Tests.{not-true, not-false}
-use Rattle.work.proofs.Laws.{turned-not}
+use Rattle.work.proofs.Laws.{turned_not}
 use borrow.Author.Rules.{rules}
 use Rattle.work.proofs.result.Seen.turned.Statement.{statement}
 use Rattle.work.proofs.result.Seen.turned.Tie as tie
 
 returns : tie.Need-returns
-returns c = rw (not-true c.before.args.exchange c.if1.true) (turned-not _)
+returns c = rw (not-true c.before.args.exchange c.if1.true) (turned_not _)
 
-returns-4 : tie.Need-returns-4
-returns-4 c = rw (not-false c.before.before.before.args.exchange c.before.before.if1.false, c.enum-told3.given.1)
+returns_4 : tie.Need-returns-4
+returns_4 c = rw (not-false c.before.before.before.args.exchange c.before.before.if1.false, c.enum-told3.given.1)
 
-returns-5 : tie.Need-returns-5
-returns-5 c = rw (not-false c.before.before.before.args.exchange c.before.before.if1.false, c.enum-told4.given.1)
+returns_5 : tie.Need-returns-5
+returns_5 c = rw (not-false c.before.before.before.args.exchange c.before.before.if1.false, c.enum-told4.given.1)
 
-pub turned-spec : {M : Type 1} → statement M
-turned-spec =
+pub turned_spec : {M : Type 1} → statement M
+turned_spec =
     tie.close
     (tie.spec
     returns
@@ -25,5 +25,5 @@ turned-spec =
     (λ c. search rules)
     (λ c. search rules)
     (λ c. search rules)
-    returns-4
-    returns-5)
+    returns_4
+    returns_5)
