@@ -1,5 +1,7 @@
 // The bench program: lines from one descriptor, what they print to another. Document 01, "The bench program".
 // It holds one table with its cells, and one part of the input at a time.
+#![tactic(auto)]
+
 mod cut;
 
 ghost use Rattle.std.specs.Prelude.{◌≤◌, length};
@@ -25,7 +27,7 @@ const LINE: usize = 45;
 
 // How far the program has come: what is held, the part of the input that is still to be served, whether it is the last, and how
 // many bytes are to be written.
-#[derive(Drop)]
+#[derive(Clone, Copy)]
 struct Progress {
     held: Held,
     start: usize,

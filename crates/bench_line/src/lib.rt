@@ -1,4 +1,6 @@
 // One line of the bench program: what it asks for is done, and what it prints is put into a room.
+#![tactic(auto)]
+
 mod said;
 mod step;
 

@@ -14,7 +14,7 @@ pub const NODES: usize = 257;
 
 // What is held between two lines beside the table and the cells: the record, how many nodes there are, whether a tick or a restart
 // came, how many lines came, and whether to go on.
-#[derive(Drop)]
+#[derive(Clone, Copy)]
 pub struct Held {
     pub record: Record,
     pub nodes: usize,
@@ -24,7 +24,7 @@ pub struct Held {
 }
 
 // What is held after a line, and how many bytes it printed.
-#[derive(Drop)]
+#[derive(Clone, Copy)]
 pub struct Done {
     pub held: Held,
     pub printed: usize,

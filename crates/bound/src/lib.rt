@@ -1,4 +1,6 @@
 // The finish bound: document 01, "The finish bound".
+#![tactic(auto)]
+
 ghost use Rattle.std.specs.Prelude.{◌≡◌, List, ℕ, get_or};
 ghost use Rattle.std.specs.Float.{binary64};
 ghost use Rattle.rules.specs.Tree.{Tree, Forest};

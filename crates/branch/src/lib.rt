@@ -1,4 +1,6 @@
 // A branch of a tree: the way down to it, how deep a tree is, and a tree written with the branch replaced.
+#![tactic(auto)]
+
 mod depth;
 mod way;
 pub mod write;

@@ -7,7 +7,7 @@ use rules::Kind;
 use tables::wide;
 
 // How many nodes stand above a node that lies in a spot; or state is held for it.
-#[derive(Drop)]
+#[derive(Clone, Copy)]
 pub enum Way {
     Free(usize),
     Held,

@@ -9,7 +9,7 @@ ghost use Rattle.branch.specs.Write.{source_of, from, at, limit_at, always, InBo
 use rules::{Record, cleaned};
 
 // The nodes from at to stop give way to so many added ones, and the result has so many nodes.
-#[derive(Drop)]
+#[derive(Clone, Copy)]
 pub struct Cut {
     pub at: usize,
     pub stop: usize,
@@ -18,7 +18,7 @@ pub struct Cut {
 }
 
 // The place that a node of the result has in the tree, or in the branch.
-#[derive(Drop)]
+#[derive(Clone, Copy)]
 enum Source {
     Old(usize),
     New(usize),

@@ -1,5 +1,7 @@
 // The call by value: the checks, then the walk, in place, with the cells at entry in the spare.
 // Whoever keeps the record gets it back with the answer.
+#![tactic(auto)]
+
 mod enter;
 
 ghost use Rattle.std.specs.Prelude.{◌≡◌, cond, ◌≤◌};

@@ -6,7 +6,7 @@ use crate::cell::cell_allowed;
 use rules::Kind;
 use tables::wide;
 
-#[derive(Drop)]
+#[derive(Clone, Copy)]
 pub enum Found {
     Faulty(usize),
     Fine,

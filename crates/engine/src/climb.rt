@@ -17,7 +17,7 @@ use work::{FUEL, Result, Seen, decorates, is_leaf, kind_of, put_seen};
 
 // Where a walk stands: so many nodes are open, the innermost of which is `level`; the others are in the room.
 // Its child is due, with what is left as its dt, or there is a result.
-#[derive(Drop)]
+#[derive(Clone, Copy)]
 pub struct Stand {
     pub due: bool,
     pub deep: usize,

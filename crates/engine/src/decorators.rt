@@ -73,7 +73,7 @@ pub fn open_decorators(
 }
 
 // What is left of the open nodes, and the result that goes on.
-#[derive(Drop)]
+#[derive(Clone, Copy)]
 pub struct Closed {
     pub deep: usize,
     pub seen: Seen,

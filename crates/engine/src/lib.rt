@@ -1,4 +1,6 @@
 // The tick without recursion: its open nodes stand in lent room, an entry for each level.
+#![tactic(auto)]
+
 mod climb;
 mod decorators;
 mod room;

@@ -11,14 +11,14 @@ use rules::{Exchanged, Record};
 use tables::{Checked, MOST_DEEP, check_table, wide};
 
 // Both tables and the cells are good, and so many nodes stand in each; or nothing is to be done.
-#[derive(Drop)]
+#[derive(Clone, Copy)]
 enum Gate {
     Refused(Exchanged),
     Open(usize, usize),
 }
 
 // What is to be written; or nothing is.
-#[derive(Drop)]
+#[derive(Clone, Copy)]
 pub enum Plan {
     Refused(Exchanged),
     Open(Cut),

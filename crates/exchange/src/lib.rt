@@ -1,4 +1,6 @@
 // The exchange of a branch that has not been started: document 02, request 13.
+#![tactic(auto)]
+
 mod gate;
 
 ghost use Rattle.std.specs.Prelude.{◌≡◌};

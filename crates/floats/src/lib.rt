@@ -1,1 +1,2 @@
 // Whole numbers as floats of a format: their sums, differences and order are exact. The facts stand in specs/.
+#![tactic(auto)]

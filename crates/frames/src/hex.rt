@@ -4,7 +4,7 @@ ghost use Rattle.frames.specs.Parts.{Nibble, Number, FieldAt};
 
 // A number that stands in a line, and the place after it. Where none stands there next is past the line's end,
 // so that nothing stands at next either.
-#[derive(Drop)]
+#[derive(Clone, Copy)]
 pub struct Part {
     pub value: u64,
     pub next: usize,

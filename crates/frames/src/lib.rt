@@ -1,5 +1,6 @@
 // The bench program's frames, each a line of lower-case hexadecimal fields, read from lent bytes.
 // A time is a bit pattern throughout, so that a line that is read and written again comes out as it was.
+#![tactic(auto)]
 ghost use Rattle.std.specs.Prelude.{◌≡◌, min};
 
 mod hex;
@@ -12,7 +13,7 @@ pub use patterns::{bits, time, times};
 pub use reader::{count, read};
 
 // The two calls that a line asks for or tells of. Their lines differ in the two digits at the start alone.
-#[derive(Drop)]
+#[derive(Clone, Copy)]
 pub enum Call {
     Tick,
     Restart,
@@ -20,7 +21,7 @@ pub enum Call {
 
 // A call's event. Only an update has a dt; beside any other stands a zero, of which the sign is kept:
 // true for minus zero.
-#[derive(Drop)]
+#[derive(Clone, Copy)]
 pub enum Event {
     Other(bool),
     Update(u64),
@@ -30,7 +31,7 @@ pub enum Event {
 pub const MINUS_ZERO: u64 = 0x8000000000000000;
 
 // A frame by value. The answers of a call that is asked for stand beside it in two lent slices, statuses and leftovers: the first count of each.
-#[derive(Drop)]
+#[derive(Clone, Copy)]
 pub enum Frame {
     Node {
         kind: u8,
@@ -58,7 +59,7 @@ pub enum Frame {
 }
 
 // What reading a line answers: its frame, that it is no frame's line, or that the lent slices are too short for its answers.
-#[derive(Drop)]
+#[derive(Clone, Copy)]
 pub enum Reading {
     Is(Frame),
     NoFrame,
@@ -66,7 +67,7 @@ pub enum Reading {
 }
 
 // What writing a frame answers: how many bytes it wrote, that there is no such frame, or that the lent bytes are too few.
-#[derive(Drop)]
+#[derive(Clone, Copy)]
 pub enum Written {
     Bytes(usize),
     NoFrame,

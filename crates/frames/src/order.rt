@@ -5,7 +5,7 @@ ghost use Rattle.frames.specs.Order.{admitted};
 use crate::{Call, Event, Frame, Reading};
 
 // What an input line asks for.
-#[derive(Drop)]
+#[derive(Clone, Copy)]
 pub enum Input {
     Node {
         kind: u8,

@@ -7,13 +7,13 @@ use crate::hex::{field, number};
 use crate::{Call, Event, Frame, MINUS_ZERO, Reading, least};
 
 // The frame whose line was read, without its answers.
-#[derive(Drop)]
+#[derive(Clone, Copy)]
 pub enum Found {
     Is(Frame),
     Not,
 }
 
-#[derive(Drop)]
+#[derive(Clone, Copy)]
 pub enum Happened {
     Is(Event),
     Not,

@@ -12,7 +12,7 @@ pub const ANSWERS: usize = 1024;
 const INPUT: usize = 65536;
 
 // How many nodes came, and the first tick: its step, its fuel and how many answers it has.
-#[derive(Drop)]
+#[derive(Clone, Copy)]
 pub struct Asked {
     pub nodes: usize,
     pub step: f64,

@@ -1,5 +1,7 @@
 // The tree on standard input, as frames: its finish bound for the step of the first tick frame, and
 // how many such ticks it takes to finish when each is given the answers that stand there.
+#![tactic(auto)]
+
 mod input;
 
 use input::{ANSWERS, Asked, NODES, part};

@@ -1,4 +1,6 @@
 // Answers, events and kinds as the numbers that a host sees.
+#![tactic(auto)]
+
 ghost use Rattle.std.specs.Prelude.{◌≡◌};
 ghost use Rattle.rules.specs.Outcome.{event_of};
 ghost use Rattle.rules.specs.Call.{said_of};
@@ -7,7 +9,7 @@ ghost use Rattle.host.specs.Host.{bound_of, memory_of};
 use rules::{BoundAnswer, Called, Event, Kind, Record, Said};
 
 // What a call said, and the record that stands after it.
-#[derive(Drop)]
+#[derive(Clone, Copy)]
 pub struct Told {
     pub said: Said,
     pub record: Record,
@@ -26,7 +28,7 @@ pub fn in_numbers(called: Called) -> Told
 
 // The finish bound: kind 0 a number of ticks, 1 none, 2 above the largest that is told.
 #[repr(C)]
-#[derive(Drop)]
+#[derive(Clone, Copy)]
 pub struct Bound {
     pub no: u8,
     pub kind: u8,

@@ -1,1 +1,2 @@
 // What holds of every walk of the rules, of every call, and from one call to the next: the theorems stand in specs/.
+#![tactic(auto)]

@@ -1,4 +1,6 @@
 // The rules of the nodes that visit no other: leaves, and decorators once their child has given a result.
+#![tactic(auto)]
+
 mod decorator;
 mod waits;
 

@@ -1,4 +1,6 @@
 // The library for hosts: the calls on numbers and slices, with the record by reference.
+#![tactic(auto)]
+
 mod value;
 
 ghost use Rattle.std.specs.Prelude.{◌≡◌};

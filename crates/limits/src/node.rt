@@ -10,7 +10,7 @@ use crate::whole::Whole;
 use rules::Kind;
 
 // How the ticks of several nodes count together.
-#[derive(Drop)]
+#[derive(Clone, Copy)]
 pub enum Join {
     Sum,
     Largest,

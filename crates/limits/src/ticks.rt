@@ -6,7 +6,7 @@ ghost use Rattle.limits.specs.Ticks.{lim, clipped};
 
 use rules::BoundAnswer;
 
-#[derive(Drop)]
+#[derive(Clone, Copy)]
 pub enum Ticks {
     Never,
     Within(u64),

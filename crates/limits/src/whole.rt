@@ -10,7 +10,7 @@ use crate::ticks::Ticks;
 use rules::cleaned;
 
 // A whole time as a number.
-#[derive(Drop)]
+#[derive(Clone, Copy)]
 pub enum Whole {
     Yes(u64),
     No,

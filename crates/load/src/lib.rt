@@ -1,4 +1,6 @@
 // The working array is written: table and cells are looked at in one pass that refuses or writes it.
+#![tactic(auto)]
+
 mod fresh;
 mod pass;
 mod sixteens;

@@ -14,7 +14,7 @@ use tables::{Row, elapsed, least, row_of, wide, zero_bits};
 const INFINITY: u64 = 0x7ff0000000000000;
 
 // A good table's nodes; the smallest faulty place of a table; or the smallest place of a bad cell in a good table.
-#[derive(Drop)]
+#[derive(Clone, Copy)]
 pub enum Scanned {
     Bad(usize),
     Faulty(usize),

@@ -12,14 +12,14 @@ use tables::{
 };
 
 // What is to be done: nothing but to answer, or the walk of a tree of so many nodes with an event.
-#[derive(Drop)]
+#[derive(Clone, Copy)]
 pub enum Gate {
     Refused(Answer),
     Open(usize, Event),
 }
 
 // The event to use.
-#[derive(Drop)]
+#[derive(Clone, Copy)]
 enum Timed {
     Good(Event),
     Bad,

@@ -7,14 +7,14 @@ use crate::status::Status;
 
 // Finished, and how many ticks were carried out.
 #[repr(C)]
-#[derive(Drop)]
+#[derive(Clone, Copy)]
 pub struct Record {
     pub finished: bool,
     pub ticks: u64,
 }
 
 // An answer, and the record behind it.
-#[derive(Drop)]
+#[derive(Clone, Copy)]
 pub struct Called {
     pub answer: Answer,
     pub record: Record,
@@ -28,7 +28,7 @@ pub fn age(ticks: u64, since: u64) -> u64
 }
 
 // What a tick and a restart can say, as a case for each number.
-#[derive(Drop)]
+#[derive(Clone, Copy)]
 pub enum Answer {
     Ticked {
         status: Status,
@@ -51,7 +51,7 @@ pub enum Answer {
 }
 
 // What the finish bound can say: a number of ticks, none, above 2^53; or 3 and 8.
-#[derive(Drop)]
+#[derive(Clone, Copy)]
 pub enum BoundAnswer {
     Within(u64),
     Never,
@@ -62,7 +62,7 @@ pub enum BoundAnswer {
 
 // An answer in document 01's numbers; a field that its line does not name is 0.
 #[repr(C)]
-#[derive(Drop)]
+#[derive(Clone, Copy)]
 pub struct Said {
     pub no: u8,
     pub status: u8,

@@ -3,7 +3,7 @@ ghost use Rattle.std.specs.Prelude.{◌≡◌, ◌-◌};
 ghost use Rattle.rules.specs.Kinds.{code, kind_of, fewest, most, children, timed, marks_children, memory};
 ghost use Rattle.rules.specs.Cells.{last_place};
 
-#[derive(Drop)]
+#[derive(Clone, Copy)]
 pub enum Kind {
     Wait,
     WaitForever,

@@ -2,7 +2,7 @@
 ghost use Rattle.std.specs.Prelude.{◌≡◌};
 ghost use Rattle.rules.specs.Outcome.{dt};
 
-#[derive(Drop)]
+#[derive(Clone, Copy)]
 pub enum Event {
     Update(f64),
     Other,

@@ -3,7 +3,7 @@ ghost use Rattle.std.specs.Prelude.{◌≡◌};
 ghost use Rattle.rules.specs.Exchange.{exchange_numbers, exchange_said_of};
 
 // What an exchange can say, as a case for each number and for each of the two tables.
-#[derive(Drop)]
+#[derive(Clone, Copy)]
 pub enum Exchanged {
     Done(usize),
     Finished,
@@ -19,7 +19,7 @@ pub enum Exchanged {
 
 // The answer in document 02's numbers; a field that its line does not name is 0.
 #[repr(C)]
-#[derive(Drop)]
+#[derive(Clone, Copy)]
 pub struct ExchangeSaid {
     pub no: u8,
     pub table: u8,

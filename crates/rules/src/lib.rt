@@ -1,5 +1,7 @@
 // The kinds of nodes, what a node answers and what it is asked with: the types that the rules in
 // specs/ speak of.
+#![tactic(auto)]
+
 mod answer;
 mod behavior;
 mod event;

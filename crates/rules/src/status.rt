@@ -2,7 +2,7 @@
 ghost use Rattle.std.specs.Prelude.{◌≡◌};
 ghost use Rattle.rules.specs.Outcome.{byte};
 
-#[derive(Drop)]
+#[derive(Clone, Copy)]
 pub enum Status {
     Running,
     Success,

@@ -1,4 +1,6 @@
 // Serves each file that an argument names, under a line with its name.
+#![tactic(auto)]
+
 use libc::STDOUT_FILENO;
 
 fn one(i: usize) {

@@ -1,4 +1,6 @@
 // What a walk leaves: children that have ended are shown, the words are put back, and the answer and the record are told.
+#![tactic(auto)]
+
 mod back;
 
 ghost use Rattle.std.specs.Prelude.{◌≡◌, ◌≤◌, length};

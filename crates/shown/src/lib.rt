@@ -1,5 +1,7 @@
 // What the board shows of children that were not visited, put into the words behind a walk: the status
 // with which a child has ended, by the kind and place of the node above it or by its own mark.
+#![tactic(auto)]
+
 ghost use Rattle.std.specs.Prelude.{◌≡◌, true, ◌+◌, ◌≤◌, ◌<◌};
 ghost use Rattle.work.specs.Array.{end_of};
 ghost use Rattle.shown.specs.Show.{ended_word, marked_word, over_words, Leaves, ended_at, marked_at, behind_of, each_from, ended_below, ended_words, Bare};

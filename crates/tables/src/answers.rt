@@ -6,7 +6,7 @@ ghost use Rattle.tables.specs.Checks.{first_bad};
 use crate::number::is_number;
 
 // The first answer that is refused.
-#[derive(Drop)]
+#[derive(Clone, Copy)]
 pub enum Answered {
     Bad(usize),
     Good,

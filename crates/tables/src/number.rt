@@ -8,7 +8,7 @@ ghost use Rattle.tables.specs.Checks.{number_of};
 use rules::cleaned;
 
 // The number to use: finite with the sign bit clear, once minus zero is taken as plus zero.
-#[derive(Drop)]
+#[derive(Clone, Copy)]
 pub enum Number {
     Good(f64),
     Bad,

@@ -11,14 +11,14 @@ use rules::Kind;
 pub const MOST_DEEP: usize = 16;
 
 // How many nodes a good table has, or the smallest faulty place.
-#[derive(Drop)]
+#[derive(Clone, Copy)]
 pub enum Checked {
     Good(usize),
     Bad(usize),
 }
 
 // How many children a node that is allowed has.
-#[derive(Drop)]
+#[derive(Clone, Copy)]
 pub enum Row {
     Children(u16),
     Bad,

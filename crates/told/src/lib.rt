@@ -1,4 +1,6 @@
 // What a call tells of a walk, and the record behind it.
+#![tactic(auto)]
+
 ghost use Rattle.std.specs.Prelude.{◌≡◌, ◌-◌, length, slice_index};
 ghost use Rattle.rules.specs.Call.{answers, ended, counted};
 ghost use Rattle.told.specs.Told.{status_in, told_stopped, told_done};

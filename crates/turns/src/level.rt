@@ -7,7 +7,7 @@ use rules::Kind;
 use work::{Result, Seen, put_place};
 
 // What a driver knows between two visits.
-#[derive(Drop)]
+#[derive(Clone, Copy)]
 pub struct Level {
     pub kind: Kind,
     // The dt of the node's own visit.
@@ -27,7 +27,7 @@ pub struct Level {
 }
 
 // A child is due, with what is left as its dt; or the node is done, with a result.
-#[derive(Drop)]
+#[derive(Clone, Copy)]
 pub struct Turn {
     pub due: bool,
     pub level: Level,

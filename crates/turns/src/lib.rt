@@ -1,4 +1,6 @@
 // The drivers a child at a time: what each does when its node is entered, and when the child that it waits for has given a result.
+#![tactic(auto)]
+
 mod branches;
 mod level;
 mod loops;

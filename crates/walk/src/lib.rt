@@ -1,5 +1,7 @@
 // The cycle of calls: the tick of a node asks its driver, and the driver visits each child that is due. The depth that is
 // left falls; the children of a node, and the turns of a loop, are a loop.
+#![tactic(auto)]
+
 mod loops;
 mod sequence;
 mod when_all;

@@ -1,4 +1,6 @@
 // The working array of a tick, what is read and written there, and how a driver moves on. specs/ has the tick over it.
+#![tactic(auto)]
+
 mod array;
 mod moves;
 mod result;

@@ -5,7 +5,7 @@ ghost use Rattle.rules.specs.Outcome.{smaller, status_of};
 ghost use Rattle.work.specs.Flat.{seen_as, seen_no, turned, succeeded, result_of};
 
 // The status of a visit; or the walk has stopped, to ask or for want of fuel.
-#[derive(Drop)]
+#[derive(Clone, Copy)]
 pub enum Seen {
     Stopped,
     Running,
@@ -13,7 +13,7 @@ pub enum Seen {
     Failure,
 }
 
-#[derive(Drop)]
+#[derive(Clone, Copy)]
 pub struct Result {
     pub seen: Seen,
     pub left: f64,

@@ -1,4 +1,6 @@
 // Writing a frame: the two digits of its kind, its fields, each after a space, then LF.
+#![tactic(auto)]
+
 ghost use Rattle.std.specs.Prelude.{◌≡◌, [], ◌∷◌, ℕ, ◌+◌, ◌*◌, ◌≤◌, ◌<◌, length, take};
 ghost use Rattle.frames.specs.Hex.{digit, digits};
 ghost use Rattle.frames.specs.Line.{Fit, Good, body, line, answers_of, asked_no, said_no, event_no, event_time, laid, wrote};
@@ -94,7 +96,7 @@ fn wide(x: u8) -> u64
 }
 
 // What stands in front of a frame's answers: its kind's number, and count fields by their widths and numbers.
-#[derive(Drop)]
+#[derive(Clone, Copy)]
 struct Fields {
     kind: u64,
     count: usize,

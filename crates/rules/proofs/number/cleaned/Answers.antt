@@ -3,9 +3,9 @@ use Rattle.std.proofs.Common.{◌≡◌, zero, suc, ◌*◌, ◌<◌, true, fals
 use lib.Ieee.{Float, nan, inf, fin, binary64, of_bits, of_fields, odd, eq, up, down}
 use lib.Ieee.Fits.{up_pos}
 use Rattle.rules.specs.Table.{cleaned}
-use Rattle.rules.proofs.number.cleaned.Statement.{statement}
-use Rattle.rules.proofs.number.cleaned.Tie as tie
+use Rattle.rules.proofs.number.cleaned.Goals as goal
 
+-- A float that is equal to zero is zero, and any other stays.
 abbrev nought : Float
 nought = of_bits binary64 0
 
@@ -26,11 +26,8 @@ is_no_zero (fin true zero d) e = absurd (subst T (rw (zero-mul (up d), zero-mul 
 is_no_zero (fin false zero d) e = absurd (subst T (rw (zero-mul (up d), zero-mul (down d)) at e) tt)
 is_no_zero (fin s (suc m) d) e = refl
 
-returns : tie.Need-returns
-returns c = is_zero c.before.args.x c.if1.true
+pub returns-then-x : goal.returns-then-x
+returns-then-x c = is_zero c.args.x c.if-x.true
 
-returns_2 : tie.Need-returns-2
-returns_2 c = is_no_zero c.before.args.x c.if1.false
-
-pub cleaned_spec : {M : Type 1} → statement M
-cleaned_spec = tie.close (tie.spec returns returns_2)
+pub returns-else-x : goal.returns-else-x
+returns-else-x c = is_no_zero c.args.x c.if-x.false
