@@ -40,7 +40,7 @@ module _ (F : Format) (child : Ticker) (g : Spends F child) where
   unfolding while_body
   body_budget zero b' n e ts f ans h h' = absurd (not-suc-le-zero h)
   body_budget (suc b) zero n e ts f ans h h' = absurd (not-suc-le-zero h')
-  body_budget (suc b) (suc b') n (Update y) ts f ans h h' = then_less F f (child_at child n (Update y) ts (world f ans)) _ _ (child_spends (Update y) ts n f ans) λ s. elim s [
+  body_budget (suc b) (suc b') n (Update y) ts f ans h h' = then_less F f (child_at child n (Update y) ts (world f ans)) _ _ (child_spends (Update y) ts n f ans) elim [
     | Running ↦ λ r t' f' ans' l. refl
     | Failure ↦ λ r t' f' ans' l. refl
     | Success ↦ λ r t' f' ans' l. body_budget b b' (next n ts) (Update r) (moved n t' ts) f' ans' (omega arith) (omega arith)
@@ -52,12 +52,12 @@ module _ (F : Format) (child : Ticker) (g : Spends F child) where
   unfolding while_all
   loop_budget zero b' whole n e c ts f ans h h' = absurd (not-suc-le-zero h)
   loop_budget (suc b) zero whole n e c ts f ans h h' = absurd (not-suc-le-zero h')
-  loop_budget (suc b) (suc b') whole zero e c ts f ans h h' = then_less F f (child c whole (world f ans)) _ _ (g c whole f ans) λ s. elim s [
+  loop_budget (suc b) (suc b') whole zero e c ts f ans h h' = then_less F f (child c whole (world f ans)) _ _ (g c whole f ans) elim [
     | Running ↦ λ r c' f' ans' l. loop_budget b b' whole 1 e c' ts f' ans' (omega arith) (omega arith)
     | Success ↦ λ r c' f' ans' l. refl
     | Failure ↦ λ r c' f' ans' l. refl
   ]
-  loop_budget (suc b) (suc b') whole (suc n) e c ts f ans h h' = then_less F f (child_at child n e ts (world f ans)) _ _ (child_spends e ts n f ans) λ s. elim s [
+  loop_budget (suc b) (suc b') whole (suc n) e c ts f ans h h' = then_less F f (child_at child n e ts (world f ans)) _ _ (child_spends e ts n f ans) elim [
     | Running ↦ λ r t' f' ans' l. refl
     | Failure ↦ λ r t' f' ans' l. refl
     | Success ↦ λ r t' f' ans' l. loop_budget b b' whole (cond (ltb (suc n) (count ts)) (suc (suc n)) 0) (rest r e) c (moved n t' ts) f' ans' (omega arith) (omega arith)
@@ -65,7 +65,7 @@ module _ (F : Format) (child : Ticker) (g : Spends F child) where
 
   while_budget : (b b' : ℕ) (c : Cell) (e : Event) (ts : Forest) (f : ℕ) (ans : Answers) → f < b → f < b' → while_with b child c e ts (world f ans) ≡ while_with b' child c e ts (world f ans)
   while_budget b b' c e [] f ans h h' = refl
-  while_budget b b' c e (t ∷ ts) f ans h h' = then_less F f (child t e (world f ans)) _ _ (g t e f ans) λ s. elim s [
+  while_budget b b' c e (t ∷ ts) f ans h h' = then_less F f (child t e (world f ans)) _ _ (g t e f ans) elim [
     | Running ↦ λ r t' f' ans' l. ap (λ (o : Out (ℕ × Forest)). o ▸ λ s'' r'' y w''. done s'' r'' (with_place y.0 c, t' ∷ y.1) w'')
         (body_budget b b' c.place e ts f' ans' (omega arith) (omega arith))
     | Success ↦ λ r t' f' ans' l. refl

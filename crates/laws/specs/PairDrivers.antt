@@ -12,7 +12,7 @@ use Rattle.rules.specs.declared.status.Status.TheVariants.{Running, Success, Fai
 use Rattle.rules.specs.declared.event.Event.{Event}
 use Rattle.rules.specs.declared.event.Event.TheVariants.{Update, Other}
 use Rattle.rules.specs.Tree.{zero_time, Tree, Forest, [], ◌∷◌, fresh, fresh_all, marked, count}
-use Rattle.rules.specs.Outcome.{dt, rest, Out, Ticker, exchanging, largest, smaller}
+use Rattle.rules.specs.Outcome.{World, dt, rest, Out, Ticker, exchanging, largest, smaller}
 use Rattle.rules.specs.Sequence.{sequence_from, sequence_at, memoryless}
 use Rattle.rules.specs.WhenAll.{when_all_from, when_all, race_from, after_from, after_at}
 use Rattle.laws.specs.Shape.{Shape, Shapes, shape, shapes, size_of, sizes_of, fresh_shape, fresh_shapes, mark_shape, mark_marked}
@@ -102,6 +102,12 @@ module _ {F : Format} (R : Pairing F) where
   tail : {X Y : Type 0} → Known R (X × Y) → Known R Y
   tail v = R.terms.map (λ z. z.1) v
 
+  -- what follows an update, or an other event
+  pub by_event : {A : Type 0} {n : ℕ} {p : R.Worlds} {P : Of R A} {m m' : Float → World → Out A} {o o' : World → Out A} (e : Event) → ((x : Float) → Both R n p P (m x) (m' x)) → Both R n p P o o'
+      → Both R n p P (λ w. elim e [ Update x ↦ m x w | Other ↦ o w ]) (λ w. elim e [ Update x ↦ m' x w | Other ↦ o' w ])
+  by_event (Update x) h g = h x
+  by_event Other h g = g
+
   module _ (D : Shape → Type 0) (child child' : Ticker) (g : Alike D child child') where
     -- the visit of a child, and of one that is made fresh for it
     pub visit : (t : Tree) (e : Event) (p : R.Worlds) → D (shape t) → Known R (Lively t) → Time R (dt e)
@@ -121,7 +127,7 @@ module _ {F : Format} (R : Pairing F) where
         → Both R (sizes_of (shapes ts)) p (Kept ts) (λ w. race_from child e ts w) (λ w. race_from child' e ts w)
     unfolding race_from
     race_pair e [] p d v ev = stay R (refl, v, zero_time_lem)
-    race_pair e (t ∷ ts) p d v ev = then R (visit t e p d.0 (head v) ev) λ s. elim s [
+    race_pair e (t ∷ ts) p d v ev = then R (visit t e p d.0 (head v) ev) elim [
       | Running ↦ λ r t' q x. after R (race_pair e ts q d.1 (tail v) ev) λ s' r' us q' y. stay R (join x.0 y.0, both (head x.1) y.1, y.2)
       | Success ↦ λ r t' q x. stay R (join x.0 refl, both (head x.1) (tail v), x.2)
       | Failure ↦ λ r t' q x. stay R (join x.0 refl, both (head x.1) (tail v), x.2)
@@ -131,21 +137,18 @@ module _ {F : Format} (R : Pairing F) where
     seq_from : (e : Event) (t : Tree) (ts : Forest) (p : R.Worlds) → D (shape t) → Each D (shapes ts) → Known R (Lively t) → Known R (Livelies ts) → Time R (dt e)
         → Both R (sizes_of (shapes (t ∷ ts))) p (KeptAt (count (t ∷ ts)) (t ∷ ts)) (λ w. sequence_from child e t ts w) (λ w. sequence_from child' e t ts w)
     unfolding sequence_from
-    seq_from e t [] p d ds v vs ev = then R (visit t e p d v ev) λ s. elim s [
+    seq_from e t [] p d ds v vs ev = then R (visit t e p d v ev) elim [
       | Running ↦ λ r t' q x. stay R (join x.0 refl, both (know (omega arith)) (both (head x.1) vs), zero_time_lem)
-      | Success ↦ λ r t' q x. elim e [
-        | Update y ↦ stay R (join x.0 refl, both (know (omega arith)) (both (head x.1) vs), x.2)
-        | Other ↦ stay R (join x.0 refl, both (know (omega arith)) (both (head x.1) vs), x.2)
-      ]
+      | Success ↦ λ r t' q x. by_event e (λ y. stay R (join x.0 refl, both (know (omega arith)) (both (head x.1) vs), x.2))
+          (stay R (join x.0 refl, both (know (omega arith)) (both (head x.1) vs), x.2))
       | Failure ↦ λ r t' q x. stay R (join x.0 refl, both (know (omega arith)) (both (head x.1) vs), x.2)
     ]
-    seq_from e t (u ∷ us) p d ds v vs ev = then R (visit t e p d v ev) λ s. elim s [
+    seq_from e t (u ∷ us) p d ds v vs ev = then R (visit t e p d v ev) elim [
       | Running ↦ λ r t' q x. stay R (join x.0 refl, both (know (omega arith)) (both (head x.1) vs), zero_time_lem)
-      | Success ↦ λ r t' q x. elim e [
-        | Update y ↦ after R (rw (fresh_shape u) at (seq_from (Update r) (fresh u) us q (rw (fresh_shape u) ds.0) ds.1 (fresh_lively u) (tail vs) x.2))
-            λ s' r' z q' y. stay R (join (fresh_shape t' ∙ x.0) (y.0 ∙ join (fresh_shape u) refl), from_both R (fresh_lively t') y.1 (λ a b. (omega arith, (a, b.1))), y.2)
-        | Other ↦ stay R (join (fresh_shape t' ∙ x.0) (join (fresh_shape u) refl), both (know (omega arith)) (both (fresh_lively t') (both (fresh_lively u) (tail vs))), zero_time_lem)
-      ]
+      | Success ↦ λ r t' q x. by_event e
+          (λ y. after R (rw (fresh_shape u) at (seq_from (Update r) (fresh u) us q (rw (fresh_shape u) ds.0) ds.1 (fresh_lively u) (tail vs) x.2))
+          λ s' r' z q' y. stay R (join (fresh_shape t' ∙ x.0) (y.0 ∙ join (fresh_shape u) refl), from_both R (fresh_lively t') y.1 (λ a b. (omega arith, (a, b.1))), y.2))
+          (stay R (join (fresh_shape t' ∙ x.0) (join (fresh_shape u) refl), both (know (omega arith)) (both (fresh_lively t') (both (fresh_lively u) (tail vs))), zero_time_lem))
       | Failure ↦ λ r t' q x. stay R (join x.0 refl, both (know (omega arith)) (both (head x.1) vs), x.2)
     ]
 
@@ -162,12 +165,12 @@ module _ {F : Format} (R : Pairing F) where
         → Both R (sizes_of (shapes ts)) p (Kept ts) (λ w. memoryless child e ts w) (λ w. memoryless child' e ts w)
     unfolding memoryless
     mem_pair e [] p d ev = stay R (refl, know tt, ev)
-    mem_pair e (t ∷ []) p d ev = then R (visit_fresh t e p d.0 ev) λ s. elim s [
+    mem_pair e (t ∷ []) p d ev = then R (visit_fresh t e p d.0 ev) elim [
       | Running ↦ λ r t' q x. stay R (join x.0 refl, both (head x.1) (know tt), zero_time_lem)
       | Success ↦ λ r t' q x. stay R (join x.0 refl, both (head x.1) (know tt), rest_time r e x.2)
       | Failure ↦ λ r t' q x. stay R (join x.0 refl, both (head x.1) (know tt), x.2)
     ]
-    mem_pair e (t ∷ u ∷ us) p d ev = then R (visit_fresh t e p d.0 ev) λ s. elim s [
+    mem_pair e (t ∷ u ∷ us) p d ev = then R (visit_fresh t e p d.0 ev) elim [
       | Running ↦ λ r t' q x. stay R (join x.0 (fresh_shapes (u ∷ us)), both (head x.1) (fresh_livelies (u ∷ us)), zero_time_lem)
       | Success ↦ λ r t' q x. after R (mem_pair (rest r e) (u ∷ us) q d.1 (rest_time r e x.2))
           λ s' r' vs q' y. stay R (join (fresh_shape t' ∙ x.0) y.0, both (fresh_lively t') y.1, y.2)
@@ -186,7 +189,7 @@ module _ {F : Format} (R : Pairing F) where
     all_from e false least [] p d v ev el = stay R (refl, v, zero_time_lem)
     all_from e all least (t ∷ ts) p d v ev el = either R (marked t)
         (λ m. skip t ts (after R (all_from e all least ts p d.1 (tail v) ev el) λ s r us q y. stay R (join refl y.0, both (head v) y.1, y.2)))
-        (λ m. then R (visit t e p d.0 (from R v (λ h. rw m at h.0)) ev) λ s. elim s [
+        (λ m. then R (visit t e p d.0 (from R v (λ h. rw m at h.0)) ev) elim [
           | Running ↦ λ r t' q x. after R (all_from e false least ts q d.1 (tail v) ev el)
               λ s' r' us q' y. stay R (join x.0 y.0, both (unmarked t' x.1) y.1, y.2)
           | Success ↦ λ r t' q x. after R (all_from e all (smaller least r) ts q d.1 (tail v) ev (R.terms.least least r el x.2))
@@ -206,7 +209,7 @@ module _ {F : Format} (R : Pairing F) where
     unfolding after_from
     after_from_lem e true least [] p d v ev el = stay R (refl, both (know (omega arith)) v, el)
     after_from_lem e false least [] p d v ev el = stay R (refl, both (know (omega arith)) v, zero_time_lem)
-    after_from_lem e nx least (t ∷ ts) p d v ev el = then R (visit t e p d.0 (head v) ev) λ s. elim s [
+    after_from_lem e nx least (t ∷ ts) p d v ev el = then R (visit t e p d.0 (head v) ev) elim [
       | Running ↦ λ r t' q x. after R (after_from_lem e false zero_time ts q d.1 (tail v) ev zero_time_lem)
           λ s' r' z q' y. stay R (join x.0 y.0, both (know (omega arith)) (both (head x.1) (tail y.1)), y.2)
       | Failure ↦ λ r t' q x. stay R (join x.0 refl, both (know (omega arith)) (both (head x.1) (tail v)), x.2)

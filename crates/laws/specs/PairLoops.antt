@@ -16,7 +16,7 @@ use Rattle.rules.specs.State.{if_at}
 use Rattle.laws.specs.Shape.{Shape, shape, shapes, size_of, sizes_of, fresh_shape, moved_shapes, count_shape}
 use Rattle.laws.specs.Live.{fresh_live_by}
 use Rattle.laws.specs.Pair.{Pairing, Known, Time, from, from_both, Of, Both, up, weak, stay, cut, then, after}
-use Rattle.laws.specs.PairDrivers.{join, Each, Livelies, fresh_lively, KeptAt, Alike, rest_time, visit, visit_fresh}
+use Rattle.laws.specs.PairDrivers.{join, Each, Livelies, fresh_lively, KeptAt, Alike, rest_time, by_event, visit, visit_fresh}
 
 -- the next body index; of a WhileAll, whose condition may be due
 next_in : (n m c : ℕ) → c ≡ suc m → n ≤ m → (b : Bool) → (b ≡ true → suc n < c) → cond b (suc n) 0 ≤ m
@@ -58,23 +58,22 @@ module _ {F : Format} (R : Pairing F) where
           → Both R 0 p (KeptAt R m ts) (λ w. while_body child b n e ts w) (λ w. while_body child' b n e ts w)
       unfolding while_body
       body_pair zero m n e ts p d v ev = cut R (from R v (λ h. omega arith))
-      body_pair (suc b) m n e ts p d v ev = after R (child_pair e ts n p d (from R v (λ h. (omega arith, h.3))) ev) λ s. elim s [
+      body_pair (suc b) m n e ts p d v ev = after R (child_pair e ts n p d (from R v (λ h. (omega arith, h.3))) ev) elim [
         | Running ↦ λ r t' q x. stay R (x.0, from_both R x.1 v (λ a b. (b.2, a.0)), R.terms.none_passed)
         | Failure ↦ λ r t' q x. stay R (x.0, from_both R x.1 v (λ a b. (b.2, a.0)), x.2)
         | Success ↦ λ r t' q x.
             let us : Forest = moved n t' ts in
             let sh : shapes us ≡ shapes ts = moved_shapes ts n (next n ts) t' x.0 in
-            elim e [
-              | Update y ↦ weak R (body_pair b m (next n ts) (Update r) us q (rw sh d)
-                  (from_both R x.1 v (λ a b. (
-                    omega arith,
-                    count_shape us ts sh ∙ b.1,
-                    next_in n m (count ts) b.1 b.2 (ltb (suc n) (count ts)) (ltb-true (suc n) (count ts)),
-                    moved_livelies ts n (next n ts) t' a.0,
-                  ))) x.2)
-                  λ s' r' z q' y. (y.0 ∙ sh, y.1, y.2)
-              | Other ↦ stay R (x.0, from_both R x.1 v (λ a b. (b.2, a.0)), R.terms.none_passed)
-            ]
+            by_event R e
+            (λ y. weak R (body_pair b m (next n ts) (Update r) us q (rw sh d)
+            (from_both R x.1 v (λ a b. (
+              omega arith,
+              count_shape us ts sh ∙ b.1,
+              next_in n m (count ts) b.1 b.2 (ltb (suc n) (count ts)) (ltb-true (suc n) (count ts)),
+              moved_livelies ts n (next n ts) t' a.0,
+            ))) x.2)
+            λ s' r' z q' y. (y.0 ∙ sh, y.1, y.2))
+            (stay R (x.0, from_both R x.1 v (λ a b. (b.2, a.0)), R.terms.none_passed))
       ]
 
       -- ---- WhileAll
@@ -84,14 +83,14 @@ module _ {F : Format} (R : Pairing F) where
       unfolding while_all
       loop_pair zero m whole n e c ts p dc d v ew ev = cut R (from R v (λ h. omega arith))
       loop_pair (suc b) m whole zero e c ts p dc d v ew ev =
-          after R (up R (size_of (shape c)) (free (size_of (shape c)) 0) (visit R D child child' g c whole p dc (from R v (λ h. h.3.0)) ew)) λ s. elim s [
+          after R (up R (size_of (shape c)) (free (size_of (shape c)) 0) (visit R D child child' g c whole p dc (from R v (λ h. h.3.0)) ew)) elim [
             | Running ↦ λ r c' q x. weak R (loop_pair b m whole 1 e c' ts q (rw x.0 dc) d
                 (from_both R x.1 v (λ a b. (omega arith, b.1, omega arith, (a.0, b.3.1)))) ew ev)
                 λ s' r' z q' y. (y.0 ∙ join x.0 refl, y.1, y.2)
             | Success ↦ λ r c' q x. stay R (join x.0 refl, from_both R x.1 v (λ a b. (omega arith, (a.0, b.3.1))), x.2)
             | Failure ↦ λ r c' q x. stay R (join x.0 refl, from_both R x.1 v (λ a b. (omega arith, (a.0, b.3.1))), x.2)
           ]
-      loop_pair (suc b) m whole (suc n) e c ts p dc d v ew ev = after R (child_pair e ts n p d (from R v (λ h. (omega arith, h.3.1))) ev) λ s. elim s [
+      loop_pair (suc b) m whole (suc n) e c ts p dc d v ew ev = after R (child_pair e ts n p d (from R v (λ h. (omega arith, h.3.1))) ev) elim [
         | Running ↦ λ r t' q x. stay R (join refl x.0, from_both R x.1 v (λ a b. (b.2, (b.3.0, a.0))), R.terms.none_passed)
         | Failure ↦ λ r t' q x. stay R (join refl x.0, from_both R x.1 v (λ a b. (b.2, (b.3.0, a.0))), x.2)
         | Success ↦ λ r t' q x.
@@ -114,7 +113,7 @@ module _ {F : Format} (R : Pairing F) where
     if_pair e [] n p d v ev = cut R (from R v (λ h. omega arith))
     if_pair e (c ∷ []) n p d v ev = cut R (from R v (λ h. omega arith))
     if_pair e (c ∷ a ∷ []) n p d v ev = cut R (from R v (λ h. omega arith))
-    if_pair e (c ∷ a ∷ b ∷ ts) zero p d v ev = then R (visit R D child child' g c e p d.0 (from R v (λ h. h.2.0)) ev) λ s. elim s [
+    if_pair e (c ∷ a ∷ b ∷ ts) zero p d v ev = then R (visit R D child child' g c e p d.0 (from R v (λ h. h.2.0)) ev) elim [
       | Running ↦ λ r c' q x. stay R (join x.0 refl, from_both R x.1 v (λ a b. (omega arith, (a.0, b.2.1))), x.2)
       | Success ↦ λ r c' q x. up R (size_of (shape a)) (R.upto (size_of (shape a)) (sizes_of (shapes (a ∷ b ∷ ts))) (omega arith))
           (after R (visit_fresh R D child child' g a (rest r e) q d.1.0 (rest_time R r e x.2))

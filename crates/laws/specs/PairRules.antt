@@ -146,7 +146,7 @@ module _ {F : Format} (R : Pairing F) where
         → Both R (sizes_of (shapes ts)) p (KeptNext Timeout n c ts) (λ w. rule F child Timeout n l c e ts w) (λ w. rule F child' Timeout n l c e ts w)
     unfolding rule
     timeout_pair n l c e [] p d v ev = cut R (from R v (λ h. omega arith))
-    timeout_pair n l c e (t ∷ ts) p d v ev = then R (visit R D child child' g t e p d.0 (from R v (λ h. h.2.1.0)) ev) λ s. elim s [
+    timeout_pair n l c e (t ∷ ts) p d v ev = then R (visit R D child child' g t e p d.0 (from R v (λ h. h.2.1.0)) ev) elim [
       | Running ↦ λ r t' q x.
           let now : Time R (add F c.time (dt e)) = R.terms.sum c.time (dt e) (from R v (λ h. h.2.0.1)) ev in
           let next = from_both R x.1 v (λ a b. ((b.2.0.0, now, b.2.0.2), (a.0, b.2.1.1))) in
@@ -165,7 +165,7 @@ module _ {F : Format} (R : Pairing F) where
         → Begins While n l c ts p b → Time R (dt e)
         → Both R (sizes_of (shapes ts)) p (KeptNext While n c ts) (λ w. while_with b child c e ts w) (λ w. while_with b child' c e ts w)
     while_pair b n l c e [] p free d v ev = cut R (from R v (λ h. omega (arith, fewest_of While n l [] h.0)))
-    while_pair b n l c e (t ∷ ts) p free d v ev = then R (visit R D child child' g t e p d.0 (from R v (λ h. h.1.1.0)) ev) λ s. elim s [
+    while_pair b n l c e (t ∷ ts) p free d v ev = then R (visit R D child child' g t e p d.0 (from R v (λ h. h.1.1.0)) ev) elim [
       | Running ↦ λ r t' q x. up R 0 (free 0 (sizes_of (shapes ts))) (after R (body_pair R D child child' g free b (n - 2) c.place e ts q d.1
           (from_both R x.1 v (λ a b. (omega arith, body_of n (count ts) (b.0.1 ∙ sym (count_of_lem (t ∷ ts))) (fewest_of While n l (t ∷ ts) b.0), b.1.0.2, b.1.1.1))) ev)
           λ s' r' z q' y.
