@@ -63,7 +63,7 @@ module _ (F : Format) (d : ℕ) where
     unfolding after_from
     after_from_lem e true least [] p s v lo ev = stay R lo
     after_from_lem e false least [] p s v lo ev = stay R (tt, λ full j k y. k)
-    after_from_lem e true least (t ∷ ts) p s v lo ev = after R (g t e p s.0 v.0 ev) λ s'. elim s' [
+    after_from_lem e true least (t ∷ ts) p s v lo ev = after R (g t e p s.0 v.0 ev) elim [
       | Running ↦ λ r t' p' q. after_run e true t t' ts r q (after_from_lem e false zero_time ts p' s.1 v.1 (least_W false zero_time ts (zero_W F)) ev)
       | Success ↦ λ r t' p' q. either R (lt r least)
           (λ u. claim_map R (λ x. (suc x.0, t' ∷ x.1)) (λ x v dn. (v, λ full j y. dn full j y.1))
@@ -71,7 +71,7 @@ module _ (F : Format) (d : ℕ) where
           (λ u. stay R (smaller_W F least r q.1 lo))
       | Failure ↦ λ r t' p' q. stay R q.1
     ]
-    after_from_lem e false least (t ∷ ts) p s v lo ev = after R (g t e p s.0 v.0 ev) λ s'. elim s' [
+    after_from_lem e false least (t ∷ ts) p s v lo ev = after R (g t e p s.0 v.0 ev) elim [
       | Running ↦ λ r t' p' q. after_run e false t t' ts r q (after_from_lem e false zero_time ts p' s.1 v.1 (least_W false zero_time ts (zero_W F)) ev)
       | Success ↦ λ r t' p' q. stay R (smaller_W F least r q.1 (inl lo))
       | Failure ↦ λ r t' p' q. stay R q.1

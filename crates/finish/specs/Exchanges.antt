@@ -2,7 +2,7 @@
 use Rattle.std.specs.Prelude.{◌≡◌, Bool, true, false, not, ◌&&◌, ◌||◌, T, ltb, eqb, Float}
 use Rattle.std.proofs.Math.Path.{refl}
 use Rattle.std.proofs.Common.{sym, subst, add-zero, zero-add, eq-eqb}
-use Rattle.std.proofs.Math.Bool.{and_false, and-eq-true_iff}
+use Rattle.std.proofs.Math.Bool.{and-false, and-eq-true_iff}
 use Prim.Native.Nat.{ℕ, zero, suc, ◌+◌, ◌-◌, ◌<◌, min, max}
 use native.Mathlib.Omega.{arith}
 use Rattle.std.specs.Float.{Format}
@@ -14,7 +14,7 @@ use Rattle.rules.specs.Exchange.{spot, free, free_in, replaced, replaced_in}
 use Rattle.laws.specs.Tests.{below_or_not}
 use Rattle.laws.specs.ReadBack.{Sound, Sounds}
 use Rattle.finish.specs.Enough.{unless}
-use Rattle.finish.specs.Valid.{some_open, open_or_none, inBody, Valid, ValidAt, ValidLoop, ValidAll, ValidFrom, ValidMarks}
+use Rattle.finish.specs.Valid.{some_open, open_or_none, in_body, Valid, ValidAt, ValidLoop, ValidAll, ValidFrom, ValidMarks}
 
 never : {A : Type 0} → false ≡ true → A
 never e = absurd (subst T (sym e) tt)
@@ -37,7 +37,7 @@ chosen : (p : ℕ) → not (eqb p p) ≡ false
 chosen p = rw (eq-eqb p p refl)
 
 in_body_lem : (q x : ℕ) → not (eqb q x) ≡ false → ltb 0 q && not (eqb q x) ≡ false
-in_body_lem q x e = rw (e, and_false (ltb 0 q))
+in_body_lem q x e = rw (e, and-false (ltb 0 q))
 
 module _ (F : Format) (u : Tree) where
   at_low : (ts : Forest) (q : ℕ) → ValidAt F ts q → q < count ts
@@ -146,17 +146,17 @@ module _ (F : Format) (u : Tree) where
       (at_keeps While n c.place ts a 0 0 p s.4 refl two.0 f)
       (at_keeps While n c.place ts a 0 (suc c.place) p s.4 (rw (zero-add (suc c.place)) (in_body_lem (suc c.place) (suc c.place) (chosen (suc c.place)))) two.1 f)
   by_kind WhileAll n l c b ts a p s v f =
-      let two = of_loop ts (inBody c.place) v in
-      loop_of (replaced_in ts p u) (inBody c.place)
+      let two = of_loop ts (in_body c.place) v in
+      loop_of (replaced_in ts p u) (in_body c.place)
       (at_keeps WhileAll n c.place ts a 0 0 p s.4 refl two.0 f)
-      (at_keeps WhileAll n c.place ts a 0 (suc (inBody c.place)) p s.4 (in_progress c.place) two.1 f)
+      (at_keeps WhileAll n c.place ts a 0 (suc (in_body c.place)) p s.4 (in_progress c.place) two.1 f)
     where
-      body : (q : ℕ) → not (eqb (suc (inBody q)) (max 1 q)) ≡ false
+      body : (q : ℕ) → not (eqb (suc (in_body q)) (max 1 q)) ≡ false
       body zero = refl
       body (suc q) = let e : max 1 (suc q) ≡ suc q = omega arith in rw e (chosen (suc q))
 
-      in_progress : (q : ℕ) → spot WhileAll n q (0 + suc (inBody q)) ≡ false
-      in_progress q = rw (zero-add (suc (inBody q))) (in_body_lem (suc (inBody q)) (max 1 q) (body q))
+      in_progress : (q : ℕ) → spot WhileAll n q (0 + suc (in_body q)) ≡ false
+      in_progress q = rw (zero-add (suc (in_body q))) (in_body_lem (suc (in_body q)) (max 1 q) (body q))
   by_kind WhenAll n l c b ts a p s v f =
       (marks_keep WhenAll n c.place (λ i. refl) ts a 0 p s.4 v.0 f, rw (open_stays WhenAll n c.place (λ i. refl) ts p f) v.1)
   by_kind WhenAny n l c b ts a p s v f =

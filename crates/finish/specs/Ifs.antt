@@ -51,25 +51,25 @@ module _ (F : Format) (d : ℕ) where
     if_good n [] y p s v ev = absurd s
     if_good n (c ∷ []) y p s v ev = absurd s.1
     if_good n (c ∷ a ∷ []) y p s v ev = absurd s.1.1
-    if_good zero (c ∷ a ∷ z ∷ ts) y p s v ev = after R (g c (Update y) p s.0 v ev) λ s'. elim s' [
+    if_good zero (c ∷ a ∷ z ∷ ts) y p s v ev = after R (g c (Update y) p s.0 v ev) elim [
       | Running ↦ λ r c' p' q. stay R (q.1.0, λ full j u. if_down c c' (a ∷ z ∷ ts) j (q.1.1 full) u)
-      | Success ↦ λ r c' p' q. after R (g (fresh a) (Update r) p' (rw (fresh_shape a) s.1.0) (fresh_valid F a s.1.0) q.1) λ s''. elim s'' [
+      | Success ↦ λ r c' p' q. after R (g (fresh a) (Update r) p' (rw (fresh_shape a) s.1.0) (fresh_valid F a s.1.0) q.1) elim [
         | Running ↦ λ r' a' p'' q'. stay R (q'.1.0, λ full j u. if_over c (fresh c') (a ∷ z ∷ ts) (a' ∷ z ∷ ts) 0 j (join (q'.0.0 ∙ fresh_shape a) refl) q'.1.0 u)
         | Success ↦ λ r' a' p'' q'. stay R q'.1
         | Failure ↦ λ r' a' p'' q'. stay R q'.1
       ]
-      | Failure ↦ λ r c' p' q. after R (g (fresh z) (Update r) p' (rw (fresh_shape z) s.1.1.0) (fresh_valid F z s.1.1.0) q.1) λ s''. elim s'' [
+      | Failure ↦ λ r c' p' q. after R (g (fresh z) (Update r) p' (rw (fresh_shape z) s.1.1.0) (fresh_valid F z s.1.1.0) q.1) elim [
         | Running ↦ λ r' a' p'' q'. stay R (q'.1.0, λ full j u. if_over c (fresh c') (a ∷ z ∷ ts) (a ∷ a' ∷ ts) 1 j (join refl (join (q'.0.0 ∙ fresh_shape z) refl)) q'.1.0 u)
         | Success ↦ λ r' a' p'' q'. stay R q'.1
         | Failure ↦ λ r' a' p'' q'. stay R q'.1
       ]
     ]
-    if_good (suc zero) (c ∷ a ∷ z ∷ ts) y p s v ev = after R (g a (Update y) p s.1.0 v ev) λ s'. elim s' [
+    if_good (suc zero) (c ∷ a ∷ z ∷ ts) y p s v ev = after R (g a (Update y) p s.1.0 v ev) elim [
       | Running ↦ λ r a' p' q. stay R (q.1.0, λ full j u. branch_down a a' j (q.1.1 full) u)
       | Success ↦ λ r a' p' q. stay R q.1
       | Failure ↦ λ r a' p' q. stay R q.1
     ]
-    if_good (suc (suc zero)) (c ∷ a ∷ z ∷ ts) y p s v ev = after R (g z (Update y) p s.1.1.0 v ev) λ s'. elim s' [
+    if_good (suc (suc zero)) (c ∷ a ∷ z ∷ ts) y p s v ev = after R (g z (Update y) p s.1.1.0 v ev) elim [
       | Running ↦ λ r a' p' q. stay R (q.1.0, λ full j u. branch_down z a' j (q.1.1 full) u)
       | Success ↦ λ r a' p' q. stay R q.1
       | Failure ↦ λ r a' p' q. stay R q.1

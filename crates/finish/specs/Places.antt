@@ -55,12 +55,12 @@ module _ (F : Format) (d : ℕ) where
     pub child_at_lem : (e : Event) (ts : Forest) (n : ℕ) (p : R.Worlds) → Shapeds F (shapes ts) → ValidAt F ts n → WEvent F e
         → Both R 0 p (λ s r t' q. PutQ e n ts s r t') (λ w. child_at child n e ts w) (λ w. child_at child n e ts w)
     child_at_lem e [] n p s v ev = absurd v
-    child_at_lem e (t ∷ ts) zero p s v ev = weak R (g t e p s.0 v ev) λ s'. elim s' [
+    child_at_lem e (t ∷ ts) zero p s v ev = weak R (g t e p s.0 v ev) elim [
       | Running ↦ λ r t' p' q. (join q.0.0 refl, (q.1.0, λ full j x. seq_down F d t t' ts j (q.1.1 full) x))
       | Success ↦ λ r t' p' q. (join q.0.0 refl, q.1)
       | Failure ↦ λ r t' p' q. (join q.0.0 refl, q.1)
     ]
-    child_at_lem e (t ∷ ts) (suc n) p s v ev = weak R (child_at_lem e ts n p s.1 v ev) λ s'. elim s' [
+    child_at_lem e (t ∷ ts) (suc n) p s v ev = weak R (child_at_lem e ts n p s.1 v ev) elim [
       | Running ↦ λ r t' p' q. (join refl q.0, q.1)
       | Success ↦ λ r t' p' q. (join refl q.0, q.1)
       | Failure ↦ λ r t' p' q. (join refl q.0, q.1)

@@ -75,21 +75,21 @@ module _ {F : Format} (R : Pairing F) where
   -- what is done with an outcome, with no more visits
   pub claim_map : {A B : Type 0} {c : Claim A} {c' : Claim B} {p : R.Worlds} {o : World → Out A} (f : A → B) → ((a : A) → c.valid a → c.down a → c'.valid (f a) × c'.down (f a))
       → Holds c p o → Holds c' p (λ w. o w ▸ λ s r a w'. done s r (f a) w')
-  claim_map f k h = after R h λ s. elim s [
+  claim_map f k h = after R h elim [
     | Running ↦ λ r a q x. stay R (k a x.0 x.1)
     | Success ↦ λ r a q x. stay R x
     | Failure ↦ λ r a q x. stay R x
   ]
 
   pub claim_weak : {A : Type 0} {c c' : Claim A} {p : R.Worlds} {o : World → Out A} → ((a : A) → c.valid a → c.down a → c'.valid a × c'.down a) → Holds c p o → Holds c' p o
-  claim_weak k h = weak R h λ s. elim s [
+  claim_weak k h = weak R h elim [
     | Running ↦ λ r a q x. k a x.0 x.1
     | Success ↦ λ r a q x. x
     | Failure ↦ λ r a q x. x
   ]
 
   pub exchange_holds : {A : Type 0} {c : Claim A} {p : R.Worlds} {o : World → Out A} → Holds c p o → Holds c p (λ w. exchange (o w))
-  exchange_holds h = exchange_pair R h λ s. elim s [
+  exchange_holds h = exchange_pair R h elim [
     | Running ↦ λ r a q x. x
     | Success ↦ λ r a q x. x
     | Failure ↦ λ r a q x. x
@@ -100,7 +100,7 @@ module _ {F : Format} (R : Pairing F) where
     Good child = (t : Tree) (e : Event) (p : R.Worlds) → Shaped F (shape t) → Valid F t → WEvent F e → Both R 0 p (λ s r t' q. TickQ F d e t s r t') (λ w. child t e w) (λ w. child t e w)
 
     pub exchanging_good : (child : Ticker) → Good child → Good (exchanging child)
-    exchanging_good child g t e p s v ev = exchange_pair R (g t e p s v ev) λ s'. elim s' [
+    exchanging_good child g t e p s v ev = exchange_pair R (g t e p s v ev) elim [
       | Running ↦ λ r t' q x. x
       | Success ↦ λ r t' q x. x
       | Failure ↦ λ r t' q x. x

@@ -62,12 +62,12 @@ module _ (F : Format) (d : ℕ) where
     seq_from : (y : Float) (t : Tree) (ts : Forest) (p : R.Worlds) → Shaped F (shape t) → Shapeds F (shapes ts) → Valid F t → W F y
         → Holds R (SeqC (Update y) (0, t ∷ ts)) p (λ w. sequence_from child (Update y) t ts w)
     unfolding sequence_from
-    seq_from y t [] p s ss v ev = after R (g t (Update y) p s v ev) λ s'. elim s' [
+    seq_from y t [] p s ss v ev = after R (g t (Update y) p s v ev) elim [
       | Running ↦ λ r t' p' q. stay R (seq_stay (Update y) r t t' [] q)
       | Success ↦ λ r t' p' q. stay R q.1
       | Failure ↦ λ r t' p' q. stay R q.1
     ]
-    seq_from y t (u ∷ us) p s ss v ev = after R (g t (Update y) p s v ev) λ s'. elim s' [
+    seq_from y t (u ∷ us) p s ss v ev = after R (g t (Update y) p s v ev) elim [
       | Running ↦ λ r t' p' q. stay R (seq_stay (Update y) r t t' (u ∷ us) q)
       | Success ↦ λ r t' p' q. seq_pass (Update y) r t t' u us q.0.0 (seq_from r (fresh u) us p' (rw (fresh_shape u) ss.0) ss.1 (fresh_valid F u ss.0) q.1)
       | Failure ↦ λ r t' p' q. stay R q.1
@@ -85,12 +85,12 @@ module _ (F : Format) (d : ℕ) where
     pub mem_good : (y : Float) (ts : Forest) (p : R.Worlds) → Shapeds F (shapes ts) → W F y → Holds R (MemC (Update y) ts) p (λ w. memoryless child (Update y) ts w)
     unfolding memoryless
     mem_good y [] p s ev = stay R ev
-    mem_good y (t ∷ []) p s ev = after R (g (fresh t) (Update y) p (rw (fresh_shape t) s.0) (fresh_valid F t s.0) ev) λ s'. elim s' [
+    mem_good y (t ∷ []) p s ev = after R (g (fresh t) (Update y) p (rw (fresh_shape t) s.0) (fresh_valid F t s.0) ev) elim [
       | Running ↦ λ r t' p' q. stay R (tt, λ full j x. absurd x)
       | Success ↦ λ r t' p' q. stay R q.1
       | Failure ↦ λ r t' p' q. stay R q.1
     ]
-    mem_good y (t ∷ u ∷ us) p s ev = after R (g (fresh t) (Update y) p (rw (fresh_shape t) s.0) (fresh_valid F t s.0) ev) λ s'. elim s' [
+    mem_good y (t ∷ u ∷ us) p s ev = after R (g (fresh t) (Update y) p (rw (fresh_shape t) s.0) (fresh_valid F t s.0) ev) elim [
       | Running ↦ λ r t' p' q. stay R (tt, λ full j x. absurd x)
       | Success ↦ λ r t' p' q. claim_map R (λ ts. fresh t' ∷ ts) (λ ts v dn. (tt, λ full j x. absurd x))
           (mem_good r (u ∷ us) p' s.1 q.1)

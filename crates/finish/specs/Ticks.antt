@@ -59,13 +59,13 @@ module _ (F : Format) (d : ℕ) where
     unfolding rule_with
     rule_good m Action n l c b ts y p s v ev = acts n l c b ts (Update y) p
     rule_good m Invert n l c b [] y p s v ev = absurd s
-    rule_good m Invert n l c b (t ∷ ts) y p s v ev = after R (g t (Update y) p s.0 v ev) λ s'. elim s' [
+    rule_good m Invert n l c b (t ∷ ts) y p s v ev = after R (g t (Update y) p s.0 v ev) elim [
       | Running ↦ λ r t' p' q. stay R q.1
       | Success ↦ λ r t' p' q. stay R q.1
       | Failure ↦ λ r t' p' q. stay R q.1
     ]
     rule_good m AlwaysSucceed n l c b [] y p s v ev = absurd s
-    rule_good m AlwaysSucceed n l c b (t ∷ ts) y p s v ev = after R (g t (Update y) p s.0 v ev) λ s'. elim s' [
+    rule_good m AlwaysSucceed n l c b (t ∷ ts) y p s v ev = after R (g t (Update y) p s.0 v ev) elim [
       | Running ↦ λ r t' p' q. stay R q.1
       | Success ↦ λ r t' p' q. stay R q.1
       | Failure ↦ λ r t' p' q. stay R q.1
@@ -84,7 +84,7 @@ module _ (F : Format) (d : ℕ) where
     rule_good m MemorylessSelector n l c b ts y p s v ev = claim_map R (λ us. (c, us)) (λ us k dn. (k, dn))
         (exchange_holds R (mem_good F d R (exchanging child) (exchanging_good R d child g) y ts p s ev))
     rule_good m While n l c b [] y p s v ev = absurd s
-    rule_good m While n l c b (t ∷ ts) y p s v ev = after R (g t (Update y) p s.0 v.0 ev) λ s'. elim s' [
+    rule_good m While n l c b (t ∷ ts) y p s v ev = after R (g t (Update y) p s.0 v.0 ev) elim [
       | Running ↦ λ r t' p' q. claim_map R (λ z. (with_place z.0 c, t' ∷ z.1))
           (λ z k dn. ((q.1.0, k), λ full j x. q.1.1 full j x)) (body_good F d R unasked child g m y ts c.place p' (shaped_all (shapes ts) s.1) v.1 ev)
       | Success ↦ λ r t' p' q. stay R q.1
@@ -102,7 +102,7 @@ module _ (F : Format) (d : ℕ) where
 
     visit_good : (m : ℕ) (k : Kind) (n : ℕ) (l : Float) (c : Cell) (b : ℕ) (ts : Forest) (y : Float) (p : R.Worlds) → Shaped F (shp k n l (shapes ts)) → Valid F (node k n l c b ts) → W F y
         → Holds R (TickC F d (Update y) (node k n l c b ts)) p (λ w. rule_with m F child k n l c (Update y) ts w ▸ leave k n l)
-    visit_good m k n l c b ts y p s v ev = after R (rule_good m k n l c b ts y p s v ev) λ s'. elim s' [
+    visit_good m k n l c b ts y p s v ev = after R (rule_good m k n l c b ts y p s v ev) elim [
       | Running ↦ λ r x q z. stay R z
       | Success ↦ λ r x q z. stay R z
       | Failure ↦ λ r x q z. stay R z

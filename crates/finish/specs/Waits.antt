@@ -45,7 +45,7 @@ module _ (F : Format) (d : ℕ) where
         → WEvent F e → Holds R (NodeC F d Timeout n l c b (t ∷ ts) e) p (λ w. rule F child Timeout n l c e (t ∷ ts) w)
     unfolding rule
     timeout_good n l c b t ts Other p wl wx h s v ev = absurd ev
-    timeout_good n l c b t ts (Update y) p wl wx h s v ev = after R (g t (Update y) p s v ev) λ s'. elim s' [
+    timeout_good n l c b t ts (Update y) p wl wx h s v ev = after R (g t (Update y) p s v ev) elim [
       | Running ↦ λ r t' p' q. time_holds c.time y l (le l (add F c.time y)) (passed F c.time y l wx ev wl h)
           (λ wr. stay R wr)
           (λ under wx' e. stay R (

@@ -102,7 +102,7 @@ module _ (F : Format) (d : ℕ) where
     all_good e false least [] p s v lo ev = stay R ((tt, tt), λ full j z x. z)
     all_good e all least (t ∷ ts) p s v lo ev = either R (marked t)
         (λ m. all_skip e all t t ts m (all_good e all least ts p s.1 v.1 (skip_least all t ts least m lo) ev))
-        (λ m. after R (g t e p s.0 (rw m at v.0) ev) λ s'. elim s' [
+        (λ m. after R (g t e p s.0 (rw m at v.0) ev) elim [
           | Running ↦ λ r t' p' q. all_run e all t t' ts r m q (all_good e false least ts p' s.1 v.1 tt ev)
           | Success ↦ λ r t' p' q. all_skip e all t (mark (fresh t')) ts (mark_marked (fresh t'))
               (all_good e all (smaller least r) ts p' s.1 v.1 (least_next all least r (t ∷ ts) ts q.1 lo) ev)
@@ -125,7 +125,7 @@ module _ (F : Format) (d : ℕ) where
     pub race_good : (e : Event) (ts : Forest) (p : R.Worlds) → Shapeds F (shapes ts) → ValidAll F ts → WEvent F e → Holds R (RaceC e ts) p (λ w. race_from child e ts w)
     unfolding race_from
     race_good e [] p s v ev = stay R (tt, λ full j x. x)
-    race_good e (t ∷ ts) p s v ev = after R (g t e p s.0 v.0 ev) λ s'. elim s' [
+    race_good e (t ∷ ts) p s v ev = after R (g t e p s.0 v.0 ev) elim [
       | Running ↦ λ r t' p' q. claim_map R (λ us. t' ∷ us)
           (λ us u dn. ((q.1.0, u), λ full j x. elim x [ inl y ↦ inl (q.1.1 full j y) | inr y ↦ inr (dn full j y) ])) (race_good e ts p' s.1 v.1 ev)
       | Success ↦ λ r t' p' q. stay R q.1

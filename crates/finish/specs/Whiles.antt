@@ -95,7 +95,7 @@ module _ (F : Format) (d : ℕ) where
         → Holds R (BodyC (Update y) (p, ts)) w (λ v. while_body child budget p (Update y) ts v)
     unfolding while_body
     body_good zero y ts p w s v ev = cut R unasked
-    body_good (suc budget) y ts p w s v ev = after R (child_at_lem F d R child g (Update y) ts p w s v ev) λ s'. elim s' [
+    body_good (suc budget) y ts p w s v ev = after R (child_at_lem F d R child g (Update y) ts p w s v ev) elim [
       | Running ↦ λ r t' w' q. stay R (q.1.0, λ full j x. x)
       | Success ↦ λ r t' w' q.
           let inside : next p ts < count ts = next_in F d ts p (ltb (suc p) (count ts)) refl (within F d ts p v) in
@@ -129,13 +129,13 @@ module _ (F : Format) (d : ℕ) where
         → Holds R (LoopC (Update y) (Update z) c ts p) w (λ v. while_all child budget (Update y) p (Update z) c ts v)
     unfolding while_all
     loop_good zero y z c ts p w s ss v ey ez = cut R unasked
-    loop_good (suc budget) y z c ts zero w s ss v ey ez = after R (g c (Update y) w s v.0 ey) λ s'. elim s' [
+    loop_good (suc budget) y z c ts zero w s ss v ey ez = after R (g c (Update y) w s v.0 ey) elim [
       | Running ↦ λ r c' w' q. loop_of (Update y) (Update z) (Update z) c c' ts ts 0 1 (λ full j x. checked (Update z) c c' ts j (q.1.1 full) x)
           (loop_good budget y z c' ts 1 w' (rw q.0.0 s) ss (q.1.0, v.1) ey ez)
       | Success ↦ λ r c' w' q. stay R q.1
       | Failure ↦ λ r c' w' q. stay R q.1
     ]
-    loop_good (suc budget) y z c ts (suc p) w s ss v ey ez = after R (child_at_lem F d R child g (Update z) ts p w ss v.1 ez) λ s'. elim s' [
+    loop_good (suc budget) y z c ts (suc p) w s ss v ey ez = after R (child_at_lem F d R child g (Update z) ts p w ss v.1 ez) elim [
       | Running ↦ λ r t' w' q. stay R (
         (v.0, q.1.0),
         λ full j x. (
