@@ -1,6 +1,8 @@
 // The bench program: frames on standard input, an answer for each tick and restart on standard output.
 #![tactic(auto)]
 
-fn main() {
-    bench_lib::between(libc::STDIN_FILENO, libc::STDOUT_FILENO);
+use std::io;
+
+fn main(rt: HostRuntime) -> io::Result<()> {
+    bench_lib::between(&mut rt.stdin(), &mut rt.stdout())
 }

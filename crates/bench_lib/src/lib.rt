@@ -1,18 +1,22 @@
-// The bench program: lines from one descriptor, what they print to another. Document 01, "The bench program".
+// The bench program: lines from a reader, what they print to a writer. Document 01, "The bench program".
 // It holds one table with its cells, and one part of the input at a time.
 #![tactic(auto)]
 
 mod cut;
 
-ghost use Rattle.std.specs.Prelude.{◌≤◌, length};
+ghost use Rattle.std.specs.Prelude.{◌≤◌, ℕ, List, length, take, IfOk, OnOk, OnErr, IfSome};
+ghost use Rattle.std.specs.Io.KnownBytes.{Keeps, Appends, Consumes};
 ghost use Rattle.rules.specs.Call.{run};
-ghost use Rattle.bench_line.specs.Bench.{rows};
+ghost use Rattle.bench_line.specs.Bench.{rows, bench};
 ghost use Rattle.bench_line.specs.Held.{Long};
-ghost use Rattle.bench_lib.specs.Served.{Starts, Fits, Lined, Fetches, ReadOn};
+ghost use Rattle.bench_lib.specs.Served.{Starts, Fits, Lined};
+ghost use Rattle.bench_lib.specs.Streams.{Gives, ReadsOn, Breaks};
 
 use bench_line::{Held, NODES, one};
 use cut::{line_end, shift};
 use rules::Record;
+use std::io;
+use std::io::{ErrorKind, Read, Write};
 
 // The most answers of a tick.
 const ANSWERS: usize = 1024;
@@ -126,40 +130,68 @@ fn lines(
 }
 
 // Writes what was printed.
-fn flush(to: i32, output: &[u8], written: usize)
+fn flush<W: Write>(to: &mut W, output: &[u8], written: usize) -> io::Result<()>
     requires { written ≤ length output.now }
+    ensures ok { OnOk result
+        (Appends (W.contents to.old) (W.contents to.new) (take written output.now)) }
+    ensures err { OnErr result ((n : ℕ) × (n ≤ written)
+        × Appends (W.contents to.old) (W.contents to.new) (take n output.now)) }
 {
-    io::write_all(to, &output[..written]);
+    let mut done = 0;
+    while done < written {
+        let n = to.write(&output[done..written])?;
+        if n == 0 {
+            return Err(io::Error::new(ErrorKind::WriteZero, "nothing more can be written"));
+        }
+        done += n;
+    }
+    Ok(())
 }
 
 // Reads bytes behind the first kept ones, and answers where they end.
-fn fetch(from: i32, input: &mut [u8], kept: usize) -> usize
+fn fetch<R: Read>(from: &mut R, input: &mut [u8], kept: usize) -> io::Result<usize>
     requires { kept ≤ length input.old }
-    ensures { Fetches input.old kept result input.new }
+    ensures ok { IfOk result
+        (λ end. Gives (R.remaining from.old) (R.remaining from.new) input.old kept end input.new) }
+    ensures err { OnErr result (Keeps (R.remaining from.old) (R.remaining from.new)) }
 {
-    let got = libc::read(from, &mut input[kept..]);
-    kept + io::count(got, &input[kept..])
+    let got = from.read(&mut input[kept..])?;
+    Ok(kept + got)
 }
 
 // What is left is moved to the input's start, and what comes next is put behind it.
-fn read_on(from: i32, at: Progress, input: &mut [u8]) -> Progress
+fn read_on<R: Read>(from: &mut R, at: Progress, input: &mut [u8]) -> io::Result<Progress>
     requires { Fits at input.old }
-    ensures { ReadOn at input.old result input.new }
+    ensures ok { IfOk result
+        (λ p. ReadsOn (R.remaining from.old) (R.remaining from.new) at input.old p input.new) }
+    ensures err { OnErr result (Keeps (R.remaining from.old) (R.remaining from.new)) }
 {
     let held = at.held;
     let kept = shift(input, at.start, at.end);
-    let end = fetch(from, input, kept);
-    Progress {
+    let end = fetch(from, input, kept)?;
+    Ok(Progress {
         held,
         start: 0,
         end,
         last: end == kept,
         written: 0,
-    }
+    })
 }
 
-// Serves the lines of one descriptor up to its end or the first malformed line.
-pub fn between(from: i32, to: i32) {
+// Serves the lines of a reader up to its end or the first malformed line. Where a read or a write fails, nothing more is read or
+// written.
+pub fn between<R: Read, W: Write>(from: &mut R, to: &mut W) -> io::Result<()>
+    // What is written is what the definition says of all that the reader had.
+    ensures ok { OnOk result (IfSome (R.remaining from.old)
+        (λ input. Appends (W.contents to.old) (W.contents to.new) (bench input))) }
+    // Of a reader that does not say what it has: it is what the definition says of what was read.
+    ensures read { OnOk result ((input : List ℕ)
+        × Consumes (R.remaining from.old) (R.remaining from.new) input
+        × Appends (W.contents to.old) (W.contents to.new) (bench input)) }
+    // What was written is the beginning of what the definition says of what was read.
+    ensures err { OnErr result (Breaks (R.remaining from.old) (R.remaining from.new)
+        (W.contents to.old) (W.contents to.new)) }
+{
     let mut input = [0u8; INPUT];
     let mut output = [0u8; OUTPUT];
     let mut kinds = [0u8; NODES];
@@ -171,9 +203,7 @@ pub fn between(from: i32, to: i32) {
     let mut sinces = [0u64; NODES];
     let mut at = first();
     // Nothing says that the input ends: so many turns are more than any input needs.
-    let mut turns: u64 = 0xffff_ffff_ffff_ffff;
-    while turns > 0 {
-        turns -= 1;
+    for _ in 0..u64::MAX {
         at = lines(
             at,
             &input,
@@ -186,16 +216,17 @@ pub fn between(from: i32, to: i32) {
             &mut sinces,
             &mut output,
         );
-        flush(to, &output, at.written);
+        flush(to, &output, at.written)?;
         let held = at.held;
         if !held.on {
-            break;
+            return Ok(());
         }
         if at.written <= OUTPUT - LINE {
             if at.last {
-                break;
+                return Ok(());
             }
-            at = read_on(from, at, &mut input);
+            at = read_on(from, at, &mut input)?;
         }
     }
+    Err(io::Error::new(ErrorKind::TimedOut, "gave up after 2^64 turns"))
 }

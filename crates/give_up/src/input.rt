@@ -1,7 +1,10 @@
 // Nodes and the first tick of frames that stand in memory.
-ghost use Rattle.std.specs.Prelude.{◌<◌, ◌≤◌, length};
+ghost use Rattle.std.specs.Prelude.{◌<◌, ◌≤◌, length, take, IfOk};
+ghost use Rattle.std.specs.Io.KnownBytes.{Consumes, IsAtEnd};
 
 use frames::{Event, Input};
+use std::io;
+use std::io::Read;
 
 // The most node lines, and the most answers of a tick.
 pub const NODES: usize = 257;
@@ -132,17 +135,36 @@ fn to_times(n: usize, patterns: &[u64; ANSWERS], leftovers: &mut [f64; ANSWERS])
     frames::times(n, patterns, leftovers);
 }
 
-// What standard input asks for.
-pub fn read(
+// Reads until the room is full or the input ends, and answers how many bytes came.
+fn fill<R: Read>(from: &mut R, room: &mut [u8]) -> io::Result<usize>
+    ensures within { IfOk result (λ n. n ≤ length room.new) }
+    ensures bytes { IfOk result
+        (λ n. Consumes (R.remaining from.old) (R.remaining from.new) (take n room.new)) }
+    ensures end { IfOk result (λ n. n < length room.new → IsAtEnd (R.remaining from.new)) }
+{
+    let mut done = 0;
+    while done < room.len() {
+        let n = from.read(&mut room[done..])?;
+        if n == 0 {
+            break;
+        }
+        done += n;
+    }
+    Ok(done)
+}
+
+// What the bytes of a reader ask for.
+pub fn read<R: Read>(
+    from: &mut R,
     kinds: &mut [u8; NODES],
     ns: &mut [u16; NODES],
     limits: &mut [f64; NODES],
     statuses: &mut [u8; ANSWERS],
     leftovers: &mut [f64; ANSWERS],
-) -> Asked {
+) -> io::Result<Asked> {
     let mut input = [0u8; INPUT];
     let mut patterns = [0u64; ANSWERS];
-    let got = io::read_full(libc::STDIN_FILENO, &mut input);
+    let got = fill(from, &mut input)?;
     let asked = lines(
         part(&input, 0, got),
         kinds,
@@ -152,5 +174,5 @@ pub fn read(
         &mut patterns,
     );
     to_times(asked.count, &patterns, leftovers);
-    asked
+    Ok(asked)
 }

@@ -5,40 +5,24 @@
 mod input;
 
 use input::{ANSWERS, Asked, NODES, part};
-use libc::STDOUT_FILENO;
 use rules::{BoundAnswer, Event, Record};
+use std::io;
 
-fn print_bound(bound: BoundAnswer) {
+fn print_bound(rt: &impl Print, bound: BoundAnswer) -> io::Result<()> {
     match bound {
-        BoundAnswer::Within(n) => {
-            io::write_all(STDOUT_FILENO, b"finish bound ");
-            io::print_decimal(STDOUT_FILENO, n);
-        }
-        BoundAnswer::Never => {
-            io::write_all(STDOUT_FILENO, b"finish bound none");
-        }
-        BoundAnswer::Above => {
-            io::write_all(STDOUT_FILENO, b"finish bound above 2^53");
-        }
-        BoundAnswer::BadTable(place) => {
-            io::write_all(STDOUT_FILENO, b"bad table at ");
-            io::print_decimal(STDOUT_FILENO, place as u64);
-        }
-        BoundAnswer::NoBound => {
-            io::write_all(STDOUT_FILENO, b"finish bound refused");
-        }
+        BoundAnswer::Within(n) => println!(rt; "finish bound {n}"),
+        BoundAnswer::Never => println!(rt; "finish bound none"),
+        BoundAnswer::Above => println!(rt; "finish bound above 2^53"),
+        BoundAnswer::BadTable(place) => println!(rt; "bad table at {place}"),
+        BoundAnswer::NoBound => println!(rt; "finish bound refused"),
     }
-    io::write_all(STDOUT_FILENO, b"\n");
 }
 
-fn print_ticks(n: u64) {
+fn print_ticks(rt: &impl Print, n: u64) -> io::Result<()> {
     if n == 0 {
-        io::write_all(STDOUT_FILENO, b"not finished\n");
-        return;
+        return println!(rt; "not finished");
     }
-    io::write_all(STDOUT_FILENO, b"finished after ");
-    io::print_decimal(STDOUT_FILENO, n);
-    io::write_all(STDOUT_FILENO, b"\n");
+    println!(rt; "finished after {n}")
 }
 
 // Ticks of one kind until the tree has finished; answers how many were carried out, and 0 where a
@@ -146,31 +130,36 @@ fn ticks(
 
 // A table is as long as its shortest run, and so are answers: one run of each is cut.
 fn tell(
+    rt: &impl Print,
     asked: Asked,
     kinds: &[u8; NODES],
     ns: &[u16; NODES],
     limits: &[f64; NODES],
     statuses: &[u8; ANSWERS],
     leftovers: &[f64; ANSWERS],
-) {
+) -> io::Result<()> {
     let tree = part(kinds, 0, asked.nodes);
     let answers = part(statuses, 0, asked.count);
-    print_bound(bound::finish_bound(tree, ns, limits, asked.step));
-    print_ticks(ticks(asked.step, asked.fuel, tree, ns, limits, answers, leftovers));
+    print_bound(rt, bound::finish_bound(tree, ns, limits, asked.step))?;
+    print_ticks(
+        rt,
+        ticks(asked.step, asked.fuel, tree, ns, limits, answers, leftovers),
+    )
 }
 
-fn main() {
+fn main(rt: HostRuntime) -> io::Result<()> {
     let mut kinds = [0u8; NODES];
     let mut ns = [0u16; NODES];
     let mut limits = [0.0f64; NODES];
     let mut statuses = [0u8; ANSWERS];
     let mut leftovers = [0.0f64; ANSWERS];
     let asked = input::read(
+        &mut rt.stdin(),
         &mut kinds,
         &mut ns,
         &mut limits,
         &mut statuses,
         &mut leftovers,
-    );
-    tell(asked, &kinds, &ns, &limits, &statuses, &leftovers);
+    )?;
+    tell(&rt, asked, &kinds, &ns, &limits, &statuses, &leftovers)
 }

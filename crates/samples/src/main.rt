@@ -1,28 +1,56 @@
 // Serves each file that an argument names, under a line with its name.
 #![tactic(auto)]
 
-use libc::STDOUT_FILENO;
+use std::env::FillError;
+use std::fs::File;
+use std::io;
+use std::io::{ErrorKind, Write};
+use std::rt::Env;
 
-fn one(i: usize) {
-    let mut name = io::buffer();
-    let n = os::arg(i, &mut name);
-    let from = os::open_read(&name[..n]);
-    if from < 0 {
-        os::fail(&name[..n]);
-        return;
+// A file of a name. The system's names are bytes, and those that are no text cannot be asked for.
+fn opened(rt: &HostRuntime, name: &[u8]) -> io::Result<File> {
+    match str::from_utf8(name) {
+        Ok(path) => File::open(rt, path),
+        Err(_) => Err(io::Error::from(ErrorKind::InvalidFilename)),
     }
-    io::write_all(STDOUT_FILENO, &[b'#', b' ']);
-    io::write_all(STDOUT_FILENO, &name[..n]);
-    io::write_all(STDOUT_FILENO, &[10]);
-    bench_lib::between(from, STDOUT_FILENO);
-    libc::close(from);
 }
 
-fn main() {
-    let count = os::arg_count();
-    let mut i = 1;
-    while i < count {
-        one(i);
-        i += 1;
+// Says why a file is passed over.
+fn fail(rt: &HostRuntime, name: &[u8], why: io::Error) -> io::Result<()> {
+    let mut to = rt.stderr();
+    to.write_all(name)?;
+    writeln!(to, ": {why}")
+}
+
+// Serves the file that an argument names; answers whether there is such an argument.
+fn one(rt: &HostRuntime, i: usize) -> io::Result<bool> {
+    let mut name = [0u8; 4096];
+    let n = match rt.arg(i, &mut name) {
+        Ok(n) => n,
+        Err(FillError::TooLong) => 0,
+        Err(FillError::NotPresent) => return Ok(false),
+    };
+    let name = &name[..n];
+    let mut from = match opened(rt, name) {
+        Ok(from) => from,
+        Err(why) => {
+            fail(rt, name, why)?;
+            return Ok(true);
+        }
+    };
+    let mut to = rt.stdout();
+    to.write_all(b"# ")?;
+    to.write_all(name)?;
+    to.write_all(b"\n")?;
+    bench_lib::between(&mut from, &mut to)?;
+    Ok(true)
+}
+
+fn main(rt: HostRuntime) -> io::Result<()> {
+    for i in 1..usize::MAX {
+        if !one(&rt, i)? {
+            break;
+        }
     }
+    Ok(())
 }
