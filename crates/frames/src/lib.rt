@@ -1,6 +1,7 @@
 // The bench program's frames, each a line of lower-case hexadecimal fields, read from lent bytes.
 // A time is a bit pattern throughout, so that a line that is read and written again comes out as it was.
 #![tactic(auto)]
+
 ghost use Rattle.std.specs.Prelude.{◌≡◌, min};
 
 mod hex;
