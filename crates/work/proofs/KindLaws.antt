@@ -1,5 +1,5 @@
 -- The rule of each kind, by the arm of a `match` that has it.
-use mathlib.Core.Path.{◌≡◌, refl}
+use mathlib.Core.Path.{◌≡◌}
 use mathlib.Core.Bool.{Bool, true, false}
 use mathlib.Core.List.{List, [], ◌∷◌}
 use types.Run.{OneOf}

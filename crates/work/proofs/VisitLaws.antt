@@ -1,6 +1,6 @@
 -- What a visit gave, and what is made of it.
 use mathlib.Core.Path.{◌≡◌, refl, ap}
-use mathlib.Core.Bool.{Bool, true, false, not}
+use mathlib.Core.Bool.{Bool, true, false}
 use mathlib.Core.List.{List, [], ◌∷◌}
 use types.Run.{miss}
 use Prim.Native.Nat.{ℕ, zero, suc, ◌-◌}
@@ -17,7 +17,7 @@ use Rattle.work.specs.declared.result.Seen.{Seen}
 use Rattle.work.specs.declared.result.Seen.TheVariants.{Stopped, Running, Success, Failure}
 use Rattle.work.specs.Word.{kind_in}
 use Rattle.work.specs.Array.{word_at, fuel_of, set_seen}
-use Rattle.work.specs.Flat.{Out, out, Lent, Visitor, seen_as, seen_no, stopped, turned, turn_out, is_leaf, seen}
+use Rattle.work.specs.Flat.{Out, out, Lent, Visitor, seen_as, seen_no, turned, turn_out, is_leaf, seen}
 use Rattle.work.proofs.Laws.{Among}
 use Rattle.work.specs.Flat.{visit_leaf, visit, by_kind, tick}
 

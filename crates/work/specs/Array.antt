@@ -1,6 +1,6 @@
 -- The working array of a tick: a word for each of 256 nodes, and behind them the fuel that is left, the answers used, the place of the
 -- action that asks and 1, and 1 for an update. Beside it stand the times.
-use Rattle.std.specs.Prelude.{Bool, true, cond, not, List, ℕ, zero, suc, ◌+◌, ◌-◌, ◌≤◌, leb, ltb, eqb, Float, get_or, set}
+use Rattle.std.specs.Prelude.{Bool, cond, not, List, ℕ, zero, suc, ◌+◌, ◌-◌, ◌≤◌, leb, ltb, eqb, Float, get_or, set}
 use Rattle.rules.specs.Tree.{zero_time}
 use Rattle.rules.specs.Table.{cleaned}
 use Rattle.work.specs.Word.{below_of, with_place, with_mark, with_seen, fresh_word}

@@ -7,7 +7,7 @@ use Rattle.rules.specs.declared.behavior.Kind.TheVariants.{Wait, WaitForever, Ac
 use Rattle.rules.specs.declared.behavior.Kind.TheVariants.{MemorylessSequence, MemorylessSelector, While, WhileAll, WhenAll, WhenAny, After, Race}
 use Rattle.rules.specs.declared.status.Status.{Status}
 use Rattle.rules.specs.declared.status.Status.TheVariants as status
-use Rattle.rules.specs.Kinds.{is, fewest, most}
+use Rattle.rules.specs.Kinds.{is, most}
 use Rattle.rules.specs.Tree.{zero_time}
 use Rattle.rules.specs.Outcome.{exchanged, always_succeed, largest, smaller, byte, status_of}
 use Rattle.work.specs.declared.result.Seen.{Seen}
