@@ -1,6 +1,5 @@
 -- The whole call: what a tick and a restart answer and what they leave, refusals in their order. Document 01, "What a call can say".
 use Rattle.std.specs.Prelude.{ℕ, suc, ◌+◌, ◌-◌, ◌%◌, ◌^◌, min, Bool, true, false, cond, not, ◌||◌, List, ◌++◌, length, take, drop, nat_le, Float}
-use mathlib.Core.List
 use Rattle.std.specs.Float.{Format}
 use Rattle.rules.specs.declared.status.Status.{Status}
 use Rattle.rules.specs.declared.status.Status.TheVariants.{Running, Success, Failure}

@@ -1,6 +1,5 @@
 -- Document 01, "Trees to try": what calls of fresh trees say. The marked cases, the errors to shut out, some finish bounds, some boards and some numbers of cells, as one list.
 use Rattle.std.specs.Prelude.{◌≡◌, ℕ, true, false, List, map, pos, refl, Float}
-use mathlib.Core.List
 use Rattle.std.specs.Float.{fin, binary64}
 use Rattle.std.specs.Float.Ieee.{of_int, to_unsigned, whole}
 use Rattle.rules.specs.declared.behavior.Kind.{Kind}

@@ -1,6 +1,5 @@
 -- The cells of a tree as runs in preorder, and which cell is bad: document 01, "The tree and its cells".
 use Rattle.std.specs.Prelude.{ℕ, suc, ◌-◌, Bool, false, cond, not, ◌&&◌, ◌||◌, List, ◌==◌, nat_le, Float}
-use mathlib.Core.List
 use Rattle.std.specs.Float.{nan, inf, fin}
 use Rattle.rules.specs.declared.behavior.Kind.{Kind}
 use Rattle.rules.specs.declared.behavior.Kind.TheVariants.{Wait, WaitForever, Action, Invert, AlwaysSucceed, Timeout, Select, If, Sequence}

@@ -1,6 +1,5 @@
 -- The exchange of a branch that has not been started: document 02, request 13. The tree with the branch replaced, and the whole call.
-use Rattle.std.specs.Prelude.{ℕ, zero, suc, ◌+◌, ◌-◌, min, max, Bool, true, false, cond, not, ◌&&◌, ◌||◌, List, ◌++◌, length, take, drop, replicate, ◌==◌, nat_le, nat_lt, Float}
-use mathlib.Core.List
+use Rattle.std.specs.Prelude.{ℕ, zero, suc, ◌+◌, ◌-◌, min, max, Bool, false, cond, not, ◌&&◌, ◌||◌, List, ◌++◌, length, take, drop, replicate, ◌==◌, nat_le, nat_lt, Float}
 use Rattle.rules.specs.declared.behavior.Kind.{Kind}
 use Rattle.rules.specs.declared.behavior.Kind.TheVariants.{Wait, WaitForever, Action, Invert, AlwaysSucceed, Timeout, Select, If, Sequence}
 use Rattle.rules.specs.declared.behavior.Kind.TheVariants.{MemorylessSequence, MemorylessSelector, While, WhileAll, WhenAll, WhenAny, After, Race}

@@ -1,17 +1,16 @@
 -- Document 02, request 13: which nodes may be exchanged in small trees, and what some calls leave.
-use Rattle.std.specs.Prelude.{◌≡◌, ℕ, zero, suc, ◌+◌, Bool, true, false, List, map, pos, refl, Float}
-use mathlib.Core.List
+use Rattle.std.specs.Prelude.{◌≡◌, ℕ, zero, suc, Bool, true, false, List, map, pos, refl, Float}
 use Rattle.std.specs.Float.{binary64}
 use Rattle.std.specs.Float.Ieee.{of_int, to_unsigned, whole}
 use Rattle.rules.specs.declared.behavior.Kind.{Kind}
-use Rattle.rules.specs.declared.behavior.Kind.TheVariants.{Wait, Invert, Timeout, Select, If, Sequence, MemorylessSequence, While, WhileAll, WhenAll, WhenAny, After, Race}
+use Rattle.rules.specs.declared.behavior.Kind.TheVariants.{Wait, Invert, Select, If, Sequence, MemorylessSequence, While, WhileAll, WhenAll, WhenAny, After, Race}
 use Rattle.rules.specs.declared.answer.Record.{Record}
 use Rattle.rules.specs.declared.exchanged.Exchanged.{Exchanged}
 use Rattle.rules.specs.declared.exchanged.Exchanged.TheVariants.{Done, Finished, BadTable, BadBranch, TooShort, BadCell, NoNode, StateHeld, TooLarge, ShortRoom}
 use Rattle.rules.specs.Kinds.{kind_of}
-use Rattle.rules.specs.Tree.{zero_time, Cell, fresh_cell, with_time, with_place, with_mark, Tree, node, Forest, [], ◌∷◌, size, count}
+use Rattle.rules.specs.Tree.{zero_time, fresh_cell, with_time, with_place, with_mark, Tree, node, Forest, [], ◌∷◌, size, count}
 use Rattle.rules.specs.Call.{run}
-use Rattle.rules.specs.Exchange.{free, Room, room, GivenExchange, given_exchange, LeftExchange, left_exchange, exchange_call, listed, code_in, number_in, limit_in, time_in, place_in, mark_in}
+use Rattle.rules.specs.Exchange.{free, Room, room, GivenExchange, given_exchange, left_exchange, exchange_call, listed, code_in, number_in, limit_in, time_in, place_in, mark_in}
 
 infixr 40 ◌and◌
 abbrev ◌and◌ : {A : Type 0} → A → List A → List A

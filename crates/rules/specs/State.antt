@@ -1,6 +1,5 @@
 -- One tick, rule by rule: document 01, "One tick". Each rule is given the ticker of the node's children, and says the node's cell and children before and after.
 use Rattle.std.specs.Prelude.{ℕ, zero, suc, true, false, List, Float}
-use mathlib.Core.List
 use Rattle.std.specs.Float.{Format}
 use Rattle.std.specs.Float.Ieee.{add, sub, le}
 use Rattle.rules.specs.declared.behavior.Kind.{Kind}

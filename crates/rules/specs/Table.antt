@@ -1,7 +1,6 @@
 -- The table: the preorder encoding of one tree of 1 to 256 nodes, at most 16 deep. Reading goes from left to right, so the place that
 -- it stops at is the smallest faulty one. Document 01, "The tree and its cells".
 use Rattle.std.specs.Prelude.{ℕ, zero, suc, Bool, false, cond, not, ◌&&◌, List, ◌==◌, nat_le, nat_lt, Float}
-use mathlib.Core.List
 use Rattle.std.specs.Float.{nan, inf, fin}
 use Rattle.rules.specs.declared.behavior.Kind.{Kind}
 use Rattle.rules.specs.Kinds.{kind_of, fewest, most, children, timed}

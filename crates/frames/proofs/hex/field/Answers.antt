@@ -1,7 +1,6 @@
 -- `field` meets its contract.
 use native.Mathlib.Omega.{arith}
-use Rattle.frames.proofs.Fields.{field_found, no_space}
-use borrow.Author.Rules.{rules}
+use Rattle.frames.proofs.Fields.{no_space}
 use Rattle.frames.proofs.hex.field.Goals as goal
 
 pub returns-then-line-at : goal.returns-then-line-at

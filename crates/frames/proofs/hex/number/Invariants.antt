@@ -1,10 +1,8 @@
 -- `number` meets its contract. The invariant: the digits passed are those of the value. The measure is how many are left.
-use mathlib.Core.Path.{◌≡◌, refl}
-use Prim.Native.Nat.{◌+◌, ◌-◌, ◌*◌, ◌^◌, ◌≤◌, ◌<◌}
-use native.Mathlib.Omega.{arith}
+use mathlib.Core.Path.{◌≡◌}
+use Prim.Native.Nat.{◌-◌, ◌^◌, ◌≤◌, ◌<◌}
 use lib.ListN.{take, drop}
 use Rattle.frames.specs.Hex.{digits}
-use Rattle.frames.proofs.Numbers.{too_short, no_digit, one_more, one_fits, one_small, found}
 use Rattle.frames.proofs.hex.number.Given as goal
 
 -- `number` meets its contract. The invariant: the digits passed are those of the value. The measure is how many are left.

@@ -1,6 +1,5 @@
 -- `bits` meets its contract.
 use Rattle.frames.proofs.Nans.{nan_pattern, time_defined}
-use borrow.Author.Rules.{rules}
 use Rattle.frames.proofs.patterns.bits.Goals as goal
 
 pub returns-then-time : goal.returns-then-time

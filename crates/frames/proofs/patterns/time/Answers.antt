@@ -1,7 +1,6 @@
 -- `time` meets its contract.
 use mathlib.Core.Path.{◌∙◌}
 use Rattle.frames.proofs.Nans.{zero_by_zero, time_nan, pattern_defined}
-use borrow.Author.Rules.{rules}
 use Rattle.frames.proofs.patterns.time.Goals as goal
 
 pub returns-then-magnitude-gt9218868437227405312 : goal.returns-then-magnitude-gt9218868437227405312

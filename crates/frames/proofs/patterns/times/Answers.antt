@@ -1,9 +1,7 @@
 -- `times` meets its contract. The invariant: the patterns passed are turned into times. The measure is how many are left.
-use mathlib.Core.Path.{◌≡◌, refl, ◌∙◌}
-use Prim.Native.Nat.{◌-◌, ◌≤◌}
+use mathlib.Core.Path.{◌∙◌}
 use native.Mathlib.Omega.{arith}
-use lib.ListN.{length, length-set}
-use Rattle.frames.specs.Times.{timed}
+use lib.ListN.{length-set}
 use Rattle.frames.proofs.Nans.{timed_more, timed_end}
 use Rattle.frames.proofs.patterns.times.Goals as goal
 

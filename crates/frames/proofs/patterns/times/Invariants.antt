@@ -1,10 +1,8 @@
 -- `times` meets its contract. The invariant: the patterns passed are turned into times. The measure is how many are left.
-use mathlib.Core.Path.{◌≡◌, refl, ◌∙◌}
+use mathlib.Core.Path.{◌≡◌}
 use Prim.Native.Nat.{◌-◌, ◌≤◌}
-use native.Mathlib.Omega.{arith}
-use lib.ListN.{length, length-set}
+use lib.ListN.{length}
 use Rattle.frames.specs.Times.{timed}
-use Rattle.frames.proofs.Nans.{timed_more, timed_end}
 use Rattle.frames.proofs.patterns.times.Given as goal
 
 -- `times` meets its contract. The invariant: the patterns passed are turned into times. The measure is how many are left.

@@ -2,8 +2,7 @@
 use mathlib.Core.Path.{refl, subst}
 use Rattle.frames.specs.Parts.{EventIs}
 use Rattle.frames.proofs.Bodies.{Chain, ended, not_ended}
-use Rattle.frames.proofs.Calls.{read, too_many, no_event, no_end, is_asked_lem}
-use borrow.Author.Rules.{rules}
+use Rattle.frames.proofs.Calls.{read, no_end, is_asked_lem}
 use Rattle.frames.proofs.reader.asked.Goals as goal
 
 pub returns-in-Is : goal.returns-in-Is

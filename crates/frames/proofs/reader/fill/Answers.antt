@@ -1,10 +1,7 @@
 -- `fill` meets its contract. The invariant: the answers passed are in the slices. The measure is how many are left.
-use mathlib.Core.Path.{◌≡◌, refl}
-use Prim.Native.Nat.{◌-◌, ◌≤◌}
 use native.Mathlib.Omega.{arith}
-use borrow.Author.Rules.{rules}
-use lib.ListN.{length, length-set}
-use Rattle.frames.proofs.Runs.{Taken, none_taken, take_more, all_taken}
+use lib.ListN.{length-set}
+use Rattle.frames.proofs.Runs.{take_more, all_taken}
 use Rattle.frames.proofs.reader.fill.Goals as goal
 
 pub loop-i-preserved : goal.loop-i-preserved

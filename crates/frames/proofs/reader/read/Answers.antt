@@ -3,8 +3,7 @@ use mathlib.Core.Path.{subst}
 use native.Mathlib.Omega.{arith}
 use Rattle.frames.specs.Parts.{Whole}
 use Rattle.frames.specs.declared.reader.Found.{Found}
-use Rattle.frames.proofs.Heads.{reads_is, reads_short, reads_not}
-use borrow.Author.Rules.{rules}
+use Rattle.frames.proofs.Heads.{reads_is}
 use Rattle.frames.proofs.reader.read.Goals as goal
 
 pub returns-else-least-n : goal.returns-else-least-n

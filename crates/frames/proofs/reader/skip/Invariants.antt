@@ -1,10 +1,6 @@
 -- `skip` meets its contract. The invariant: the answers passed stand up to the place reached. The measure is how many are left.
-use mathlib.Core.Path.{◌≡◌}
 use Prim.Native.Nat.{◌-◌, ◌≤◌}
-use native.Mathlib.Omega.{arith}
-use borrow.Author.Rules.{rules}
 use Rattle.frames.specs.Parts.{Skips}
-use Rattle.frames.proofs.Runs.{none_yet, skips_more}
 use Rattle.frames.proofs.reader.skip.Given as goal
 
 -- `skip` meets its contract. The invariant: the answers passed stand up to the place reached. The measure is how many are left.

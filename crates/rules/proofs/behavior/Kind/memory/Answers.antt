@@ -1,5 +1,5 @@
 -- Two kinds change when memory goes on, two when it goes off, and every other kind stays.
-use Rattle.std.proofs.Common.{◌≡◌, ℕ, true, false, List, [], ◌∷◌, rules}
+use Rattle.std.proofs.Common.{◌≡◌, ℕ, true, false, List, [], ◌∷◌}
 use borrow.Enum.Refused.{opened}
 use Rattle.rules.proofs.Arms.{arm}
 use Rattle.rules.specs.Kinds.{kind_of, memory}
