@@ -1,12 +1,12 @@
 -- A float told by its bits, of which the sign is the top one, and by comparisons.
 use mathlib.Core.Path.{◌≡◌, refl, sym, ap, subst, ◌∙◌}
-use mathlib.Core.Bool.{Bool, true, false, not, cond, and_false}
+use mathlib.Core.Bool.{Bool, true, false, not, cond, and-false}
 use Prim.Native.Nat.{ℕ, zero, suc, ◌+◌, ◌*◌, ◌/◌, ◌%◌, ◌^◌}
 use native.Mathlib.Nat.{zero-mul, zero-div, mul-pos, zero-lt-suc}
 use native.Mathlib.Omega.{arith}
 use borrow.Author.Tests.{lt-ltb, le-ltb, leb-true, ne_eqb, eqb-true, eqb-false, leb-false}
 use lib.Dec.{T, leb, ltb, eqb}
-use lib.Ieee.{Float, nan, inf, fin, binary64, fits, is_nan, odd, of_fields, of_bits, to_bits, ne, lt, eq, le, up, down}
+use lib.Ieee.{Float, nan, inf, fin, binary64, fits, is_nan, odd, of_fields, of_bits, to_bits, ne, eq, up, down}
 use lib.Ieee.Bits.{of_bits-to_bits}
 use lib.Ieee.Compare.{differs_from_itself}
 use lib.Ieee.Fits.{up_pos}
@@ -88,13 +88,13 @@ number_test b false false e f =
     sym (lt-ltb b infinity_bits (omega (arith, leb-false sign_bit b e, other)))
 
 -- only zero with the sign bit clear has no bit
-zero_bits : (x : Float) → (to_bits binary64 x ≡ 0 → ⊥) → zero_bits x ≡ false
+zero_bits_lem : (x : Float) → (to_bits binary64 x ≡ 0 → ⊥) → zero_bits x ≡ false
 unfolding to_bits
-zero_bits nan h = refl
-zero_bits (inf s) h = refl
-zero_bits (fin true m e) h = refl
-zero_bits (fin false zero e) h = absurd (h (simp (zero-mul, zero-div)))
-zero_bits (fin false (suc m) e) h = ne_eqb (suc m) 0 (omega arith)
+zero_bits_lem nan h = refl
+zero_bits_lem (inf s) h = refl
+zero_bits_lem (fin true m e) h = refl
+zero_bits_lem (fin false zero e) h = absurd (h (simp (zero-mul, zero-div)))
+zero_bits_lem (fin false (suc m) e) h = ne_eqb (suc m) 0 (omega arith)
 
 module _ (x : Float) (ok : T (fits binary64 x)) where
   pub elapsed_bits : T (not (is_nan x)) → elapsed x ≡ ltb (to_bits binary64 x) sign_bit
@@ -114,7 +114,7 @@ module _ (x : Float) (ok : T (fits binary64 x)) where
   zero_test : (b : Bool) → eqb (to_bits binary64 x) 0 ≡ b → zero_bits x ≡ b
   unfolding of_bits
   zero_test true e = ap zero_bits (sym (of_bits-to_bits binary64 x ok)) ∙ ap (λ (b : ℕ). zero_bits (of_bits binary64 b)) (eqb-true (to_bits binary64 x) 0 e)
-  zero_test false e = zero_bits x (eqb-false _ _ e)
+  zero_test false e = zero_bits_lem x (eqb-false _ _ e)
 
   pub zero_bits_test : zero_bits x ≡ eqb (to_bits binary64 x) 0
   zero_bits_test = zero_test _ refl
@@ -164,4 +164,4 @@ no_limit (fin true zero d) = rw (zero-mul (up d), zero-mul (down d))
 no_limit (fin false zero d) = rw (zero-mul (up d), zero-mul (down d))
 no_limit (fin s (suc m) d) =
     let more = mul-pos (zero-lt-suc m) (up_pos d) in
-    rw (zero-mul (down d), ne_eqb (suc m * up d * 1) 0 (omega arith), ne_eqb (suc m) 0 (omega arith), and_false (not s))
+    rw (zero-mul (down d), ne_eqb (suc m * up d * 1) 0 (omega arith), ne_eqb (suc m) 0 (omega arith), and-false (not s))

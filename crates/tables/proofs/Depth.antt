@@ -2,13 +2,12 @@
 use mathlib.Core.Path.{◌≡◌, refl}
 use mathlib.Core.Bool.{Bool, true, false, cond, ◌&&◌}
 use mathlib.Core.List.{List}
-use mathlib.Core.List
 use Prim.Native.Nat.{ℕ, zero, suc, ◌≤◌}
 use native.Mathlib.Omega.{arith}
 use lib.Dec.{ltb}
 use lib.Ieee.{Float}
 use Rattle.rules.specs.Kinds.{kind_of, children}
-use Rattle.rules.specs.Tree.{new_cell, Tree, node, Forest, [], ◌∷◌, depth, depths}
+use Rattle.rules.specs.Tree.{new_cell, Tree, node, Forest, ◌∷◌, depth, depths}
 use Rattle.rules.specs.Table.{row, row_allowed, Row, Read, got, fault, ◌and_then◌, read_children, read_tree}
 
 abbrev Bounded : ℕ → Read Tree → Type 0

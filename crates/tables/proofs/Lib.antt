@@ -1,4 +1,4 @@
-mod Answered
+mod FirstBad
 pub mod Bits
 pub mod Depth
 pub mod Placed

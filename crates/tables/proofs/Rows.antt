@@ -1,11 +1,10 @@
 -- How a row is answered, and what the answer tells of the row.
 use mathlib.Core.Path.{◌≡◌, refl}
-use mathlib.Core.Bool.{Bool, true, false, not, cond, ◌&&◌, and-true, and_false}
+use mathlib.Core.Bool.{Bool, true, false, cond, ◌&&◌, and-true, and-false}
 use mathlib.Core.List.{List}
-use mathlib.Core.List
 use Prim.Native.Nat.{ℕ, zero, suc, ◌≤◌, ◌<◌, min}
 use native.Mathlib.Omega.{arith}
-use borrow.Author.Tests.{le-leb, lt-leb, ne_eqb, not-true, not-false}
+use borrow.Author.Tests.{le-leb, lt-leb, ne_eqb}
 use lib.Dec.{leb, eqb}
 use lib.Ieee.{Float}
 use lib.ListN.{length, get_or}
@@ -48,14 +47,14 @@ module _ (k n : ℕ) (l : Float) where
   no_kind h = rw (lt-leb k 16 h)
 
   module _ {kind : Kind} (is : kind ≡ kind_of k) (low : k ≤ 16) {b : Bool} (bs : b ≡ limit_allowed kind l) where
-    pub no_limit : not b ≡ true → Bad ≡ row_of k n l
+    pub no_limit : b ≡ false → Bad ≡ row_of k n l
     unfolding row_allowed
-    no_limit h = rw (le-leb k 16 low, ← is, ← bs, not-true b h, and_false (count_allowed kind n))
+    no_limit h = rw (le-leb k 16 low, ← is, ← bs, h, and-false (count_allowed kind n))
 
-    module _ (good : not b ≡ false) {c : ℕ} (cs : c ≡ children kind n) {a : Bool} (counts : a ≡ leb (fewest kind) c && leb c (most kind)) where
+    module _ (good : b ≡ true) {c : ℕ} (cs : c ≡ children kind n) {a : Bool} (counts : a ≡ leb (fewest kind) c && leb c (most kind)) where
       pub by_count : cond a (Children c) Bad ≡ row_of k n l
       unfolding row_allowed
-      by_count = rw (le-leb k 16 low, ← is, ← cs, ← counts, ← bs, not-false b good, and-true a)
+      by_count = rw (le-leb k 16 low, ← is, ← cs, ← counts, ← bs, good, and-true a)
 
 -- ---- an element that is there needs no default
 pub any_default : {A : Type 0} (xs : List A) (i : ℕ) (d d' : A) → i < length xs → get_or xs i d ≡ get_or xs i d'

@@ -1,10 +1,9 @@
 -- One step of the check of the answers.
-use mathlib.Core.Path.{◌≡◌, refl, ap}
-use mathlib.Core.Bool.{Bool, true, false, not}
+use mathlib.Core.Path.{◌≡◌, ap}
+use mathlib.Core.Bool.{Bool, true, false}
 use mathlib.Core.List.{List}
 use Prim.Native.Nat.{ℕ, ◌+◌, ◌≤◌, ◌<◌}
 use native.Mathlib.Numerals.{add-one}
-use borrow.Author.Tests.{not-true, not-false}
 use lib.Ieee.{Float}
 use lib.ListN.{length, get_or, drop, drop_of_length-le}
 use lib.Seq.{drop-cons}
@@ -22,10 +21,10 @@ module _ (ss : List ℕ) (ls : List Float) (i : ℕ) (inv : bad_answer i (drop i
   ends_second g h = ap answered_of (rw (drop-cons ss i 0 g, drop_of_length-le ls h) at inv)
 
   module _ (d : Float) (a : Bool) (g : i < length ss) (h : i < length ls) (e : a ≡ answer_allowed (get_or ss i 0) (get_or ls i d)) where
-    pub refuses : not a ≡ true → answered.Bad i ≡ first_bad ss ls
+    pub refuses : a ≡ false → answered.Bad i ≡ first_bad ss ls
     unfolding first_bad bad_answer
-    refuses n = ap answered_of (rw (drop-cons ss i 0 g, drop-cons ls i d h, ← e, not-true a n) at inv)
+    refuses n = ap answered_of (rw (drop-cons ss i 0 g, drop-cons ls i d h, ← e, n) at inv)
 
-    pub goes_on : not a ≡ false → bad_answer (i + 1) (drop (i + 1) ss) (drop (i + 1) ls) ≡ bad_answer 0 ss ls
+    pub goes_on : a ≡ true → bad_answer (i + 1) (drop (i + 1) ss) (drop (i + 1) ls) ≡ bad_answer 0 ss ls
     unfolding bad_answer
-    goes_on n = rw (add-one i) (rw (drop-cons ss i 0 g, drop-cons ls i d h, ← e, not-false a n) at inv)
+    goes_on n = rw (add-one i) (rw (drop-cons ss i 0 g, drop-cons ls i d h, ← e, n) at inv)
