@@ -2,7 +2,6 @@
 -- The tick has a whole time, and the answers that it used have whole leftovers.
 use Rattle.std.specs.Prelude.{◌≡◌, List, ℕ, zero, suc, ◌+◌, ◌-◌, ◌≤◌, ◌<◌, length, take, Float}
 use Rattle.std.proofs.Common.{◌∙◌, le_refl, arith}
-use mathlib.Core.List
 use Rattle.std.specs.Float.{Format}
 use Rattle.rules.specs.declared.status.Status.{Status}
 use Rattle.rules.specs.declared.status.Status.TheVariants.{Running, Success, Failure}

@@ -1,14 +1,13 @@
 -- What is shown of each outcome of a tick: an end has a whole leftover; a tree that goes on is valid, and a tick of d or more lowers the number of
 -- ticks that are still enough. That shape and mark stay is known of every tick.
 use Rattle.std.specs.Prelude.{List, ℕ, suc, ◌≤◌, Float}
-use mathlib.Core.List
 use Rattle.std.specs.Float.{Format}
 use Rattle.rules.specs.declared.behavior.Kind.{Kind}
 use Rattle.rules.specs.declared.status.Status.{Status}
 use Rattle.rules.specs.declared.status.Status.TheVariants.{Running, Success, Failure}
 use Rattle.rules.specs.declared.event.Event.{Event}
 use Rattle.rules.specs.declared.event.Event.TheVariants.{Update, Other}
-use Rattle.rules.specs.Tree.{Cell, Tree, node, Forest, [], ◌∷◌}
+use Rattle.rules.specs.Tree.{Cell, Tree, node, Forest}
 use Rattle.rules.specs.Outcome.{dt, World, world, Out, done, Ticker, ◌▸◌, exchange, exchanging, byte}
 use Rattle.rules.specs.State.{Next}
 use Rattle.rules.specs.Bound.{num}

@@ -1,7 +1,6 @@
 -- One tick, of every kind: it keeps a tree valid, and a tick of d or more lowers the number of ticks that are still enough.
 use Rattle.std.specs.Prelude.{◌≡◌, refl, List, Float}
 use Rattle.std.proofs.Common.{subst, inr, arith}
-use mathlib.Core.List
 use Prim.Native.Nat.{ℕ, zero, suc, ◌+◌, ◌*◌, ◌≤◌}
 use Rattle.std.specs.Float.{Format}
 use Rattle.rules.specs.declared.behavior.Kind.{Kind}

@@ -1,6 +1,5 @@
 -- What demand 3 asks of a history of calls, and of it alone of those that were answered 0.
 use Rattle.std.specs.Prelude.{List, ℕ, ◌≤◌, T, take, Float}
-use mathlib.Core.List
 use Rattle.std.specs.Float.{Format}
 use Rattle.rules.specs.declared.status.Status.{Status}
 use Rattle.rules.specs.declared.event.Event.{Event}

@@ -3,7 +3,6 @@
 use Rattle.std.specs.Prelude.{◌≡◌, List, ◌++◌, T, Float}
 use Rattle.std.proofs.Common.{sym, ◌∙◌, subst, add-zero}
 use Rattle.std.proofs.Math.Path.{ap}
-use mathlib.Core.List
 use Prim.Native.Nat.{ℕ, suc, ◌+◌, ◌-◌}
 use native.Mathlib.Omega.{arith}
 use Rattle.std.proofs.Math.ListN.{length, length-append}

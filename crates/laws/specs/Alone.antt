@@ -2,13 +2,12 @@
 -- matter for a tree that is no deeper.
 use Rattle.std.specs.Prelude.{◌≡◌, refl, List, Float, ◌++◌, max}
 use Rattle.std.proofs.Common.{sym, ap, ◌∙◌, append_assoc, le_refl, le_trans, le_of_suc-le-suc, not-suc-le-zero, arith}
-use mathlib.Core.List
 use Prim.Native.Nat.{ℕ, zero, suc, ◌≤◌, ◌<◌}
 use Rattle.std.specs.Float.{Format}
 use Rattle.rules.specs.declared.behavior.Kind.{Kind}
 use Rattle.rules.specs.declared.status.Status.{Status}
 use Rattle.rules.specs.declared.event.Event.{Event}
-use Rattle.rules.specs.Tree.{Cell, Tree, node, Forest, [], ◌∷◌, depth}
+use Rattle.rules.specs.Tree.{Cell, Tree, node, Forest, depth}
 use Rattle.rules.specs.Outcome.{dt, World, world, Out, done, asks, short, Ticker, ◌▸◌}
 use Rattle.rules.specs.State.{Next, rule, tick}
 use Rattle.laws.specs.Shape.{Shape, Shapes, shape, shapes, size_of, sizes_of}

@@ -3,12 +3,11 @@
 use Rattle.std.specs.Prelude.{◌≡◌, List, Float, ◌++◌, length}
 use Rattle.std.proofs.Math.Path.{refl, sym}
 use Rattle.std.proofs.Common.{ap, ◌∙◌, subst, append_assoc, arith, length-append}
-use mathlib.Core.List
 use Prim.Native.Nat.{ℕ, zero, suc, ◌+◌}
 use Rattle.std.specs.Float.{Format}
 use Rattle.rules.specs.declared.status.Status.{Status}
 use Rattle.rules.specs.declared.event.Event.{Event}
-use Rattle.rules.specs.Tree.{Tree, node, [], ◌∷◌}
+use Rattle.rules.specs.Tree.{Tree, node}
 use Rattle.rules.specs.Outcome.{dt, World, world, Out, done, asks, short, ◌▸◌}
 use Rattle.rules.specs.State.{rule, tick}
 use Rattle.laws.specs.Shape.{shape, shapes, size_of}

@@ -3,7 +3,6 @@
 use Rattle.std.specs.Prelude.{◌≡◌, refl, Bool, cond, List, ℕ, suc, leb, Float}
 use Rattle.std.proofs.Common.{sym, ap, ◌∙◌, subst, zero-add, arith}
 use Rattle.std.proofs.Math.Bool.{true, false}
-use mathlib.Core.List
 use Rattle.std.proofs.Math.Dec.{T}
 use Rattle.std.specs.Float.{Format}
 use Rattle.rules.specs.declared.event.Event.{Event}

@@ -4,7 +4,6 @@ use Rattle.std.specs.Prelude.{◌≡◌, Bool, true, cond, ◌&&◌, List, ◌++
 use Rattle.std.proofs.Math.Path.{refl, ap}
 use Rattle.std.proofs.Common.{sym, subst, ◌∙◌, leb-true, ltb-true}
 use Rattle.std.proofs.Math.Bool.{false, and-eq-true_iff}
-use mathlib.Core.List
 use Rattle.std.specs.Float.{Format}
 use Rattle.rules.specs.declared.exchanged.Exchanged.{Exchanged as Answer}
 use Rattle.rules.specs.declared.exchanged.Exchanged.TheVariants.{Done, Finished, BadTable, BadBranch, TooShort, BadCell, NoNode, StateHeld, TooLarge, ShortRoom}

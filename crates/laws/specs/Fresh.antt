@@ -1,7 +1,6 @@
 -- Where a tree starts: cells that are all zero hold the table's tree, and fresh cells the same tree made fresh.
 use Rattle.std.specs.Prelude.{◌≡◌, refl, List, ℕ, ◌+◌, replicate, Float}
 use Rattle.std.proofs.Common.{sym, ap, ◌∙◌, zero-add, suc-add, add-zero, add_assoc}
-use mathlib.Core.List
 use Rattle.rules.specs.Tree.{Cell, fresh_cell, new_cell, Tree, node, Forest, [], ◌∷◌, fresh, fresh_all, size, sizes}
 use Rattle.rules.specs.Table.{good, table}
 use Rattle.rules.specs.Cells.{with_cells, with_cells_all}

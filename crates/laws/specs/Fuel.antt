@@ -1,6 +1,5 @@
 -- Without While and WhileAll, fuel equal to the node count is never too little: for every event, all cells that are accepted and all answers.
 use Rattle.std.specs.Prelude.{◌≡◌, refl, Bool, true, false, not, ◌||◌, List, T, Float}
-use mathlib.Core.List
 use Prim.Native.Nat.{ℕ, zero, suc, ◌+◌, ◌≤◌, ◌<◌}
 use Rattle.std.proofs.Common.{not-suc-le-zero, le_of_suc-le-suc}
 use Rattle.std.proofs.Math.Nat.{le_refl}

@@ -2,7 +2,6 @@
 -- other call leaves both. Cells behind the tree's, spare, board, event, fuel and answers may differ from call to call.
 use Rattle.std.specs.Prelude.{◌≡◌, refl, Bool, true, false, cond, not, ◌||◌, List, ℕ, suc, T, leb, length}
 use Rattle.std.proofs.Common.{subst}
-use mathlib.Core.List
 use Rattle.std.specs.Float.{Format}
 use Rattle.rules.specs.declared.answer.Answer.{Answer}
 use Rattle.rules.specs.declared.answer.Answer.TheVariants as says

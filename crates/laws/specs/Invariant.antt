@@ -2,7 +2,6 @@
 -- finished; E: of the number once it has. Calls that are not answered 0 are free.
 use Rattle.std.specs.Prelude.{◌≡◌, refl, Bool, true, false, List, ℕ, suc, Float}
 use Rattle.std.proofs.Common.{subst}
-use mathlib.Core.List
 use Rattle.std.proofs.Math.Dec.{T}
 use Rattle.std.specs.Float.{Format}
 use Rattle.rules.specs.declared.status.Status.{Status}

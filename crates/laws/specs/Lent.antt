@@ -1,7 +1,6 @@
 -- The answers that a call is lent, and more of them behind: allowed ones behind allowed ones are allowed, and the walk gets them in order.
 use Rattle.std.specs.Prelude.{◌≡◌, refl, Bool, true, false, cond, List, ◌++◌, ℕ, suc, T, Float}
 use Rattle.std.proofs.Common.{ap, ◌∙◌}
-use mathlib.Core.List
 use Rattle.rules.specs.Cells.{Found, faulty, none}
 use Rattle.rules.specs.Outcome.{status_of}
 use Rattle.rules.specs.Table.{cleaned}

@@ -1,7 +1,6 @@
 -- One tick keeps cells allowed: of a tree that may be ticked, whatever it answers, the tree that it leaves may be ticked again.
 use Rattle.std.specs.Prelude.{◌≡◌, List, T, Float}
 use Rattle.std.proofs.Math.Path.{refl}
-use mathlib.Core.List
 use Prim.Native.Nat.{ℕ, zero, suc, ◌≤◌}
 use Rattle.std.proofs.Common.{le_refl, le_trans, arith}
 use Rattle.std.specs.Float.{Format}

@@ -1,7 +1,6 @@
 -- The cells that a call leaves are the cells that the next one finds.
 use Rattle.std.specs.Prelude.{◌≡◌, refl, List, ℕ, ◌+◌, take, drop, Float}
 use Rattle.std.proofs.Common.{ap, ◌∙◌, zero-add, suc-add, add-zero, add_assoc}
-use mathlib.Core.List
 use Rattle.std.proofs.Math.Seq.{take-nil}
 use Rattle.rules.specs.Tree.{Cell, Tree, node, Forest, [], ◌∷◌, size, sizes, marked}
 use Rattle.rules.specs.Cells.{cell_of, cells, with_cells, with_cells_all, column, columns, time_of, place_of, mark_of}

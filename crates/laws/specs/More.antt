@@ -1,12 +1,11 @@
 -- More fuel and more answers never change what a walk has done: the fuel added is left over, and the answers added are left behind.
 use Rattle.std.specs.Prelude.{◌≡◌, refl, List, Float, ◌++◌}
-use mathlib.Core.List
 use Prim.Native.Nat.{ℕ, zero, suc, ◌+◌}
 use Rattle.std.specs.Float.{Format}
 use Rattle.rules.specs.declared.behavior.Kind.TheVariants.{Action}
 use Rattle.rules.specs.declared.status.Status.{Status}
 use Rattle.rules.specs.declared.event.Event.{Event}
-use Rattle.rules.specs.Tree.{Cell, Tree, node, Forest, [], ◌∷◌}
+use Rattle.rules.specs.Tree.{Cell, Tree, node, Forest}
 use Rattle.rules.specs.Outcome.{dt, World, world, Out, done, asks, short, Ticker, ◌▸◌}
 use Rattle.rules.specs.State.{rule, tick}
 use Rattle.laws.specs.Shape.{shape, shapes, size_of}

@@ -9,7 +9,7 @@ use Rattle.std.specs.Float.{Format}
 use Rattle.rules.specs.declared.event.Event.{Event}
 use Rattle.rules.specs.declared.answer.Answer.{Answer}
 use Rattle.rules.specs.declared.answer.Answer.TheVariants.{Ticked, Asked, Finished, BadTable, TooShort, BadTime, BadAnswer, OutOfFuel, BadCell, NoRoom}
-use Rattle.rules.specs.Tree.{Tree, node, [], ◌∷◌}
+use Rattle.rules.specs.Tree.{Tree, node}
 use Rattle.rules.specs.Outcome.{dt, World, world, Out, done, asks, short, Ticker, ◌▸◌}
 use Rattle.rules.specs.State.{rule, tick}
 use Rattle.rules.specs.Table.{most_deep, good, table}

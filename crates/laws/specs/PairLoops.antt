@@ -8,7 +8,7 @@ use native.Mathlib.Omega.{arith}
 use Rattle.std.specs.Float.{Format}
 use Rattle.rules.specs.declared.status.Status.TheVariants.{Running, Success, Failure}
 use Rattle.rules.specs.declared.event.Event.{Event}
-use Rattle.rules.specs.declared.event.Event.TheVariants.{Update, Other}
+use Rattle.rules.specs.declared.event.Event.TheVariants.{Update}
 use Rattle.rules.specs.Tree.{Tree, Forest, [], ◌∷◌, count}
 use Rattle.rules.specs.Outcome.{dt, rest, Ticker}
 use Rattle.rules.specs.Loops.{put, fresh_at, next, moved, child_at, while_body, while_all}

@@ -1,7 +1,6 @@
 -- A tree that is written as a table, row by row in preorder, is read as that tree.
 use Rattle.std.specs.Prelude.{◌≡◌, refl, Bool, true, false, cond, ◌&&◌, List, T, leb, ltb, Float, take}
 use Rattle.std.proofs.Common.{ap, ◌∙◌, add-zero, arith, lt-ltb}
-use mathlib.Core.List
 use Prim.Native.Nat.{ℕ, zero, suc, ◌+◌, ◌≤◌}
 use Rattle.std.specs.Float.{nan, inf, fin}
 use Rattle.std.specs.Float.Ieee.Fits.{and_l, and_r}

@@ -1,7 +1,6 @@
 -- The tree with a branch replaced: it is one that a table can have, its board is clear and its cells are accepted, where that holds of the tree and of a fresh branch.
 use Rattle.std.specs.Prelude.{◌≡◌, refl, Bool, true, false, cond, ◌&&◌, ◌||◌, List, ℕ, zero, suc, ◌-◌, T, leb, Float}
 use Rattle.std.proofs.Common.{sym, ap, ◌∙◌, arith, le-leb}
-use mathlib.Core.List
 use Rattle.rules.specs.declared.behavior.Kind.{Kind}
 use Rattle.rules.specs.Kinds.{timed, marks_children}
 use Rattle.rules.specs.Tree.{Cell, new_cell, Tree, node, Forest, [], ◌∷◌, size, count}

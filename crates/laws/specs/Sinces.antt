@@ -5,7 +5,6 @@ use Rattle.std.proofs.Common.{sym, ◌∙◌, arith, length-append, length-take}
 use Rattle.std.proofs.Math.Path.{ap}
 use Rattle.std.proofs.Math.Bool.{false}
 use mathlib.Core.List.{List, map, ◌++◌}
-use mathlib.Core.List
 use Prim.Native.Nat.{ℕ, ◌-◌, min}
 use Rattle.std.specs.Float.{Format}
 use Rattle.std.proofs.Math.ListN.{length, drop, replicate, length-drop}

@@ -1,7 +1,6 @@
 -- The tree of a table that was read: the children that each kind allows, the cells of a new tree, a clear board, at most 16 deep.
 use Rattle.std.specs.Prelude.{◌≡◌, refl, Bool, true, false, cond, ◌&&◌, List, T, leb, ltb, Float}
 use Rattle.std.proofs.Common.{sym, ap, ◌∙◌, le-leb, leb→le}
-use mathlib.Core.List
 use Prim.Native.Nat.{ℕ, zero, suc, ◌≤◌, max}
 use native.Mathlib.Omega.{arith}
 use Rattle.std.specs.Float.Ieee.Fits.{and_l, and_r}

@@ -1,7 +1,6 @@
 -- Answers that a tick does not use do not matter: lent those alone that it used, it does the same, and none is left.
 use Rattle.std.specs.Prelude.{◌≡◌, refl, List, ◌++◌, ℕ, suc, ◌+◌, ◌-◌, length, take, Float}
 use Rattle.std.proofs.Common.{sym, ap, ◌∙◌, subst, append-nil, arith, length-append, take_at}
-use mathlib.Core.List
 use Rattle.std.specs.Float.{Format}
 use Rattle.rules.specs.declared.status.Status.{Status}
 use Rattle.rules.specs.declared.event.Event.{Event}

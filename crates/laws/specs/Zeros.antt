@@ -2,7 +2,6 @@
 use Rattle.std.specs.Prelude.{◌≡◌, refl, Bool, true, cond, List, map, ℕ, zero, suc, ◌-◌, Float, length}
 use Rattle.std.proofs.Common.{ap, ◌∙◌}
 use Rattle.std.proofs.Math.Bool.{false}
-use mathlib.Core.List
 use Rattle.std.specs.Float.{Format, nan, inf, fin}
 use Rattle.rules.specs.declared.event.Event.{Event}
 use Rattle.rules.specs.declared.event.Event.TheVariants.{Update, Other}
