@@ -11,7 +11,8 @@ use Rattle.rules.specs.Tree.{zero_time, Tree, Forest, [], ◌∷◌}
 use Rattle.rules.specs.Outcome.{dt, World, Out, done, Ticker, ◌▸◌, largest}
 use Rattle.rules.specs.WhenAll.{after_from, after_at}
 use Rattle.rules.specs.Bound.{num}
-use Rattle.floats.specs.Times.{W, smaller_W, zero_W}
+use Rattle.floats.specs.Times.{W, zero_W}
+use Rattle.floats.proofs.Times.{smaller_W}
 use Rattle.laws.specs.Shape.{shapes}
 use Rattle.finish.specs.Shaped.{Shapeds}
 use Rattle.laws.specs.Pair.{Pairing, stay, after, either}

@@ -13,7 +13,7 @@ use Rattle.rules.specs.Bound.{num, within, bound}
 use Rattle.laws.specs.Shape.{shape, fresh_shape}
 use Rattle.laws.specs.Memory.{clear, clear_shape}
 use Rattle.laws.specs.Invariant.{After}
-use Rattle.laws.specs.Used.{used_alone}
+use Rattle.laws.proofs.Used.{used_alone}
 use Rattle.floats.specs.Times.{W}
 use Rattle.finish.specs.Shaped.{Shaped}
 use Rattle.finish.specs.Enough.{Still}

@@ -11,17 +11,15 @@ use Rattle.rules.specs.Kinds.{kind_of}
 use Rattle.rules.specs.Tree.{zero_time, new_cell, Tree, node, size}
 use Rattle.rules.specs.Tree
 use Rattle.rules.specs.Table.{table}
-use Rattle.rules.specs.Cells.{cells, column}
+use Rattle.rules.specs.Cells.{column}
 use Rattle.rules.specs.Call.{Run, run, Given, given, tick_call}
-use Rattle.rules.specs.Bound.{num, whole_time, bound_call}
+use Rattle.rules.specs.Bound.{num, whole_time}
 use Rattle.laws.specs.Tables.{one_tree}
 use Rattle.laws.specs.View.{Call, ticks}
 use Rattle.laws.specs.History.{stands, after_all}
 use Rattle.finish.specs.WholeTicks.{WholeHistory}
-use Rattle.finish.specs.Answered.{is_told}
-use Rattle.finish.specs.Public.{FinishesBy, finishes}
 
-abbrev one : Float
+abbrev pub one : Float
 one = fin false 1 (pos 0)
 
 abbrev two : Float
@@ -30,22 +28,22 @@ two = fin false 1 (pos 1)
 abbrev half : Float
 half = fin false 1 (negsuc 0)
 
-abbrev kinds : List ℕ
+abbrev pub kinds : List ℕ
 kinds = 5 ∷ 2 ∷ []
 
-abbrev ns : List ℕ
+abbrev pub ns : List ℕ
 ns = 1 ∷ 0 ∷ []
 
-abbrev limits : List Float
+abbrev pub limits : List Float
 limits = two ∷ zero_time ∷ []
 
-abbrev tree : Tree
+abbrev pub tree : Tree
 tree = node Timeout 1 two new_cell 0 (Tree.◌∷◌ (node Action 0 zero_time new_cell 0 Tree.[]) Tree.[])
 
-abbrev zeros : Run
+abbrev pub zeros : Run
 zeros = run (zero_time ∷ zero_time ∷ []) (0 ∷ 0 ∷ []) (0 ∷ 0 ∷ []) (0 ∷ 0 ∷ [])
 
-abbrev fresh : Record
+abbrev pub fresh : Record
 fresh = record { finished = false; ticks = 0 }
 
 -- a tick of 1 with fuel 2 and the two answers
@@ -58,11 +56,11 @@ first = tick_of fresh zeros
 abbrev second : Given
 second = tick_of (tick_call binary64 first).record' (tick_call binary64 first).cells'
 
-abbrev both : List Call
+abbrev pub both : List Call
 both = ticks first ∷ ticks second ∷ []
 
 -- a tick takes up what stands, and is whole as far as its answers are used
-covered : WholeHistory binary64 tree 1 (stands fresh zeros 0) both
+pub covered : WholeHistory binary64 tree 1 (stands fresh zeros 0) both
 unfolding tick_call after_all whole_time num to_unsigned whole kind_of size column
 covered = (
   record {
@@ -79,10 +77,6 @@ covered = (
     tt,
   ),
 )
-
-pub gives_up : FinishesBy 2 (after_all binary64 (stands fresh zeros 0) both)
-unfolding bound_call num to_unsigned whole kind_of size cells
-gives_up = finishes binary64 kinds ns limits tree refl one 2 (is_told refl) fresh refl zeros (refl, (refl, tt)) both covered
 
 -- and it takes both ticks
 pub at_the_second : ((after_all binary64 (stands fresh zeros 0) both).record'.finished ≡ true) × ((after_all binary64 (stands fresh zeros 0) both).carried ≡ 2)

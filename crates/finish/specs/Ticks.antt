@@ -18,7 +18,8 @@ use Rattle.floats.specs.Times.{W}
 use Rattle.laws.specs.Pair.{nothing, Pairing, Known, Sim, goes, ends, back, stay, after}
 use Rattle.laws.specs.PairDrivers.{Same}
 use Rattle.laws.specs.PairRules.{rule_with, rule_with_lem, leave}
-use Rattle.laws.specs.Alone.{NotDone, stop_on, AfterTick, tick_keeps}
+use Rattle.laws.specs.Alone.{NotDone, stop_on, AfterTick}
+use Rattle.laws.proofs.Alone.{tick_keeps}
 use Rattle.laws.specs.Shape.{Shape, shp, Shapes, shape, shapes}
 use Rattle.laws.specs.Shape
 use Rattle.finish.specs.Shaped.{Shaped, Shapeds, Shaped₁}

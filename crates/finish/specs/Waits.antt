@@ -12,7 +12,8 @@ use Rattle.rules.specs.Tree.{Cell, Tree, Forest, ◌∷◌}
 use Rattle.rules.specs.Outcome.{World, Out, Ticker}
 use Rattle.rules.specs.State.{rule}
 use Rattle.rules.specs.Bound.{num}
-use Rattle.floats.specs.Times.{W, Passed, reached, passing, passed}
+use Rattle.floats.specs.Times.{W, Passed, reached, passing}
+use Rattle.floats.proofs.Times.{passed}
 use Rattle.laws.specs.Shape.{shape}
 use Rattle.laws.specs.Pair.{Pairing, stay, after}
 use Rattle.finish.specs.Shaped.{Shaped}

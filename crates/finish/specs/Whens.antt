@@ -12,7 +12,8 @@ use Rattle.rules.specs.Outcome.{dt, World, Out, Ticker, largest, smaller}
 use Rattle.rules.specs.Sequence.{keep}
 use Rattle.rules.specs.WhenAll.{when_all_from, when_all, race_from}
 use Rattle.rules.specs.Bound.{num}
-use Rattle.floats.specs.Times.{W, smaller_W}
+use Rattle.floats.specs.Times.{W}
+use Rattle.floats.proofs.Times.{smaller_W}
 use Rattle.laws.specs.Shape.{shapes, mark_marked}
 use Rattle.laws.specs.Pair.{Pairing, stay, after, either}
 use Rattle.finish.specs.Shaped.{Shapeds}

@@ -1,19 +1,18 @@
 -- Whole times up to a format's cap: sums and differences are exact, and so is what a Wait and a Timeout do with them.
-use Rattle.std.specs.Prelude.{◌≡◌, Bool, cond, ◌&&◌, ◌⊎◌, ℤ, ltb, eqb, Float}
+use Rattle.std.specs.Prelude.{◌≡◌, Bool, ◌&&◌, ℤ, ltb, eqb, Float}
 use Rattle.std.proofs.Math.Path.{refl, ap}
-use Rattle.std.proofs.Common.{sym, ◌∙◌, true≢false, inl, inr, le_trans, mul-one, div-add-mod', add-zero, arith, lit≤, lit<, lt-ltb, leb-true, leb-false}
+use Rattle.std.proofs.Common.{sym, ◌∙◌, true≢false, mul-one, div-add-mod', add-zero, arith, lit≤, lit<}
 use Rattle.std.proofs.Math.Bool.{true, false}
-use Prim.Native.Nat.{ℕ, suc, ◌+◌, ◌-◌, ◌*◌, ◌/◌, ◌%◌, ◌^◌, ◌≤◌, ◌<◌, suc-le-suc, min}
+use Prim.Native.Nat.{ℕ, ◌+◌, ◌-◌, ◌*◌, ◌/◌, ◌%◌, ◌^◌, ◌≤◌, ◌<◌, min}
 use Rattle.std.proofs.Math.Nat.{mul-div_cancel}
 use Rattle.std.proofs.Math.Dec.{T, leb, leb→le, eqb→eq}
-use Rattle.std.specs.Float.Ieee.{nan, prec, up, down, add, sub, lt, le, to_unsigned, in_unsigned, whole}
+use Rattle.std.specs.Float.Ieee.{nan, prec, up, down, add, sub, le, to_unsigned, in_unsigned, whole}
 use Rattle.std.specs.Float.{inf, fin, Format, binary32, binary64}
 use Rattle.std.specs.Float.Ieee.Fits.{down_pos, and_l, and_r}
 use Rattle.std.specs.Float.Ieee.Casts.{to_unsigned_cut}
 use Rattle.std.specs.Float.Ieee.Exact.{HasValue}
 use Rattle.std.specs.Float.Ieee.Back.{round_whole}
 use Rattle.rules.specs.Tree.{zero_time}
-use Rattle.rules.specs.Outcome.{smaller, largest}
 use Rattle.rules.specs.Bound.{cap, num, whole_time}
 use Rattle.floats.specs.Values.{add_val, sub_val, order_val}
 
@@ -24,19 +23,6 @@ cap_fits binary64 = lit≤ tt
 prec_64 : (F : Format) → 2 ^ prec F < 2 ^ 64
 prec_64 binary32 = lit< tt
 prec_64 binary64 = lit< tt
-
--- the largest number of a format, as a whole number
-abbrev top : Format → ℕ
-top binary32 = 16777215 * 2 ^ 104
-top binary64 = 9007199254740991 * 2 ^ 971
-
-top_val : (F : Format) → HasValue (largest F) false (top F) 1
-top_val binary32 = (refl, refl)
-top_val binary64 = (refl, refl)
-
-cap_top : (F : Format) → suc (cap F) ≤ top F
-cap_top binary32 = lit≤ tt
-cap_top binary64 = lit≤ tt
 
 module _ (F : Format) where
   -- the time is whole, and at most the cap
@@ -84,7 +70,7 @@ module _ (F : Format) where
       let q : m * up e / down e ≡ a = ap (λ (z : ℕ). z / down e) (sym (mul-one (m * up e)) ∙ v.1) ∙ mul-div_cancel a (down_pos e) in
       ap (λ (z : ℕ). min z (2 ^ 64 - 1)) q ∙ under_min a h
 
-  W-val : (x : Float) (a : ℕ) → HasValue x false a 1 → a ≤ cap F → W x × (num x ≡ a)
+  pub W-val : (x : Float) (a : ℕ) → HasValue x false a 1 → a ≤ cap F → W x × (num x ≡ a)
   W-val x a v h =
       let n : num x ≡ a = val_num x a v (omega (arith, cap_fits F)) in
       ((rw n v, omega arith), n)
@@ -103,28 +89,3 @@ module _ (F : Format) where
   pub data Passed (x y l : Float) : Bool → Type 0 where
     reached : num l ≤ num x + num y → W (sub F (add F x y) l) → Passed x y l true
     passing : num x + num y < num l → W (add F x y) → num (add F x y) ≡ num x + num y → Passed x y l false
-
-  pub passed : (x y l : Float) → W x → W y → W l → num x ≤ num l → Passed x y l (le l (add F x y))
-  passed x y l p q r h = go (le l (add F x y)) (sym (le_W l (add F x y) (num x + num y) r (add_W x y p q)))
-    where
-      go : (b : Bool) → leb (num l) (num x + num y) ≡ b → Passed x y l b
-      go true e =
-          let g : num l ≤ num x + num y = leb-true (num l) (num x + num y) e in
-          reached g (W-val (sub F (add F x y) l) (num x + num y - num l) (sub_W (add F x y) l (num x + num y) (add_W x y p q) r (omega (arith, cap_fits F)) g) (omega arith)).0
-      go false e =
-          let g : num x + num y < num l = leb-false (num l) (num x + num y) e in
-          let k = W-val (add F x y) (num x + num y) (add_W x y p q) (omega arith) in
-          passing g k.0 k.1
-
-  -- ---- the least leftover
-  lt_largest : (r : Float) → W r → lt r (largest F) ≡ true
-  lt_largest r w = (order_val r (largest F) (num r) (top F) w.0 (top_val F)).0 ∙ lt-ltb (num r) (top F) (le_trans (suc-le-suc w.1) (cap_top F))
-
-  -- the least so far is a whole time, or still the largest number
-  pub smaller_W : (x r : Float) → W r → W x ⊎ (x ≡ largest F) → W (smaller x r)
-  smaller_W x r w (inl v) = pick (lt r x)
-    where
-      pick : (b : Bool) → W (cond b r x)
-      pick true = w
-      pick false = v
-  smaller_W x r w (inr e) = rw (ap (λ (z : Float). lt r z) e ∙ lt_largest r w) w

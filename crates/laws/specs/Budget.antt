@@ -15,8 +15,8 @@ use Rattle.rules.specs.Kinds.{is}
 use Rattle.rules.specs.Tree.{Cell, with_place, Tree, Forest, [], ◌∷◌, count}
 use Rattle.rules.specs.Outcome.{rest, World, world, Out, done, asks, short, Ticker, ◌▸◌}
 use Rattle.rules.specs.Loops.{next, moved, child_at, while_body, while_all}
-use Rattle.rules.specs.State.{at_place, rule, tick}
-use Rattle.laws.specs.Alone.{Answers, Less, tick_spends}
+use Rattle.rules.specs.State.{at_place, rule}
+use Rattle.laws.specs.Alone.{Answers, Less}
 use Rattle.laws.specs.PairRules.{while_with, while_all_with, rule_with, rule_with_lem}
 
 -- what follows is the same wherever less fuel is left
@@ -86,8 +86,3 @@ module _ (F : Format) (child : Ticker) (g : Spends F child) where
   pub rule_budget : (b : ℕ) (k : Kind) (n : ℕ) (l : Float) (c : Cell) (e : Event) (ts : Forest) (f : ℕ) (ans : Answers) → f < b
       → rule F child k n l c e ts (world f ans) ≡ rule_with b F child k n l c e ts (world f ans)
   rule_budget b k n l c e ts f ans h = rule_with_lem F child k n l c e ts f ans ∙ with_budget (suc f) b k n l c e ts f ans (omega arith) h
-
--- of the rules' own ticks
-pub tick_budget : (F : Format) (d b : ℕ) (k : Kind) (n : ℕ) (l : Float) (c : Cell) (e : Event) (ts : Forest) (f : ℕ) (ans : Answers) → f < b
-    → rule F (tick F d) k n l c e ts (world f ans) ≡ rule_with b F (tick F d) k n l c e ts (world f ans)
-tick_budget F d = rule_budget F (tick F d) (tick_spends F d)

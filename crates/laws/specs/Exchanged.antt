@@ -2,24 +2,21 @@
 -- a tick that takes them up is one of that tree.
 use Rattle.std.specs.Prelude.{◌≡◌, Bool, true, cond, ◌&&◌, List, ◌++◌, ℕ, ◌≤◌, ◌<◌, T, leb, ltb, take, drop}
 use Rattle.std.proofs.Math.Path.{refl, ap}
-use Rattle.std.proofs.Common.{sym, subst, ◌∙◌, leb-true, ltb-true}
+use Rattle.std.proofs.Common.{subst, ◌∙◌, leb-true, ltb-true}
 use Rattle.std.proofs.Math.Bool.{false, and-eq-true_iff}
-use Rattle.std.specs.Float.{Format}
 use Rattle.rules.specs.declared.exchanged.Exchanged.{Exchanged as Answer}
 use Rattle.rules.specs.declared.exchanged.Exchanged.TheVariants.{Done, Finished, BadTable, BadBranch, TooShort, BadCell, NoNode, StateHeld, TooLarge, ShortRoom}
-use Rattle.rules.specs.declared.answer.Answer.TheVariants as answer
-use Rattle.rules.specs.Tree.{Cell, Tree, node, Forest, [], ◌∷◌, fresh, size, depth}
+use Rattle.rules.specs.Tree.{Cell, Tree, node, Forest, [], ◌∷◌, size, depth}
 use Rattle.rules.specs.Table.{Table, good, bad, table}
 use Rattle.rules.specs.Cells.{Found, faulty, none, bad_cell, column, columns}
-use Rattle.rules.specs.Call.{Run, run, run_length, onto_run, Given, Left, too_short, refused, walked, on_table, on_inputs, at_entry, walk_from, tick_call}
+use Rattle.rules.specs.Call.{Run, run, run_length, onto_run, Given}
 use Rattle.rules.specs.Exchange.{Room, GivenExchange, LeftExchange, left_exchange, not_exchanged, free, replaced, new_sinces, onto_room, room_length, written, replacing, on_trees, on_branch, exchange_call}
 use Rattle.rules.specs.Exchange.{listed, listed_all}
-use Rattle.laws.specs.Shape.{fresh_shape, size_shape}
-use Rattle.laws.specs.Memory.{clear, clear_shape, held, held_onto}
+use Rattle.laws.specs.Memory.{held}
 use Rattle.laws.specs.Tables.{tabled, renewed}
 use Rattle.laws.specs.Fine.{fine_of, none_of}
 use Rattle.laws.specs.ReadBack.{sound, read_back}
-use Rattle.laws.specs.Replaced.{sound_replaced, sound_with, tabled_blank, cells_lent, blank_with, blank_replaced, blank_clear, fine_replaced}
+use Rattle.laws.specs.Replaced.{sound_replaced, sound_with, fine_replaced}
 
 -- ---- the room's cells as a run
 module _ {A : Type 0} (f : Cell → A) where
@@ -36,7 +33,7 @@ module _ {A : Type 0} (f : Cell → A) where
 abbrev pub run_in : Room → Run
 run_in to = run to.times to.places to.marks to.sinces
 
-onto_run_lem : (t : Tree) (ss : List ℕ) (to : Room) → run_in (onto_room t ss to) ≡ onto_run ss t (run_in to)
+pub onto_run_lem : (t : Tree) (ss : List ℕ) (to : Room) → run_in (onto_room t ss to) ≡ onto_run ss t (run_in to)
 unfolding onto_room onto_run
 onto_run_lem t ss to =
     let n = size t in
@@ -80,7 +77,7 @@ passed_by false x y n h = (refl, h)
 abbrev pub result_of : GivenExchange → Tree → Tree → Tree
 result_of g t u = replaced (held t g.cells') g.place u
 
-abbrev sinces_of : GivenExchange → Tree → Tree → List ℕ
+abbrev pub sinces_of : GivenExchange → Tree → Tree → List ℕ
 sinces_of g t u = new_sinces (held t g.cells') g.place u g.record'.ticks g.cells'.sinces
 
 -- the trees of both tables
@@ -156,21 +153,14 @@ module _ (g : GivenExchange) (h : Exchanges g) where
 
 -- ---- what it leaves
 module _ (g : GivenExchange) (w : Passed g) where
-  abbrev result : Tree
+  abbrev pub result : Tree
   result = result_of g w.tree w.branch
 
-  abbrev to : Room
+  abbrev pub to : Room
   to = (exchange_call g).room'
 
-  to_is : to ≡ onto_room result (sinces_of g w.tree w.branch) g.room'
+  pub to_is : to ≡ onto_room result (sinces_of g w.tree w.branch) g.room'
   to_is = ap (λ (l : LeftExchange). l.room') w.left
-
-  result_clear : clear result ≡ result
-  result_clear =
-      let old = tabled_blank w.tree (tabled g.kinds g.ns g.limits w.tree w.is).0 in
-      let new = tabled_blank w.branch (tabled g.new_kinds g.new_ns g.new_limits w.branch w.new).0 in
-      let lent = cells_lent g.cells'.times g.cells'.places g.cells'.marks in
-      blank_clear result (blank_replaced w.branch new (held w.tree g.cells') g.place (blank_with w.tree _ lent old).0)
 
   -- the room's table reads as the tree with the branch replaced
   pub reads : table (take (size result) to.kinds) (take (size result) to.ns) (take (size result) to.limits) ≡ good (renewed result)
@@ -181,14 +171,6 @@ module _ (g : GivenExchange) (w : Passed g) where
       let all = sound_replaced w.branch new (held w.tree g.cells') g.place (sound_with w.tree _ old) in
       ap (λ (x : Room). table (take (size result) x.kinds) (take (size result) x.ns) (take (size result) x.limits)) to_is
       ∙ read_back result _ _ _ all w.levels w.few
-
-  -- its cells are that tree's
-  pub holds : held (renewed result) (run_in to) ≡ result
-  holds =
-      ap (λ (x : Room). held (renewed result) (run_in x)) to_is
-      ∙ ap (held (renewed result)) (onto_run_lem result (sinces_of g w.tree w.branch) g.room')
-      ∙ held_onto (sinces_of g w.tree w.branch) (renewed result) result (run_in g.room') (sym (clear_shape (fresh result) ∙ fresh_shape result))
-      ∙ result_clear
 
   -- and they are accepted
   pub accepted : (at : ℕ) × (bad_cell false false 0 result ≡ none at)
@@ -204,29 +186,3 @@ module _ (g : GivenExchange) (w : Passed g) where
     pub ns : k.ns ≡ take (size result) to.ns
     pub limits : k.limits ≡ take (size result) to.limits
     pub cells' : k.cells' ≡ run_in to
-
-  module _ (F : Format) (k : Given) (up : TakesUp k) where
-    -- 5 and 6, 2, and then the walk of t
-    abbrev walks_of : Tree → Left
-    walks_of t = on_inputs k (cond k.record'.finished (refused k answer.Finished) (walked k t (walk_from F k t)))
-
-    abbrev due_of : Tree → Left
-    due_of t = elim (bad_cell false false 0 (at_entry k t)) [ faulty p ↦ refused k (answer.BadCell p) | none _ ↦ walks_of (at_entry k t) ]
-
-    tick_is : tick_call F k ≡ on_table k due_of
-    unfolding tick_call
-    tick_is = refl
-
-    table_is : table k.kinds k.ns k.limits ≡ good (renewed result)
-    table_is = rw (up.kinds, up.ns, up.limits) reads
-
-    entry_is : at_entry k (renewed result) ≡ result
-    entry_is = ap (held (renewed result)) up.cells' ∙ holds
-
-    due_is : due_of (renewed result) ≡ walks_of result
-    due_is = rw (due_of, entry_is, accepted.1) (ap walks_of entry_is)
-
-    pub next_tick : too_short k (size result) ≡ false → tick_call F k ≡ walks_of result
-    next_tick long =
-        let same : size (renewed result) ≡ size result = size_shape (renewed result) result (clear_shape (fresh result) ∙ fresh_shape result) in
-        tick_is ∙ rw (on_table, table_is) (rw (same, long) due_is)

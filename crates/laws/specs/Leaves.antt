@@ -35,17 +35,17 @@ refused_leaves g (BadAnswer i) h = refl
 refused_leaves g (BadCell p) h = refl
 refused_leaves g NoRoom h = refl
 
-walked_leaves : (g : Given) (t : Tree) → table g.kinds g.ns g.limits ≡ good t → (o : Out Tree) → Leaves g (walked g (held_by t g) o) (walked g (held_by t g) o).answer
-walked_leaves g t e (done s r t' (world f ans)) = tt
-walked_leaves g t e (asks n x) = (t, e, refl)
-walked_leaves g t e short = (t, e, refl)
-
-by_view : (F : Format) (a : Call) (l : Left) → View F a l → Leaves a.given' l l.answer
-by_view F a l (refusing b n) = refused_leaves a.given' b (not_walked a b n)
-by_view F a l (walking t w) = walked_leaves a.given' t w.table_good (walk F t a)
-
 pub leaves : (F : Format) (a : Call) → Leaves a.given' (left_by F a) (left_by F a).answer
 leaves F a = by_view F a (left_by F a) (view F a)
+  where
+    walked_leaves : (g : Given) (t : Tree) → table g.kinds g.ns g.limits ≡ good t → (o : Out Tree) → Leaves g (walked g (held_by t g) o) (walked g (held_by t g) o).answer
+    walked_leaves g t e (done s r t' (world f ans)) = tt
+    walked_leaves g t e (asks n x) = (t, e, refl)
+    walked_leaves g t e short = (t, e, refl)
+
+    by_view : (F : Format) (a : Call) (l : Left) → View F a l → Leaves a.given' l l.answer
+    by_view F a l (refusing b n) = refused_leaves a.given' b (not_walked a b n)
+    by_view F a l (walking t w) = walked_leaves a.given' t w.table_good (walk F t a)
 
 -- ---- a restart is never answered 9, 2 or 13
 abbrev pub OfRestart : Answer → Type 0

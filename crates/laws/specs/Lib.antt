@@ -18,7 +18,6 @@ pub mod Alone
 pub mod Budget
 pub mod More
 pub mod Asking
-pub mod Used
 pub mod Fuel
 pub mod Fine
 pub mod FuelCall
@@ -35,4 +34,3 @@ pub mod Again
 pub mod ReadBack
 pub mod Replaced
 pub mod Exchanged
-pub mod Deep

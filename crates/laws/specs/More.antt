@@ -1,20 +1,11 @@
 -- More fuel and more answers never change what a walk has done: the fuel added is left over, and the answers added are left behind.
 use Rattle.std.specs.Prelude.{◌≡◌, refl, List, Float, ◌++◌}
-use Prim.Native.Nat.{ℕ, zero, suc, ◌+◌}
+use Prim.Native.Nat.{ℕ, ◌+◌}
 use Rattle.std.specs.Float.{Format}
-use Rattle.rules.specs.declared.behavior.Kind.TheVariants.{Action}
 use Rattle.rules.specs.declared.status.Status.{Status}
-use Rattle.rules.specs.declared.event.Event.{Event}
-use Rattle.rules.specs.Tree.{Cell, Tree, node, Forest}
-use Rattle.rules.specs.Outcome.{dt, World, world, Out, done, asks, short, Ticker, ◌▸◌}
-use Rattle.rules.specs.State.{rule, tick}
-use Rattle.laws.specs.Shape.{shape, shapes, size_of}
-use Rattle.std.proofs.Common.{suc-add, arith}
-use Rattle.laws.specs.Pair.{nothing, Pairing, Of, Sim, goes, ends}
-use Rattle.laws.specs.PairDrivers.{Alike, Any, any_each}
-use Rattle.laws.specs.PairRules.{Acts, visit_pair}
+use Rattle.rules.specs.Outcome.{World, world, Out, done, asks, short, ◌▸◌}
+use Rattle.laws.specs.Pair.{nothing, Pairing}
 use Rattle.laws.specs.Alone.{Answers}
-use Rattle.laws.specs.Budget.{tick_budget}
 
 -- the outcome o' with k more fuel and `more` behind the answers, beside the outcome o
 abbrev pub Grown : {A : Type 0} → ℕ → Answers → Out A → Out A → Type 0
@@ -59,33 +50,3 @@ module _ (k : ℕ) (more : Answers) where
     first_then = λ w m c. refl;
     second_then = λ w m c. refl;
   }
-
-  module _ (F : Format) where
-    grown : {A : Type 0} (n : ℕ) (w : World) (P : Of (growing F) A) (o o' : Out A) → Sim (growing F) n w P o o' → Grown k more o o'
-    grown n w P o o' (goes s r a (world f ans) h x) = refl
-    grown n w P o o' (ends (done s r a v) u' h) = absurd h
-    grown n w P o o' (ends (asks m x) u' h) = h
-    grown n w P o o' (ends short u' h) = h
-
-    acts : Acts (growing F)
-    unfolding rule
-    acts child child' n l c e ts m (world f List.[]) P x = ends (asks n (dt e)) (rule F child' Action n l c e ts (world (f + k) more)) (none child' n l c e ts f)
-      where
-        none : (child' : Ticker) (n : ℕ) (l : Float) (c : Cell) (e : Event) (ts : Forest) (f : ℕ) → more ≡ List.[] → rule F child' Action n l c e ts (world (f + k) more) ≡ asks n (dt e)
-        none child' n l c e ts f h = rw h
-    acts child child' n l c e ts m (world f (List.◌∷◌ a ans)) P x = goes a.0 a.1 (c, ts) (world f ans) tt (x, tt)
-
-    tick_grows : (d : ℕ) → Alike (growing F) Any (tick F d) (tick F d)
-    unfolding tick
-    tick_grows zero t e w u v ev = ends short short (λ h. refl)
-    tick_grows (suc d) t e (world zero ans) u v ev = ends short (tick F (suc d) t e (world (0 + k) (ans ++ more))) (none t e ans)
-      where
-        none : (t : Tree) (e : Event) (ans : Answers) → k ≡ 0 → tick F (suc d) t e (world (0 + k) (ans ++ more)) ≡ short
-        none t e ans h = rw h
-    tick_grows (suc d) (node kd n l c b ts) e (world (suc f) ans) u v ev =
-        rw (suc-add f k) (visit_pair (growing F) acts Any (tick F d) (tick F d) (tick_grows d) (suc (f + k)) kd n l c b ts e (world (suc f) ans) (world f ans)
-        (tick_budget F d (suc (f + k)) kd n l c e ts f ans (omega arith)) (tick_budget F d (suc (f + k)) kd n l c e ts (f + k) (ans ++ more) (omega arith))
-        tt tt (λ h i j. tt) (any_each (shapes ts)) tt tt)
-
-    pub tick_more : (d : ℕ) (t : Tree) (e : Event) (f : ℕ) (ans : Answers) → Grown k more (tick F d t e (world f ans)) (tick F d t e (world (f + k) (ans ++ more)))
-    tick_more d t e f ans = grown (size_of (shape t)) (world f ans) _ (tick F d t e (world f ans)) (tick F d t e (world (f + k) (ans ++ more))) (tick_grows d t e (world f ans) tt tt tt)

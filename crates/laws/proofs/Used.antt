@@ -7,9 +7,11 @@ use Rattle.rules.specs.declared.event.Event.{Event}
 use Rattle.rules.specs.Tree.{Tree}
 use Rattle.rules.specs.Outcome.{world, Out, done, asks, short}
 use Rattle.rules.specs.State.{tick}
-use Rattle.laws.specs.Alone.{Answers, AfterTick, tick_keeps}
+use Rattle.laws.specs.Alone.{Answers, AfterTick}
+use Rattle.laws.proofs.Alone.{tick_keeps}
 use Rattle.laws.specs.PairDrivers.{Same}
-use Rattle.laws.specs.Asking.{Answered, Took, answer_taken}
+use Rattle.laws.specs.Asking.{Answered, Took}
+use Rattle.laws.proofs.Asking.{answer_taken}
 
 longer : (a : Status × Float) (more l : Answers) → more ≡ l ++ List.◌∷◌ a more → ⊥
 longer a more l e = clash (length more) (length l) (ap length e ∙ length-append l (List.◌∷◌ a more))

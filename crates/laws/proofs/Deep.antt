@@ -9,7 +9,7 @@ use Rattle.rules.specs.Call.{answers, cleaned_event}
 use Rattle.laws.specs.Shape.{depth_shape}
 use Rattle.laws.specs.Tables.{tabled}
 use Rattle.laws.specs.View.{Call, start_of, walk, start_shape, Walked}
-use Rattle.laws.specs.Alone.{depth_free}
+use Rattle.laws.proofs.Alone.{depth_free}
 
 pub deep_enough : (F : Format) (a : Call) (t : Tree) → Walked a t → (d : ℕ) → depth t ≤ d
     → walk F t a ≡ tick F d (start_of t a) (cleaned_event a.given'.event) (world a.given'.fuel (answers a.given'.statuses a.given'.leftovers))

@@ -1,0 +1,4 @@
+pub mod States
+pub mod Public
+pub mod AfterExchange
+pub mod Instance
