@@ -1,5 +1,5 @@
 -- What the operations do with numbers above 2 ^ 53: each stands for all of them, and what comes out is the same.
-use Rattle.std.proofs.Common.{◌≡◌, ℕ, zero, suc, ◌+◌, ◌-◌, ◌*◌, ◌/◌, ◌^◌, ◌<◌, ◌≤◌, min, max, Bool, true, false, leb, refl, ap, ◌∙◌, lt_of_not-le, mul_zero, le-div_iff_mul-le, zero-mul, not-le_of_lt, arith, w64, Fits, le-leb, leb-false, leb-true}
+use Rattle.std.proofs.Common.{◌≡◌, ℕ, zero, suc, ◌+◌, ◌-◌, ◌*◌, ◌/◌, ◌^◌, ◌<◌, ◌≤◌, min, max, Bool, true, false, leb, refl, ap, ◌∙◌, lt_of_not-le, mul-zero, le-div_iff_mul-le, zero-mul, not-le_of_lt, arith, w64, Fits, le-leb, leb-false, leb-true}
 use borrow.Author.Tests.{lt-leb}
 use Rattle.rules.specs.Bound.{Lim, never, within, sum_l, max_l, min_l, times_l, told, most_ticks}
 use Rattle.rules.specs.declared.answer.BoundAnswer.TheVariants as says
@@ -22,7 +22,7 @@ module _ (x y : Ticks) (a b : ℕ) (p : x ≡ Within a) (q : y ≡ Within b) whe
   sum_above h = let e : above ≡ min (a + b) above = omega arith in cc
 
   pub product_zero : b ≡ 0 → Within 0 ≡ clipped (times_l (lim x) (lim y))
-  product_zero h = let z : 0 ≡ min (a * b) above = rw (h, mul_zero) in cc
+  product_zero h = let z : 0 ≡ min (a * b) above = rw (h, mul-zero) in cc
 
   pub product_told : (b ≡ 0 → ⊥) → a ≤ above / b → Within (a * b) ≡ clipped (times_l (lim x) (lim y))
   product_told n h = let e : a * b ≡ min (a * b) above = omega (arith, product_small a b n h) in cc
@@ -92,7 +92,7 @@ clip_times : (a b : Lim) → clipped (times_l (lim (clipped a)) (lim (clipped b)
 clip_times never b = refl
 clip_times (within a) never = refl
 clip_times (within zero) (within b) = ap Within (rw (zero-mul, zero-mul))
-clip_times (within (suc a)) (within zero) = ap Within (rw (mul_zero, mul_zero))
+clip_times (within (suc a)) (within zero) = ap Within (rw (mul-zero, mul-zero))
 clip_times (within (suc a)) (within (suc b)) = ap Within (times_clipped a b)
 
 -- x and y are a and b clipped
