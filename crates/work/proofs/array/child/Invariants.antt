@@ -4,7 +4,6 @@ use Prim.Native.Nat.{◌≤◌}
 use Rattle.work.specs.Array.{child_from}
 use Rattle.work.proofs.array.child.Given as goal
 
--- What is still to be passed leads to the same child.
 abbrev pub invariant-loop-left : goal.invariant-loop-left
 invariant-loop-left l = (child_from l.work l.stop l.left l.at ≡ child_from l.work l.stop l.i l.q) × (l.at ≤ 256)
 

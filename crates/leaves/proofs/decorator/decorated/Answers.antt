@@ -15,9 +15,8 @@ use Rattle.work.specs.Word.{kind_in}
 use Rattle.work.specs.Array.{word_at}
 use Rattle.work.specs.Flat.{Lent, lent, out, and_then, turned, succeeded, decorated}
 use Rattle.work.proofs.Laws.{Among}
-use borrow.Author.Rules.{rules}
-use Rattle.leaves.proofs.decorator.decorated.Statement.{statement}
-use Rattle.leaves.proofs.decorator.decorated.Tie as tie
+use borrow.Enum.Refused.{opened}
+use Rattle.leaves.proofs.decorator.decorated.Goals as goal
 
 -- the kinds of the last arm
 abbrev others : List ℕ
@@ -47,53 +46,29 @@ module _ (T : Lent) (p : ℕ) (dt l : Float) (ws : List ℕ) (ts : List Float) w
   succeeds k e i t Success = rw (← e, i, t)
   succeeds k e i t Failure = rw (← e, i, t)
 
-returns : tie.Need-returns
+pub returns-in-Running : goal.returns-in-Running
 unfolding decorated
-returns c =
-    let ran = c.before.before.before.before in
-    let kind = ran.before.before in
-    λ x y. rw (ran.enum-told3.given.1, ← kind.before.before.kind-of.ensures, kind.enum-told2.given.1) (c.before.before.timed.ensures x y)
+returns-in-Running c =
+    λ x y. rw (c.in-Running.is, ← c.kind_of-kind.ensures, c.in-Timeout.is) (c.timed.ensures x y)
 
-returns_2 : tie.Need-returns-2
-returns_2 c =
-    let of = c.before.before.before in
-    let a = of.before.before.before.args in
-    let k = sym of.kind-of.ensures ∙ c.before.enum_told.given.1 in
+pub returns-in-Invert : goal.returns-in-Invert
+returns-in-Invert c =
+    let a = c.args in
+    let k = sym c.kind_of-kind.ensures ∙ c.in-Invert.is in
     λ x y. rw c.turned.ensures (inverts (lent a.limits.now.now x y) a.p a.dt a.child.left a.work.now a.times.now k a.child.seen)
 
-returns_3 : tie.Need-returns-3
-returns_3 c =
-    let of = c.before.before.before in
-    let a = of.before.before.before.args in
-    let k = sym of.kind-of.ensures ∙ c.before.enum-told2.given.1 in
-    λ x y. lets (lent a.limits.now.now x y) a.p a.dt a.child.left a.work.now a.times.now k a.child.seen c.match2.keys2
+pub returns-in_default-seen : goal.returns-in_default-seen
+returns-in_default-seen c =
+    let a = c.args in
+    let k = sym c.kind_of-kind.ensures ∙ c.in-Timeout.is in
+    λ x y. lets (lent a.limits.now.now x y) a.p a.dt a.child.left a.work.now a.times.now k a.child.seen (opened c.in_default-seen.in_default-seen-own.keys2)
 
-returns_4 : tie.Need-returns-4
+pub returns-in_default : goal.returns-in_default
 unfolding kind_of
-returns_4 c =
-    let of = c.before.before in
-    let a = of.before.before.before.args in
-    let k = of.kind-of.result in
-    let keys = c.before.match.keys3 in
+returns-in_default c =
+    let a = c.args in
+    let k = c.kind_of-kind.result in
+    let keys = opened c.in_default.in_default-own.keys3 in
     let i = arm (λ k. is k Invert ≡ false) others k keys (search depth 20) in
     let t = arm (λ k. is k Timeout ≡ false) others k keys (search depth 20) in
-    λ x y. rw c.succeeded.ensures (succeeds (lent a.limits.now.now x y) a.p a.dt a.child.left a.work.now a.times.now k of.kind-of.ensures i t a.child.seen)
-
-pub decorated_spec : {M : Type 1} → statement M
-decorated_spec =
-    tie.close
-    (tie.spec
-    (λ c. search rules)
-    (λ c. search rules)
-    (λ c κs. search rules)
-    (λ c. search rules)
-    (λ c κs. search rules)
-    (λ c. search rules)
-    (λ c. search rules)
-    (λ c κs. search rules)
-    (λ c. search rules)
-    returns
-    (λ c κs. search rules)
-    returns_2
-    returns_3
-    returns_4)
+    λ x y. rw c.succeeded.ensures (succeeds (lent a.limits.now.now x y) a.p a.dt a.child.left a.work.now a.times.now k c.kind_of-kind.ensures i t a.child.seen)
