@@ -1,6 +1,5 @@
 -- The answers that are left.
 use Rattle.std.specs.Prelude.{◌≡◌, refl, List, ℕ, zero, suc, ◌≤◌, ◌<◌, Float, get_or, length, drop}
-use mathlib.Core.List
 use Rattle.std.proofs.Common.{not-suc-le-zero, le_of_suc-le-suc}
 use Rattle.std.proofs.Math.Seq.{drop-nil}
 use Rattle.rules.specs.Tree.{zero_time}

@@ -26,7 +26,7 @@ use Rattle.refine.specs.Runs.{run, updates_in, passed_in}
 use Rattle.refine.specs.Stand.{Given, at_fresh, ats_fresh, at_mark, at_mark_small, ats_less, spot, spot_less}
 use Rattle.refine.specs.Frame.{Frame, nodes_in, words_in, times_in, First, All, full_length, over, over_words_lem, over_times, word_in, marked_words, marked_times, end_at}
 use Rattle.refine.specs.Frame.{end_next, fresh_words_lem, fresh_times_lem, child_at_lem, child_past}
-use Rattle.refine.specs.Sim.{View, Spent, Sim, world_at, event, rest_event, went, still, unspent, sim_keep, sim_either, sim_unless, sim_event, on, tree, trees, Ticks, sim_visit}
+use Rattle.refine.specs.Sim.{View, Spent, Sim, world_at, event, rest_event, went, still, unspent, sim_keep, sim_either, sim_unless, sim_event, on, trees, Ticks, sim_visit}
 
 -- what a driver leaves: the children, and its place, counted from i, in the node at p; or there the place i
 module _ {G : Given} {d : ℕ} (p i : ℕ) (fr : Frame G d) where
@@ -77,7 +77,7 @@ module _ (G : Given) (d : ℕ) (child : Ticker) (v : Visitor) (g : Ticks G d chi
       → Sim (suc f) (kids p i fr) (sequence_from child (event G x) t us (world_at G f u)) (on fr (t ∷ us) f u (sequence_go v p fr.stop k fr.q i x))
   unfolding sequence_from sequence_go run fresh
   seq_link us fr x t p i zero f u vs e n = absurd (not-suc-le-zero n)
-  seq_link [] fr x t p i (suc k) f u vs e n = sim_visit G d child v g (kids p i fr) fr t [] x f u _ _ vs e λ s. elim s [
+  seq_link [] fr x t p i (suc k) f u vs e n = sim_visit G d child v g (kids p i fr) fr t [] x f u _ _ vs e elim [
     | Running ↦ λ r t' f' u' v' e'. went u' (still e') ((v', vs.1), omega arith) (rw (add-zero i)) refl
     | Failure ↦ λ r t' f' u' v' e'. went u' (still e') ((v', vs.1), omega arith) (rw (add-zero i)) refl
     | Success ↦ λ r t' f' u' v' e'. rw (
@@ -87,7 +87,7 @@ module _ (G : Given) (d : ℕ) (child : Ticker) (v : Visitor) (g : Ticks G d chi
     )
         (up_link p i fr t' x r f f' u' (v', vs.1) e' G.update)
   ]
-  seq_link (w ∷ us) fr x t p i (suc k) f u vs e n = sim_visit G d child v g (kids p i fr) fr t (w ∷ us) x f u _ _ vs e λ s. elim s [
+  seq_link (w ∷ us) fr x t p i (suc k) f u vs e n = sim_visit G d child v g (kids p i fr) fr t (w ∷ us) x f u _ _ vs e elim [
     | Running ↦ λ r t' f' u' v' e'. went u' (still e') ((v', vs.1), omega arith) (rw (add-zero i)) refl
     | Failure ↦ λ r t' f' u' v' e'. went u' (still e') ((v', vs.1), omega arith) (rw (add-zero i)) refl
     | Success ↦ λ r t' f' u' v' e'.
@@ -152,7 +152,7 @@ module _ (G : Given) (d : ℕ) (child : Ticker) (v : Visitor) (g : Ticks G d chi
       → Sim (suc f) (trees fr) (memoryless child (event G x) (t ∷ us) (world_at G f u)) (on fr (fresh_all (t ∷ us)) f u (memoryless_go v fr.stop k fr.q x))
   unfolding memoryless memoryless_go run fresh
   mem_link us fr x t zero f u vs e n = absurd (not-suc-le-zero n)
-  mem_link [] fr x t (suc k) f u vs e n = sim_visit G d child v g (trees fr) fr (fresh t) [] x f u _ _ (at_fresh G fr.q t d vs.0, vs.1) e λ s. elim s [
+  mem_link [] fr x t (suc k) f u vs e n = sim_visit G d child v g (trees fr) fr (fresh t) [] x f u _ _ (at_fresh G fr.q t d vs.0, vs.1) e elim [
     | Running ↦ λ r t' f' u' v' e'. went u' (still e') (v', vs.1) refl refl
     | Failure ↦ λ r t' f' u' v' e'. went u' (still e') (v', vs.1) refl refl
     | Success ↦ λ r t' f' u' v' e'. rw (
@@ -166,7 +166,7 @@ module _ (G : Given) (d : ℕ) (child : Ticker) (v : Visitor) (g : Ticks G d chi
   mem_link (w ∷ us) fr x t (suc k) f u vs e n =
       let ws : Forest = fresh_all (w ∷ us) in
       let vw = ats_fresh G (G.ends fr.q) (w ∷ us) fr.stop d vs.1 in
-      sim_visit G d child v g (trees fr) fr (fresh t) ws x f u _ _ (at_fresh G fr.q t d vs.0, vw) e λ s. elim s [
+      sim_visit G d child v g (trees fr) fr (fresh t) ws x f u _ _ (at_fresh G fr.q t d vs.0, vw) e elim [
         | Running ↦ λ r t' f' u' v' e'. went u' (still e') (v', vw) refl refl
         | Failure ↦ λ r t' f' u' v' e'. went u' (still e') (v', vw) refl refl
         | Success ↦ λ r t' f' u' v' e'.
@@ -222,7 +222,7 @@ module _ (G : Given) (d : ℕ) (child : Ticker) (v : Visitor) (g : Ticks G d chi
       (rw (end_at fr ts f u t vs.0, ← over_words_lem fr t vs.0 ts f u, ← over_times fr t vs.0 ts)
       (keep_link fr t vs.0 f f (omega arith) (when_all_from child (event G x) all least ts (world_at G f u)) _
       (when_link ts (over fr t vs.0) x all least k f u vs.1 e (le_of_suc-le-suc n))))
-      (sim_visit G d child v g (trees fr) fr t ts x f u _ _ vs e λ s. elim s [
+      (sim_visit G d child v g (trees fr) fr t ts x f u _ _ vs e elim [
         | Running ↦ λ r t' f' u' v' e'. rw (end_at fr ts f u t vs.0, ← over_words_lem fr t' v' ts f' u', ← over_times fr t' v' ts)
             (keep_link fr t' v' f f' (omega (arith, e'.burnt)) (when_all_from child (event G x) false least ts (world_at G f' u')) _
             (when_link ts (over fr t' v') x false least k f' u' vs.1 e'.few (le_of_suc-le-suc n)))
@@ -265,7 +265,7 @@ module _ (G : Given) (d : ℕ) (child : Ticker) (v : Visitor) (g : Ticks G d chi
   race_go_link [] fr x (suc k) f u vs e n = rw (le-ltb fr.q fr.stop (omega (arith, vs))) (went u (unspent f u e) vs refl refl)
   race_go_link (t ∷ ts) fr x zero f u vs e n = absurd (not-suc-le-zero n)
   race_go_link (t ∷ ts) fr x (suc k) f u vs e n = rw (lt-ltb fr.q fr.stop (ats_less G fr.q t ts fr.stop d vs))
-      (sim_visit G d child v g (trees fr) fr t ts x f u _ _ vs e λ s. elim s [
+      (sim_visit G d child v g (trees fr) fr t ts x f u _ _ vs e elim [
         | Running ↦ λ r t' f' u' v' e'. rw (end_at fr ts f u t vs.0, ← over_words_lem fr t' v' ts f' u', ← over_times fr t' v' ts)
             (keep_link fr t' v' f f' (omega (arith, e'.burnt)) (race_from child (event G x) ts (world_at G f' u')) _ (race_go_link ts (over fr t' v') x k f' u' vs.1 e'.few (le_of_suc-le-suc n)))
         | Success ↦ λ r t' f' u' v' e'. went u' (still e') (v', vs.1) refl refl
@@ -292,7 +292,7 @@ module _ (G : Given) (d : ℕ) (child : Ticker) (v : Visitor) (g : Ticks G d chi
   late_link [] fr x least p i (suc k) f u vs e n = rw (le-ltb fr.q fr.stop (omega (arith, vs))) (went u (unspent f u e) vs refl refl)
   late_link (t ∷ ts) fr x least p i zero f u vs e n = absurd (not-suc-le-zero n)
   late_link (t ∷ ts) fr x least p i (suc k) f u vs e n = rw (lt-ltb fr.q fr.stop (ats_less G fr.q t ts fr.stop d vs))
-      (sim_visit G d child v g (held p i fr) fr t ts x f u _ _ vs e λ s. elim s [
+      (sim_visit G d child v g (held p i fr) fr t ts x f u _ _ vs e elim [
         | Running ↦ λ r t' f' u' v' e'. rw (end_at fr ts f u t vs.0, ← over_words_lem fr t' v' ts f' u', ← over_times fr t' v' ts)
             (sim_keep (held p i (over fr t' v')) (suc f') (held p i fr) (suc f) (after_from child (event G x) false zero_time ts (world_at G f' u')) _ (λ y. (0, t' ∷ y.1))
             (late_link ts (over fr t' v') x zero_time p i k f' u' vs.1 e'.few (le_of_suc-le-suc n))
@@ -312,7 +312,7 @@ module _ (G : Given) (d : ℕ) (child : Ticker) (v : Visitor) (g : Ticks G d chi
   after_go_link [] fr x least p i (suc k) f u vs e n = rw (le-ltb fr.q fr.stop (omega (arith, vs))) (went u (unspent f u e) (vs, omega arith) (rw (add-zero i)) refl)
   after_go_link (t ∷ ts) fr x least p i zero f u vs e n = absurd (not-suc-le-zero n)
   after_go_link (t ∷ ts) fr x least p i (suc k) f u vs e n = rw (lt-ltb fr.q fr.stop (ats_less G fr.q t ts fr.stop d vs))
-      (sim_visit G d child v g (kids p i fr) fr t ts x f u _ _ vs e λ s. elim s [
+      (sim_visit G d child v g (kids p i fr) fr t ts x f u _ _ vs e elim [
         | Running ↦ λ r t' f' u' v' e'. rw (end_at fr ts f u t vs.0, ← over_words_lem fr t' v' ts f' u', ← over_times fr t' v' ts)
             (sim_keep (held p i (over fr t' v')) (suc f') (kids p i fr) (suc f) (after_from child (event G x) false zero_time ts (world_at G f' u')) _ (λ y. (0, t' ∷ y.1))
             (late_link ts (over fr t' v') x zero_time p i k f' u' vs.1 e'.few (le_of_suc-le-suc n))

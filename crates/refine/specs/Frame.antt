@@ -3,12 +3,11 @@ use Rattle.std.specs.Prelude.{◌≡◌, Float, get_or, set, length}
 use Rattle.std.proofs.Math.Path.{refl, sym, ap}
 use Rattle.std.proofs.Common.{◌∙◌, not-suc-le-zero, le_of_suc-le-suc, arith, le-leb}
 use mathlib.Core.List.{List, reverse_aux}
-use mathlib.Core.List
 use Prim.Native.Nat.{ℕ, zero, suc, ◌+◌, ◌-◌, ◌≤◌, ◌<◌}
 use Rattle.std.proofs.lemmas.Bool.{lt-leb}
 use Rattle.std.proofs.Math.ListN.{length-reverse_aux}
 use Rattle.rules.specs.declared.behavior.Kind.{Kind}
-use Rattle.rules.specs.Tree.{zero_time, Cell, with_time, with_place, with_mark, Tree, node, Forest, [], ◌∷◌, fresh, fresh_all, mark, sizes, count}
+use Rattle.rules.specs.Tree.{zero_time, Cell, with_time, with_place, with_mark, Tree, node, Forest, [], ◌∷◌, fresh_all, mark, sizes, count}
 use Rattle.rules.specs.Cells.{place_of, mark_of, anew_of}
 use Rattle.work.specs.Word.{kind_in}
 use Rattle.work.specs.Array.{word_at, end_of, set_place, set_seen, set_mark, fresh_words, fresh_times, child_from}
@@ -156,8 +155,8 @@ module _ {G : Given} {d : ℕ} where
   child_at_lem ts zero fr f u vs l = refl
   child_at_lem [] (suc i) fr f u vs l = absurd (not-suc-le-zero l)
   child_at_lem (t ∷ ts) (suc i) fr f u vs l =
-      rw (lt-leb fr.stop fr.q (ats_less G fr.q t ts fr.stop d vs), end_at fr ts f u t vs.0, ← over_words_lem fr t vs.0 ts f u)
-      (child_at_lem ts i (over fr t vs.0) f u vs.1 (le_of_suc-le-suc l))
+      rw (lt-leb fr.stop fr.q (ats_less G fr.q t ts fr.stop d vs), end_at fr ts f u t vs.0)
+      (ap (λ (ws : List ℕ). child_from ws fr.stop i (G.ends fr.q)) (sym (over_words_lem fr t vs.0 ts f u)) ∙ child_at_lem ts i (over fr t vs.0) f u vs.1 (le_of_suc-le-suc l))
 
   pub child_past : (ts : Forest) (i : ℕ) (fr : Frame G d) (f u : ℕ) → All fr ts → count ts ≤ i → child_from (words_in fr ts f u) fr.stop i fr.q ≡ fr.stop
   unfolding child_from
@@ -165,8 +164,8 @@ module _ {G : Given} {d : ℕ} where
   child_past [] (suc i) fr f u vs l = rw (le-leb fr.stop fr.q (omega (arith, vs))) vs
   child_past (t ∷ ts) zero fr f u vs l = absurd (not-suc-le-zero l)
   child_past (t ∷ ts) (suc i) fr f u vs l =
-      rw (lt-leb fr.stop fr.q (ats_less G fr.q t ts fr.stop d vs), end_at fr ts f u t vs.0, ← over_words_lem fr t vs.0 ts f u)
-      (child_past ts i (over fr t vs.0) f u vs.1 (le_of_suc-le-suc l))
+      rw (lt-leb fr.stop fr.q (ats_less G fr.q t ts fr.stop d vs), end_at fr ts f u t vs.0)
+      (ap (λ (ws : List ℕ). child_from ws fr.stop i (G.ends fr.q)) (sym (over_words_lem fr t vs.0 ts f u)) ∙ child_past ts i (over fr t vs.0) f u vs.1 (le_of_suc-le-suc l))
 
 -- ---- the frame of the children of the node t, which stands before us
 module _ {G : Given} {d : ℕ} where

@@ -136,7 +136,7 @@ module _ (G : Given) (d : ℕ) (child : Ticker) (v : Visitor) (g : Ticks G d chi
     body_go_link (suc k) (suc budget) i fr x ts p f u vs e lk lb l =
         let within : (t' : Tree) → All fr (put i t' ts) → i ≤ count (put i t' ts) = λ t' v'. omega (arith, ats_count G fr.q (put i t' ts) ts fr.stop d v' vs) in
         rw (lt-ltb (spot G i fr.q) fr.stop (spot_less G ts i fr.q fr.stop d vs l))
-        (sim_bind (puts fr i ts) f (kids p 0 fr) (suc f) (child_at child i (event G x) ts (world_at G f u)) _ _ _ (child_link ts i fr x f u vs e l) λ s. elim s [
+        (sim_bind (puts fr i ts) f (kids p 0 fr) (suc f) (child_at child i (event G x) ts (world_at G f u)) _ _ _ (child_link ts i fr x f u vs e l) elim [
           | Running ↦ λ r t' f' u' v' e'. went u' (still e') (v', within t' v') (rw (zero-add i)) refl
           | Failure ↦ λ r t' f' u' v' e'. went u' (still e') (v', within t' v') (rw (zero-add i)) refl
           | Success ↦ λ r t' f' u' v' e'. rw (updates_in (nodes_in fr (put i t' ts)) (full_length fr (put i t' ts) v') G.update f' u')
@@ -193,7 +193,7 @@ module _ (G : Given) (d : ℕ) (child : Ticker) (v : Visitor) (g : Ticks G d chi
     all_go_link zero (suc budget) i fr whole x c ts p q (suc f) u vs e lk lb z l m at = absurd (not-suc-le-zero lk)
     all_go_link zero (suc budget) zero fr whole x c ts p q zero u vs e lk lb z l m at = rw (dry c (event G whole) _) (stopped_in fr (c ∷ ts) vs 0 u)
     all_go_link zero (suc budget) (suc i) fr whole x c ts p q zero u vs e lk lb z l m at = rw (dry_at ts i (event G x) _) (stopped_in fr (c ∷ ts) vs 0 u)
-    all_go_link (suc k) (suc budget) zero fr whole x c ts p q f u vs e lk lb z l m at = rw z (sim_visit G d child v g (kids p 0 fr) fr c ts whole f u _ _ vs e λ s. elim s [
+    all_go_link (suc k) (suc budget) zero fr whole x c ts p q f u vs e lk lb z l m at = rw z (sim_visit G d child v g (kids p 0 fr) fr c ts whole f u _ _ vs e elim [
       | Running ↦ λ r c' f' u' v' e'. sim_more (kids p 0 fr) (suc f') (suc f) (while_all child budget (event G whole) 1 (event G x) c' ts (world_at G f' u')) _
           (all_go_link k budget 1 fr whole x c' ts p (G.ends fr.q) f' u' (v', vs.1) e'.few (omega (arith, e'.burnt)) (omega (arith, e'.burnt)) z m m (λ j y. first_at j (G.ends fr.q) y))
           (omega (arith, e'.burnt))
@@ -204,7 +204,7 @@ module _ (G : Given) (d : ℕ) (child : Ticker) (v : Visitor) (g : Ticks G d chi
         let fr' : Frame G d = over fr c vs.0 in
         let within : (t' : Tree) → All fr' (put i t' ts) → suc i ≤ suc (count (put i t' ts)) = λ t' v'. omega (arith, ats_count G fr'.q (put i t' ts) ts fr.stop d v' vs.1) in
         rw (eqb-suc-zero i, at i refl, lt-ltb (spot G i fr'.q) fr.stop (spot_less G ts i fr'.q fr.stop d vs.1 l), ← over_words_lem fr c vs.0 ts f u, ← over_times fr c vs.0 ts)
-        (sim_bind (puts fr' i ts) f (kids p 0 fr) (suc f) (child_at child i (event G x) ts (world_at G f u)) _ _ _ (child_link ts i fr' x f u vs.1 e l) λ s. elim s [
+        (sim_bind (puts fr' i ts) f (kids p 0 fr) (suc f) (child_at child i (event G x) ts (world_at G f u)) _ _ _ (child_link ts i fr' x f u vs.1 e l) elim [
           | Running ↦ λ r t' f' u' v' e'. went u' (still e') ((vs.0, v'), within t' v') (rw (over_words_lem fr c vs.0 (put i t' ts) f' u', zero-add (suc i))) (over_times fr c vs.0 (put i t' ts))
           | Failure ↦ λ r t' f' u' v' e'. went u' (still e') ((vs.0, v'), within t' v') (rw (over_words_lem fr c vs.0 (put i t' ts) f' u', zero-add (suc i))) (over_times fr c vs.0 (put i t' ts))
           | Success ↦ λ r t' f' u' v' e'.

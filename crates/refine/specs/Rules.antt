@@ -177,7 +177,7 @@ module _ {G : Given} {d : ℕ} {k : Kind} {ts : Forest} (N : Node G d k ts) wher
         let va = at_fresh G (G.ends (suc q)) a d vs.1.0 in
         let vb = at_fresh G (G.ends (G.ends (suc q))) b d vs.1.1.0 in
         rw (z.place, lt-ltb q 255 (omega (arith, ats_less G (suc q) c (a ∷ b ∷ cs) stop d vs, N.stands.room, G.room)), add-one q)
-        (sim_visit G d child w g chosen_view (kids_at 0) c (a ∷ b ∷ cs) y f u _ _ vs e λ s. elim s [
+        (sim_visit G d child w g chosen_view (kids_at 0) c (a ∷ b ∷ cs) y f u _ _ vs e elim [
           | Running ↦ λ r c' f' u' v' e'. went u' (still e') (node_good (c' ∷ a ∷ b ∷ cs) (v', vs.1) N.cell.time 0 (omega arith)) (node_words (c' ∷ a ∷ b ∷ cs) (v', vs.1) 0 f' u') refl
           | Success ↦ λ r c' f' u' v' e'. rw (z.ends, chosen_link c' (a ∷ b ∷ cs) 0 1 r f' u' (v', vs.1) (omega arith), rest_event G y r)
               (branch_link (fresh c' ∷ fresh a ∷ b ∷ cs) 1 r f' u' (suc f) (vf c' v', (va, vs.1.1)) e'.few (omega arith) (omega (arith, e'.burnt)))
@@ -280,7 +280,7 @@ module _ {G : Given} {d : ℕ} {k : Kind} {c : Tree} {cs : Forest} (N : Node G d
       → k ≡ Timeout
       → Sim (suc f) (left N) (rule F child Timeout N.n N.limit (cell_at N N.cell.place) (event G y) (c ∷ cs) (world_at G f u)) (on fr (c ∷ cs) f u (decorator F (lent_of G) w p y))
   unfolding rule decorator decorated times_out run
-  timeout_rule F kk = rw (lt-ltb p 255 inner, add-one p) (sim_visit G d child w g (left N) fr c cs y f u _ _ N.below e λ s. elim s [
+  timeout_rule F kk = rw (lt-ltb p 255 inner, add-one p) (sim_visit G d child w g (left N) fr c cs y f u _ _ N.below e elim [
     | Running ↦ λ r t' f' u' v' e'.
         let now : Float = add F N.cell.time (dt (event G y)) in
         rw (
@@ -301,7 +301,7 @@ module _ {G : Given} {d : ℕ} {k : Kind} {c : Tree} {cs : Forest} (N : Node G d
       → Dry child
       → Sim (suc f) (left N) (rule F child While N.n N.limit (cell_at N N.cell.place) (event G y) (c ∷ cs) (world_at G f u)) (on fr (c ∷ cs) f u (while_loop w p y))
   unfolding rule while_loop run
-  while_rule F dry = rw (lt-ltb p 255 inner, add-one p) (sim_visit G d child w g (left N) fr c cs y f u _ _ N.below e λ s. elim s [
+  while_rule F dry = rw (lt-ltb p 255 inner, add-one p) (sim_visit G d child w g (left N) fr c cs y f u _ _ N.below e elim [
     | Running ↦ λ r c' f' u' v' e'.
         let z = heads N (c' ∷ cs) (vs c' v') N.cell.place f' u' (same_place N (c' ∷ cs) (vs c' v')) in
         rw (

@@ -4,7 +4,6 @@ use Rattle.std.proofs.Math.Path.{refl}
 use Rattle.std.proofs.Common.{sym, ap, ◌∙◌, suc-add, add-zero, zero-add, arith, lt-ltb, le-ltb, get_or-append-add}
 use Rattle.std.proofs.Math.Bool.{true, false}
 use mathlib.Core.List.{List, ◌++◌, reverse, reverse_aux, reverse_aux-eq}
-use mathlib.Core.List
 use Rattle.std.proofs.Math.Decide.{dec_lt}
 use Rattle.std.proofs.lemmas.List.{length-reverse, get_or_at, set_at}
 use Rattle.std.proofs.Math.ListN.{length-reverse_aux}

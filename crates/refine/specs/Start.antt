@@ -3,7 +3,6 @@ use Rattle.std.specs.Prelude.{◌≡◌, refl, Bool, ℕ, zero, suc, ◌+◌, �
 use Rattle.std.proofs.Math.Path.{sym}
 use Rattle.std.proofs.Common.{ap, ◌∙◌, not-suc-le-zero, arith}
 use mathlib.Core.List.{List, reverse_aux}
-use mathlib.Core.List
 use Rattle.std.proofs.lemmas.List.{length-replicate}
 use Rattle.rules.specs.Tree.{Tree, node, Forest, [], ◌∷◌, size, sizes, depth, depths}
 use Rattle.rules.specs.Cells.{column, columns, time_of}

@@ -1,7 +1,6 @@
 -- The walk over the working array gives what the rules give.
 use Rattle.std.specs.Prelude.{◌≡◌, refl, Bool, List, ℕ, suc, ◌-◌, ◌^◌, ◌≤◌, ◌<◌, Float, get_or, drop, replicate}
 use Rattle.std.proofs.Common.{◌∙◌, arith}
-use mathlib.Core.List
 use Rattle.std.specs.Float.{Format}
 use Rattle.rules.specs.declared.status.Status.{Status}
 use Rattle.rules.specs.Tree.{zero_time, Tree, [], size, depth}

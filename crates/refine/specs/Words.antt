@@ -1,9 +1,8 @@
 -- A tree as it stands in the working array and in the times, and the table that it stands in.
 use Rattle.std.specs.Prelude.{◌≡◌, Bool, true, false, List, ◌++◌, ℕ, suc, ◌+◌, ◌-◌, ◌*◌, ◌%◌, ◌≤◌, ◌<◌, Float, get_or, replicate}
-use mathlib.Core.List
 use Rattle.rules.specs.declared.behavior.Kind.{Kind}
 use Rattle.rules.specs.Kinds.{code, fewest, most}
-use Rattle.rules.specs.Tree.{zero_time, Cell, Tree, node, Forest, [], ◌∷◌, size, sizes, count}
+use Rattle.rules.specs.Tree.{zero_time, Tree, node, Forest, [], ◌∷◌, size, sizes, count}
 use Rattle.rules.specs.Table.{cleaned}
 use Rattle.rules.specs.Cells.{place_of, mark_of, anew_of}
 
