@@ -1,5 +1,4 @@
 -- Lines among the bytes between two places.
-use denote.Slice.{shr_slice_at}
 use mathlib.Core.Path.{◌≡◌, refl, sym, ap, ap₂, ◌∙◌}
 use mathlib.Core.Bool.{Bool, true, false, cond}
 use mathlib.Core.List.{List, [], ◌∷◌, ◌++◌, append_assoc, append-nil}
@@ -59,8 +58,8 @@ searched_more s start end i h l n =
 
 -- ---- the bytes between two places
 module _ (s : List ℕ) (start end : ℕ) (within : end ≤ length s) where
-  shr_slice_at : (k : ℕ) → start + k < end → get_or (slice start end s) k 0 ≡ get_or s (start + k) 0
-  shr_slice_at k h = get_or-drop start (take end s) k 0 ∙ get_or-take end s (start + k) 0 h
+  at_slice : (k : ℕ) → start + k < end → get_or (slice start end s) k 0 ≡ get_or s (start + k) 0
+  at_slice k h = get_or-drop start (take end s) k 0 ∙ get_or-take end s (start + k) 0 h
 
   take_slice : (k : ℕ) → start + k ≤ end → take k (drop start s) ≡ take k (slice start end s)
   take_slice k h =
@@ -75,7 +74,7 @@ module _ (s : List ℕ) (start end : ℕ) (within : end ≤ length s) where
     open_before k h e =
         let u = slice start end s in
         let l : k < i - start = omega (arith, simp length-take at h) in
-        none (start + k) (omega arith) (omega arith) (sym (shr_slice_at k (omega arith)) ∙ sym (get_or-take (i - start) u k 0 l) ∙ e)
+        none (start + k) (omega arith) (omega arith) (sym (at_slice k (omega arith)) ∙ sym (get_or-take (i - start) u k 0 l) ∙ e)
 
     -- one ends at i
     pub line_ends : (last : Bool) → i < end → get_or s i 0 ≡ 10 → Ends s start end last (i + 1)
@@ -86,7 +85,7 @@ module _ (s : List ℕ) (start end : ℕ) (within : end ≤ length s) where
         let n : start + j ≡ i = omega arith in
         let m : i + 1 - start ≡ suc j = omega arith in
         let q : i + 1 ≡ start + suc j = omega arith in
-        let here : get_or u j 0 ≡ 10 = shr_slice_at j (omega arith) ∙ ap (λ k. get_or s k 0) n ∙ e in
+        let here : get_or u j 0 ≡ 10 = at_slice j (omega arith) ∙ ap (λ k. get_or s k 0) n ∙ e in
         let whole : u ≡ take j u ++ (10 ∷ drop (suc j) u) = split_at u j 0 long ∙ ap (λ b. take j u ++ (b ∷ drop (suc j) u)) here in
         let line : take (i + 1 - start) (drop start s) ≡ take j u ++ (10 ∷ []) =
         ap (λ k. take k (drop start s)) m
@@ -110,7 +109,7 @@ module _ (s : List ℕ) (start end : ℕ) (within : end ≤ length s) where
     open_all : Open (slice start end s)
     open_all k h e =
         let l : start + k < end = omega (arith, length-slice start end s within) in
-        none (start + k) (omega arith) l (sym (shr_slice_at k l) ∙ e)
+        none (start + k) (omega arith) l (sym (at_slice k l) ∙ e)
 
     pub no_line : (last : Bool) → last ≡ false → Ends s start end last start
     no_line last e =

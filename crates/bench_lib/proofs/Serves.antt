@@ -1,6 +1,7 @@
 -- One line after another: what was printed so far, and what is still to come.
 use mathlib.Core.Path.{◌≡◌, refl, sym, ap, ◌∙◌}
 use mathlib.Core.Bool.{Bool, true, cond}
+use Rattle.std.specs.Prelude.{Option}
 use mathlib.Core.List.{List, [], ◌∷◌, ◌++◌, append_assoc}
 use Prim.Native.Nat.{ℕ, ◌+◌, ◌-◌, ◌≤◌, ◌<◌}
 use native.Mathlib.Omega.{arith}
@@ -17,6 +18,7 @@ use Rattle.bench_line.specs.declared.step.Done.{Done}
 use Rattle.bench_line.specs.Bench.{Line, Rows, State, step, after, cut, from}
 use Rattle.bench_line.specs.Held.{state_of, Prints, Steps}
 use Rattle.bench_lib.specs.Served.{Waits, Ends, Serves, Shifts, Fits, Lined, Fetches, ReadOn}
+use Rattle.bench_lib.specs.Streams.{Gives, ReadsOn}
 
 -- ---- reading on
 pub reads_on : (p : Progress) (s s' s'' : List ℕ) (k e : ℕ)
@@ -33,6 +35,20 @@ reads_on p s s' s'' k e f m g =
       none = λ h. ap (λ j. slice k j s'') (eqb-true e k h) ∙ slice_empty k s'';
       held = refl;
       fits = record { few = f.few; ordered = omega arith; within = g.within };
+    }
+
+-- and what came is what a reader gave
+pub reads_more : (r r' : Option (List ℕ)) (p : Progress) (s s' s'' : List ℕ) (k e : ℕ)
+    → Fits p s
+    → Shifts s p.start p.end k s'
+    → Gives r r' s' k e s''
+    → ReadsOn r r' p s (record { held = p.held; start = 0; end = e; last = eqb e k; written = 0 }) s''
+unfolding reads_on
+reads_more r r' p s s' s'' k e f m g =
+    record {
+      on = reads_on p s s' s'' k e f m g.fetches;
+      took = g.took;
+      ended = λ h l. g.ended (eqb-true e k h) (omega (arith, eqb-true e k h, length-take-le e s'' g.fetches.within));
     }
 
 -- ---- one line more

@@ -1,5 +1,5 @@
 -- A malformed line is told by its place among the lines, from 1.
-use Rattle.std.specs.Prelude.{◌≡◌, refl, List, [], ◌∷◌, ℕ, suc, ◌+◌, ◌%◌, ◌<◌, length}
+use Rattle.std.specs.Prelude.{◌≡◌, refl, List, [], ◌∷◌, ℕ, ◌+◌, ◌%◌, ◌<◌, length}
 use Rattle.std.proofs.Common.{ap, ◌∙◌, arith}
 use Rattle.frames.specs.declared.Frame.TheVariants.{Malformed}
 use Rattle.frames.specs.declared.order.Input.{Input}

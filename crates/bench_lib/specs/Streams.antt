@@ -1,9 +1,8 @@
 -- What a reader gave and what a writer took, where these say which bytes they have: `remaining` of a reader is r before and r' after,
 -- `contents` of a writer w before and w' after. Of one that does not say, nothing is claimed.
-use Rattle.std.specs.Prelude.{◌≡◌, true, List, ◌++◌, ℕ, ◌<◌, length}
+use Rattle.std.specs.Prelude.{◌≡◌, true, Option, List, ◌++◌, ℕ, ◌<◌, length}
 use Rattle.std.proofs.Math.Seq.{slice}
 use Rattle.std.specs.Io.KnownBytes.{Appends, Consumes, IsAtEnd}
-use Rattle.core.specs.declared.option.Option.{Option}
 use Rattle.bench_lib.specs.declared.Progress.{Progress}
 use Rattle.bench_line.specs.Bench.{bench}
 use Rattle.bench_lib.specs.Served.{Fetches, ReadOn, rest}

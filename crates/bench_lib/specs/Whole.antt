@@ -27,12 +27,12 @@ pub data Turns : State → List ℕ → List ℕ → List ℕ → Type 0 where
   too_long : {s s' : State} {u u' input out out' : List ℕ}
       → Serves false s u out s' u' → Open u' → 20517 < length u' → Turns s' u' [] out' → Turns s u input (out ++ out')
 
-off : (s : State) (ls : List Line) → s.on ≡ false → after s ls ≡ []
+pub off : (s : State) (ls : List Line) → s.on ≡ false → after s ls ≡ []
 unfolding after
 off s [] e = refl
 off s (l ∷ ls) e = ap (λ b. cond b ((step s l).1 ++ after (step s l).0 ls) []) e
 
-nothing : (s : State) → from s [] ≡ []
+pub nothing : (s : State) → from s [] ≡ []
 unfolding from
 nothing s = refl
 
@@ -69,7 +69,7 @@ cut_open (b ∷ c ∷ u) input h o =
     let r = cut_open (c ∷ u) input (omega arith) (λ i l e. o (suc i) (omega arith) e) in
     (r.0, r.1, rw (ne_eqb b 10 (o 0 (omega arith))) (ap (onto b) r.2))
 
-long_bytes : (s : State) (u input : List ℕ) → Open u → 20517 < length u → from s (u ++ input) ≡ from s (u ++ [])
+pub long_bytes : (s : State) (u input : List ℕ) → Open u → 20517 < length u → from s (u ++ input) ≡ from s (u ++ [])
 unfolding from
 long_bytes s u input o h =
     let a = cut_open u input (omega arith) o in

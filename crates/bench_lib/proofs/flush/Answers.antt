@@ -1,0 +1,20 @@
+use Rattle.std.proofs.Common.{◌≡◌, ℕ, ◌+◌, ◌-◌, ◌≤◌, List, ◌++◌, arith, take, drop, sym, ap, ◌∙◌, subst, length-take, take-take, take-add}
+use Rattle.std.specs.Io.KnownBytes.{Appends}
+use Rattle.std.proofs.KnownBytes.{Appends-trans}
+use Rattle.bench_lib.proofs.flush.Goals as goal
+
+-- n more bytes of the first w, behind d of them
+more : (d n w : ℕ) (o : List ℕ) → n ≤ w - d → take d o ++ take n (take (w - d) (drop d o)) ≡ take (d + n) o
+more d n w o h = ap (λ l. take d o ++ l) (take-take n (w - d) (drop d o) h) ∙ sym (take-add d n o)
+
+pub loop-done-preserved : goal.loop-done-preserved
+loop-done-preserved g c =
+    let d = c.loop-done.done in
+    let n = c.in_ok-n.n in
+    let w = c.args.written in
+    let o = c.args.output.now in
+    let k : n ≤ w - d = omega (arith, simp length-take at c.in_ok-n.ensures.bound) in
+    record {
+      within = omega arith;
+      wrote = subst (Appends _ _) (more d n w o k) (Appends-trans _ _ _ _ _ c.loop-done.invariant.wrote c.in_ok-n.ensures.bytes);
+    }
