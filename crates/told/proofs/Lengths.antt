@@ -1,6 +1,5 @@
 -- As many answers are lent as the shorter slice has.
 use Rattle.std.proofs.Common.{◌≡◌, ℕ, min, List, length, arith}
-use mathlib.Core.List
 use lib.Ieee.{Float}
 use Rattle.rules.specs.Call.{answers}
 
