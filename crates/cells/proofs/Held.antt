@@ -1,7 +1,6 @@
 -- A tree with its cells as it stands in the slices, at most so many levels deep.
 use mathlib.Core.Path.{◌≡◌, refl, sym, ap, subst}
 use mathlib.Core.List.{List}
-use mathlib.Core.List
 use Prim.Native.Nat.{ℕ, zero, suc, ◌≤◌, ◌<◌, min}
 use native.Mathlib.Omega.{arith}
 use lib.Ieee.{Float, nan}

@@ -1,12 +1,11 @@
 -- The cell check's loop: the open nodes as frames, each with the trees that are still to be checked in it.
 use mathlib.Core.Path.{◌≡◌, refl, sym, ap, subst, ◌∙◌}
-use mathlib.Core.Bool.{Bool, true, false, not, cond, ◌&&◌, ◌||◌}
+use mathlib.Core.Bool.{Bool, true, false, cond, ◌&&◌, ◌||◌}
 use mathlib.Core.List.{List}
-use mathlib.Core.List
 use Prim.Native.Nat.{ℕ, zero, suc, ◌+◌, ◌-◌, ◌≤◌, ◌<◌}
 use native.Mathlib.Numerals.{add-one}
 use native.Mathlib.Omega.{arith}
-use borrow.Author.Tests.{lt-ltb, le-ltb, not-true, not-false, eqb-true}
+use borrow.Author.Tests.{lt-ltb, le-ltb, eqb-true}
 use lib.Dec.{ltb, eqb}
 use lib.Ieee.{Float}
 use lib.ListN.{length, get_or, set}
@@ -337,14 +336,14 @@ module _ (kinds ns ends : List ℕ) (times : List Float) (places marks : List �
           let w = r.here.held in
           is ∙ cc
 
-      pub refuses : not a ≡ true → Faulty at ≡ said answer
+      pub refuses : a ≡ false → Faulty at ≡ said answer
       refuses h =
-          let bad = run_bad r.e r.m r.k r.n' r.l r.c r.b r.kids r.us r.stop r.frames at (sym same ∙ not-true a h) in
+          let bad = run_bad r.e r.m r.k r.n' r.l r.c r.b r.kids r.us r.stop r.frames at (sym same ∙ h) in
           ap said (sym bad ∙ r.runs)
 
-      module _ (taken : not a ≡ false) where
+      module _ (taken : a ≡ true) where
         ok : cell_allowed r.e r.m r.k r.n' r.c ≡ true
-        ok = sym same ∙ not-false a taken
+        ok = sym same ∙ taken
 
         abbrev x : Bool
         x = eqb (get_or marks at 0) 1

@@ -1,6 +1,6 @@
 -- The invariant of the cell check's loop, and what each way through a turn makes of it.
 use mathlib.Core.Path.{◌≡◌, refl, sym, ap, subst, ◌∙◌}
-use mathlib.Core.Bool.{Bool, true, false, not, cond}
+use mathlib.Core.Bool.{Bool, true, false, cond}
 use mathlib.Core.List.{List}
 use Prim.Native.Nat.{ℕ, ◌+◌, ◌-◌, ◌≤◌, ◌<◌}
 use native.Mathlib.Omega.{arith}
@@ -147,11 +147,11 @@ module _ {kinds ns ends : List ℕ} {times : List Float} {places marks : List �
       is' : a ≡ cell_allowed (ltb at until) (get_or may (open' - 1) false) k (get_or ns at 0) (cell_at times places marks at)
       is' = is ∙ ap (λ (x : Bool). cell_allowed (ltb at until) x k (get_or ns at 0) (cell_at times places marks at)) v.nodes.may_is
 
-      pub refused : not a ≡ true → Checks kinds ns ends times places marks n (Faulty at)
+      pub refused : a ≡ false → Checks kinds ns ends times places marks n (Faulty at)
       refused h limits t x z d =
           refuses kinds ns ends times places marks n stops may open' until at (answer times places marks t) (v.there limits t x z d) k kind a is' h
 
-      module _ (taken : not a ≡ false) {s : ℕ} (ss : s ≡ get_or ends at 0) where
+      module _ (taken : a ≡ true) {s : ℕ} (ss : s ≡ get_or ends at 0) where
         pub too_deep : at + 1 < s → 16 ≤ open' → Checks kinds ns ends times places marks n (Faulty at)
         too_deep h g limits t x z d =
             let right = answer times places marks t in

@@ -1,6 +1,5 @@
 -- The length of a run of cells is that of its shortest slice.
 use Rattle.std.specs.Prelude.{◌≡◌, true, List, ℕ, ◌≤◌, min, leb, Float, length}
-use mathlib.Core.List
 use Rattle.std.proofs.Common.{arith, leb-true}
 use Rattle.rules.specs.Cells.{cells}
 use Rattle.rules.specs.Call.{Run, run_length}

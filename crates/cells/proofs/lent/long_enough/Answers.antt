@@ -8,8 +8,7 @@ use lib.Dec.{leb}
 use lib.ListN.{length}
 use Rattle.rules.specs.Call.{Run, run, run_length}
 use Rattle.cells.specs.Long.{run_length_lem}
-use Rattle.cells.proofs.lent.long_enough.Statement.{statement}
-use Rattle.cells.proofs.lent.long_enough.Tie as tie
+use Rattle.cells.proofs.lent.long_enough.Goals as goal
 
 -- the tests of the four lengths, one after the other
 too_short : (n : ℕ) (r : Run) → run_length r < n → false ≡ leb n (run_length r)
@@ -22,20 +21,14 @@ last_test n r a b c = go (leb n (length r.sinces)) refl
     go true e = sym (le-leb n (run_length r) (omega (arith, run_length_lem r, leb-true n (length r.sinces) e)))
     go false e = too_short n r (omega (arith, run_length_lem r, leb-false n (length r.sinces) e))
 
-abbrev lent : tie.Start → Run
-lent c = run c.args.times.now c.args.places.now c.args.marks.now c.args.sinces.now
+pub returns-then-times-n : goal.returns-then-times-n
+returns-then-times-n c = let r = (run c.args.times.now c.args.places.now c.args.marks.now c.args.sinces.now) in too_short _ r (omega (arith, run_length_lem r, c.if-times-n.true))
 
-returns : tie.Need-returns
-returns c = let r = lent c.before in too_short _ r (omega (arith, run_length_lem r, c.if1.true))
+pub returns-then-places-n : goal.returns-then-places-n
+returns-then-places-n c = let r = (run c.args.times.now c.args.places.now c.args.marks.now c.args.sinces.now) in too_short _ r (omega (arith, run_length_lem r, c.if-places-n.true))
 
-returns_2 : tie.Need-returns-2
-returns_2 c = let r = lent c.before.before in too_short _ r (omega (arith, run_length_lem r, c.if2.true))
+pub returns-then-marks-n : goal.returns-then-marks-n
+returns-then-marks-n c = let r = (run c.args.times.now c.args.places.now c.args.marks.now c.args.sinces.now) in too_short _ r (omega (arith, run_length_lem r, c.if-marks-n.true))
 
-returns_3 : tie.Need-returns-3
-returns_3 c = let r = lent c.before.before.before in too_short _ r (omega (arith, run_length_lem r, c.if3.true))
-
-returns_4 : tie.Need-returns-4
-returns_4 c = last_test _ (lent c.before.before.before) c.before.before.if1.false c.before.if2.false c.if3.false
-
-pub long_enough_spec : {M : Type 1} → statement M
-long_enough_spec = tie.close (tie.spec returns returns_2 returns_3 returns_4)
+pub returns : goal.returns
+returns c = last_test _ ((run c.args.times.now c.args.places.now c.args.marks.now c.args.sinces.now)) c.if-times-n.false c.if-places-n.false c.if-marks-n.false

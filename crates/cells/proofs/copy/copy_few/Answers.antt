@@ -1,0 +1,16 @@
+-- Of each slice what stands before i is copied.
+use mathlib.Core.Path.{refl}
+use Rattle.cells.proofs.Copies.{copying_more}
+use Rattle.cells.proofs.copy.copy_few.Goals as goal
+
+pub loop-i-preserved : goal.loop-i-preserved
+loop-i-preserved c =
+    let at = c in
+    let inv = at.loop-i.invariant in
+    let pre = at.requires in
+    let h = c.loop-i-test.true in (
+      copying_more _ (pre.long.times, pre.long_2.times) inv.0 h refl,
+      copying_more _ (pre.long.places, pre.long_2.places) inv.1 h refl,
+      copying_more _ (pre.long.marks, pre.long_2.marks) inv.2 h refl,
+      copying_more _ (pre.long.sinces, pre.long_2.sinces) inv.3 h refl,
+    )
