@@ -1,5 +1,5 @@
 //! Finds the archive of the proved evaluator, `liblemboraw.a`: in the folder that LEMBORAW_LIB
-//! names, by default where `rt staticlib lemboraw` writes it.
+//! names, by default where `tools/build archive` writes it.
 
 use std::env;
 use std::path::PathBuf;
@@ -20,7 +20,7 @@ fn main() {
     let archive = folder.join("liblemboraw.a");
     if !archive.is_file() {
         eprintln!(
-            "{} is not there: run `rt staticlib lemboraw` at the repository's root, or set LEMBORAW_LIB",
+            "{} is not there: run `tools/build archive` at the repository's root, or set LEMBORAW_LIB",
             archive.display()
         );
         exit(1);
