@@ -1,6 +1,6 @@
 -- A tree has a bound or none exactly where each of its rows allows it.
 use mathlib.Core.Path.{◌≡◌, refl, sym, ap, ◌∙◌}
-use mathlib.Core.Bool.{Bool, true, false, and_false}
+use mathlib.Core.Bool.{Bool, true, false, and-false}
 use mathlib.Core.List.{List}
 use mathlib.Core.Logic.{◌⊎◌, inl, inr, ⊎_elim}
 use Prim.Native.Nat.{ℕ, suc, ◌≤◌, ◌<◌}
@@ -65,7 +65,7 @@ module _ (F : Format) (kinds ns : List ℕ) (limits : List Float) where
           (i : ℕ) → q ≤ i → i < get_or ends q 0 → row_at i ≡ false → boundable F t ≡ false
       a_row q (node k n l c b ts) h u i from to e = ⊎_elim
           (λ (s : q ≡ i). rw (sym (row_is q k n l (count ts) (omega arith) h.0) ∙ ap row_at s ∙ e))
-          (λ (s : q < i). rw (a_row_of (suc q) ts (get_or ends q 0) h.1 u i s to e) (and_false (row_bounded F k (count ts) l)))
+          (λ (s : q < i). rw (a_row_of (suc q) ts (get_or ends q 0) h.1 u i s to e) (and-false (row_bounded F k (count ts) l)))
           (eq-or-lt_of_le from)
 
       pub a_row_of :
@@ -74,5 +74,5 @@ module _ (F : Format) (kinds ns : List ℕ) (limits : List Float) where
       a_row_of q [] stop h u i from to e = absurd (omega arith)
       a_row_of q (t ∷ ts) stop h u i from to e = ⊎_elim
           (λ (s : i < get_or ends q 0). rw (a_row q t h.0 (le_trans (ends_from_lem F kinds ns limits ends (get_or ends q 0) ts stop h.1) u) i from s e))
-          (λ (s : get_or ends q 0 ≤ i). rw (a_row_of (get_or ends q 0) ts stop h.1 u i s to e) (and_false (boundable F t)))
+          (λ (s : get_or ends q 0 ≤ i). rw (a_row_of (get_or ends q 0) ts stop h.1 u i s to e) (and-false (boundable F t)))
           (either i (get_or ends q 0))
