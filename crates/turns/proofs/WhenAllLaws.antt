@@ -9,7 +9,6 @@ use native.Mathlib.Omega.{arith}
 use borrow.Author.Tests.{lt-ltb, le-ltb, le-leb, lt-leb, eq-eqb, ne_eqb}
 use lib.Dec.{eqb}
 use lib.Ieee.{Float, binary64, lt}
-use lib.ListN.{length}
 use Rattle.rules.specs.declared.status.Status.{Status}
 use Rattle.rules.specs.declared.status.Status.TheVariants as status
 use Rattle.rules.specs.Tree.{zero_time}
@@ -164,15 +163,14 @@ module _ (limits : List Float) (a : List ℕ) (b : List Float) (tk : Visitor) (s
 pub record Past (limits : List Float) (e : Level) (ws : List ℕ) (ts : List Float) (next : ℕ) (ws₁ : List ℕ) (ts₁ : List Float) : Type 0 where
   pub visits : Waiting limits e.whole e.next next ws ts ws₁ ts₁
   pub within_stop : e.next < next → next ≤ e.stop
-  pub long : length ts₁ ≡ length ts
 
 module _ {limits : List Float} {e : Level} {ws : List ℕ} {ts : List Float} {next : ℕ} {ws₁ : List ℕ} {ts₁ : List Float} where
   pub past_none : ws₁ ≡ ws → ts₁ ≡ ts → next ≡ e.next → Past limits e ws ts next ws₁ ts₁
-  past_none a b c = rw (a, b, c) (record { visits = w.none; within_stop = λ h. absurd (omega arith); long = refl })
+  past_none a b c = rw (a, b, c) (record { visits = w.none; within_stop = λ h. absurd (omega arith) })
 
   pub past_some : {n : ℕ} {ws₂ : List ℕ} {ts₂ : List Float} → ws₁ ≡ ws₂ → ts₁ ≡ ts₂ → next ≡ n
-      → Waiting limits e.whole e.next n ws ts ws₂ ts₂ → (e.next < n → n ≤ e.stop) → length ts₂ ≡ length ts → Past limits e ws ts next ws₁ ts₁
-  past_some a b c v h l = rw (a, b, c) (record { visits = v; within_stop = h; long = l })
+      → Waiting limits e.whole e.next n ws ts ws₂ ts₂ → (e.next < n → n ≤ e.stop) → Past limits e ws ts next ws₁ ts₁
+  past_some a b c v h = rw (a, b, c) (record { visits = v; within_stop = h })
 
   module _ (f : Fine e) (p : Past limits e ws ts next ws₁ ts₁) where
     in_places : next ≤ 256
@@ -180,11 +178,6 @@ module _ {limits : List Float} {e : Level} {ws : List ℕ} {ts : List Float} {ne
       | yes l ↦ omega (arith, p.within_stop l, f.stop_in)
       | no l ↦ omega (arith, f.next_in)
     ]
-
-    pub past_asks : e.child < e.next → (e.node < next) × ((next ≤ 256) × ((e.stop ≤ 256) × (e.index ≤ 255 + next)))
-    past_asks h =
-        let l = passed_on p.visits in
-        (omega (arith, f.node_in), (in_places, (f.stop_in, omega (arith, f.index_in))))
 
     pub past_fuel : fuel_of ws₁ ≤ fuel_of ws
     past_fuel = fuel_waiting p.visits in_places
