@@ -1,4 +1,4 @@
--- The cell check as a fact about a tree: `badCell` finds none exactly where every cell is allowed.
+-- The cell check as a fact about a tree: `bad_cell` finds none exactly where every cell is allowed.
 use Rattle.std.specs.Prelude.{◌≡◌, refl, Bool, true, false, cond, ◌||◌, ℕ, suc, ◌+◌, T}
 use Rattle.std.proofs.Common.{sym, ap, ◌∙◌, add-zero, arith}
 use Rattle.rules.specs.Kinds.{marks_children}

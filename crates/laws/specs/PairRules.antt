@@ -1,4 +1,4 @@
--- Two walks side by side through the rule of each kind. The loops' budget is any number here: `ruleWith` is the rule with that number for it.
+-- Two walks side by side through the rule of each kind. The loops' budget is any number here: `rule_with` is the rule with that number for it.
 use Rattle.std.specs.Prelude.{◌≡◌, Bool, true, false, cond, ◌||◌, List, ℕ, suc, ◌<◌, T, Float}
 use Rattle.std.proofs.Math.Path.{refl, sym}
 use Rattle.std.proofs.Common.{ap, ◌∙◌, eqb→eq}
