@@ -6,7 +6,6 @@ use Prim.Native.Nat.{ℕ, zero, suc, ◌+◌, ◌-◌, ◌≤◌, ◌<◌}
 use native.Mathlib.Omega.{arith}
 use lib.Ieee.{Float}
 use borrow.Author.Tests.{le-leb, lt-leb}
-use Rattle.rules.specs.declared.status.Status.TheVariants as status
 use Rattle.rules.specs.Tree.{zero_time}
 use Rattle.work.specs.declared.result.Seen.TheVariants.{Stopped, Running, Success, Failure}
 use Rattle.work.specs.Word.{place_of}

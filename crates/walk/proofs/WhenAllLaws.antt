@@ -6,7 +6,6 @@ use Prim.Native.Nat.{ℕ, zero, suc, ◌+◌, ◌-◌, ◌≤◌, ◌<◌}
 use native.Mathlib.Omega.{arith}
 use lib.Ieee.{Float, binary64, lt}
 use borrow.Author.Tests.{lt-ltb, le-ltb, le-leb, lt-leb, eq-eqb, ne_eqb}
-use Rattle.rules.specs.declared.status.Status.TheVariants as status
 use Rattle.rules.specs.Tree.{zero_time}
 use Rattle.rules.specs.Outcome.{smaller}
 use Rattle.work.specs.declared.result.Seen.{Seen}

@@ -21,7 +21,7 @@ use work::{
 };
 
 // One of the fuel, the rule of the node's kind, and its status on the board.
-#[cycle(by_kind_decorators_if_node_while_all_while_loop_memoryless_sequence_tick_node_visit_after_race_when_all)]
+#[cycle(walk)]
 pub fn tick_node(
     work: &mut [u32; 260],
     limits: &&[f64],
@@ -67,7 +67,7 @@ pub fn tick_node(
 }
 
 // A child: a leaf gives its result at once.
-#[cycle(by_kind_decorators_if_node_while_all_while_loop_memoryless_sequence_tick_node_visit_after_race_when_all)]
+#[cycle(walk)]
 pub fn visit(
     work: &mut [u32; 260],
     limits: &&[f64],
@@ -90,7 +90,7 @@ pub fn visit(
 }
 
 // The rule of each kind.
-#[cycle(by_kind_decorators_if_node_while_all_while_loop_memoryless_sequence_tick_node_visit_after_race_when_all)]
+#[cycle(walk)]
 fn by_kind(
     work: &mut [u32; 260],
     limits: &&[f64],
@@ -157,7 +157,7 @@ fn by_kind(
 
 // Invert, AlwaysSucceed, Timeout, one below the other: down to the first node that is none of them,
 // and up again with its result.
-#[cycle(by_kind_decorators_if_node_while_all_while_loop_memoryless_sequence_tick_node_visit_after_race_when_all)]
+#[cycle(walk)]
 fn decorators(
     work: &mut [u32; 260],
     limits: &&[f64],
@@ -208,7 +208,7 @@ fn decorators(
 }
 
 // The condition, then the branch that it chooses.
-#[cycle(by_kind_decorators_if_node_while_all_while_loop_memoryless_sequence_tick_node_visit_after_race_when_all)]
+#[cycle(walk)]
 fn if_node(
     work: &mut [u32; 260],
     limits: &&[f64],

@@ -11,7 +11,7 @@ use work::{
 };
 
 // The condition with the whole event, then the body with the rest, from the place on.
-#[cycle(by_kind_decorators_if_node_while_all_while_loop_memoryless_sequence_tick_node_visit_after_race_when_all)]
+#[cycle(walk)]
 pub fn while_loop(
     work: &mut [u32; 260],
     limits: &&[f64],
@@ -73,7 +73,7 @@ pub fn while_loop(
 }
 
 // The condition when it is due, at place 0, always with the whole event; then the body with the rest.
-#[cycle(by_kind_decorators_if_node_while_all_while_loop_memoryless_sequence_tick_node_visit_after_race_when_all)]
+#[cycle(walk)]
 pub fn while_all(
     work: &mut [u32; 260],
     limits: &&[f64],

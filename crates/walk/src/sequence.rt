@@ -10,7 +10,7 @@ use work::{
 };
 
 // From the place on. Moving on makes the old and the new child fresh.
-#[cycle(by_kind_decorators_if_node_while_all_while_loop_memoryless_sequence_tick_node_visit_after_race_when_all)]
+#[cycle(walk)]
 pub fn sequence(
     work: &mut [u32; 260],
     limits: &&[f64],
@@ -69,7 +69,7 @@ pub fn sequence(
 }
 
 // All children are made fresh first, then walked from the first; moving on makes the old one fresh.
-#[cycle(by_kind_decorators_if_node_while_all_while_loop_memoryless_sequence_tick_node_visit_after_race_when_all)]
+#[cycle(walk)]
 pub fn memoryless(
     work: &mut [u32; 260],
     limits: &&[f64],

@@ -13,7 +13,7 @@ use work::{
 };
 
 // Every child without mark; one that ends is made fresh and marked.
-#[cycle(by_kind_decorators_if_node_while_all_while_loop_memoryless_sequence_tick_node_visit_after_race_when_all)]
+#[cycle(walk)]
 pub fn when_all(
     work: &mut [u32; 260],
     limits: &&[f64],
@@ -80,7 +80,7 @@ pub fn when_all(
 }
 
 // The first child that ends gives the result.
-#[cycle(by_kind_decorators_if_node_while_all_while_loop_memoryless_sequence_tick_node_visit_after_race_when_all)]
+#[cycle(walk)]
 pub fn race(
     work: &mut [u32; 260],
     limits: &&[f64],
@@ -113,7 +113,7 @@ pub fn race(
 }
 
 // Children must succeed in their order, each with less left than the one before it.
-#[cycle(by_kind_decorators_if_node_while_all_while_loop_memoryless_sequence_tick_node_visit_after_race_when_all)]
+#[cycle(walk)]
 pub fn after(
     work: &mut [u32; 260],
     limits: &&[f64],
