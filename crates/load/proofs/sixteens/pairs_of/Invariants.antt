@@ -1,0 +1,11 @@
+-- What was folded in is at most the fold.
+use Prim.Native.Nat.{◌-◌, ◌≤◌}
+use Rattle.load.specs.Sixteens.{Covers}
+use Rattle.load.proofs.sixteens.pairs_of.Given as goal
+
+-- What was folded in is at most the fold.
+abbrev pub invariant-loop-i : goal.invariant-loop-i
+invariant-loop-i l = (l.i ≤ 16) × (Covers l.ns l.at l.i l.all) × (Covers l.places l.at l.i l.all)
+
+abbrev pub decreases-loop-i : goal.decreases-loop-i
+decreases-loop-i l = 16 - l.i
