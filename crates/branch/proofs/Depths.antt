@@ -1,13 +1,12 @@
 -- The depth of trees that stand one behind the other, and of a node above them.
-use mathlib.Core.Path.{◌≡◌, refl, ◌∙◌}
+use mathlib.Core.Path.{◌≡◌, ◌∙◌}
 use mathlib.Core.List.{List}
-use Prim.Native.Nat.{ℕ, suc, ◌+◌, ◌-◌, ◌≤◌, ◌<◌, min, max}
+use Prim.Native.Nat.{ℕ, ◌+◌, ◌≤◌, ◌<◌, min, max}
 use native.Mathlib.Numerals.{add-one}
 use native.Mathlib.Omega.{arith}
-use lib.Dec.{ltb}
 use lib.ListN.{length, get_or, set}
 use lib.Seq.{get_or-set_same, get_or-set_other}
-use Rattle.rules.specs.Tree.{Tree, node, Forest, [], ◌∷◌, size, sizes, depth, depths}
+use Rattle.rules.specs.Tree.{Tree, node, Forest, [], ◌∷◌, size, depth, depths}
 use Rattle.branch.specs.Each.{Each, EachAll, Any}
 use Rattle.branch.specs.Depth.{Known, Deepest}
 use Rattle.laws.specs.Tests.{below_or_not}
