@@ -1,6 +1,6 @@
 -- Each way through the last refusals leaves of the call what the rules say; and what is written is the tree with the branch replaced.
 use mathlib.Core.Path.{◌≡◌, refl, sym, ap, ◌∙◌}
-use mathlib.Core.Bool.{Bool, true, false, cond, ◌&&◌, and_false}
+use mathlib.Core.Bool.{Bool, true, false, ◌&&◌}
 use mathlib.Core.List.{List, ◌++◌}
 use Prim.Native.Nat.{ℕ, ◌+◌, ◌-◌, ◌≤◌, ◌<◌, min}
 use native.Mathlib.Nat.{zero-add}
@@ -14,7 +14,6 @@ use Rattle.rules.specs.declared.exchanged.Exchanged.{Exchanged}
 use Rattle.rules.specs.declared.exchanged.Exchanged.TheVariants.{Done, StateHeld, TooLarge, ShortRoom}
 use Rattle.rules.specs.Tree.{zero_time, Cell, Tree, size, depth}
 use Rattle.rules.specs.Table.{table}
-use Rattle.rules.specs.Cells.{cells}
 use Rattle.rules.specs.Exchange.{Room, GivenExchange, left_exchange, not_exchanged, free, replaced, size_at, written, replacing, exchange_call, new_sinces, onto_room, room, room_length}
 use Rattle.rules.specs.Exchange.{listed, code_in, number_in, limit_in, time_in, place_in, mark_in}
 use Rattle.laws.specs.Shape.{size_shape, depth_shape}
@@ -36,7 +35,7 @@ use Rattle.exchange.specs.declared.gate.Gate.TheVariants as gate
 use Rattle.exchange.specs.Due.{Due, Passed, Planned}
 use Rattle.branch.proofs.Eachs.{each_map}
 use Rattle.exchange.proofs.Levels.{size_replaced, depth_low, depth_high, above_low, branch_end, branch_fits}
-use Rattle.exchange.proofs.Standing.{InRow, Fresh, fresh_stands, CellAt, Stood, stands}
+use Rattle.exchange.proofs.Standing.{Fresh, fresh_stands, Stood, stands}
 use Rattle.exchange.proofs.Columns.{Known, Cuts, column, since_column}
 
 -- ---- what the checks of tables and cells leave, told by their answer

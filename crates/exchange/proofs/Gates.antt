@@ -1,18 +1,15 @@
 -- Each way through the checks of tables and cells leaves of the call what the rules say.
-use mathlib.Core.Path.{◌≡◌, refl, sym, ap, ◌∙◌}
-use mathlib.Core.Bool.{Bool, true, false, cond}
+use mathlib.Core.Path.{◌≡◌, ◌∙◌}
+use mathlib.Core.Bool.{true, false, cond}
 use mathlib.Core.List.{List}
-use Prim.Native.Nat.{ℕ, ◌≤◌, ◌<◌, min}
-use native.Mathlib.Omega.{arith}
-use borrow.Author.Tests.{lt-ltb, le-ltb, le-leb, lt-leb, leb-true, leb-false}
+use Prim.Native.Nat.{ℕ, ◌≤◌, ◌<◌}
+use borrow.Author.Tests.{le-ltb}
 use lib.Dec.{leb}
-use lib.Ieee.{Float}
-use lib.ListN.{length}
 use Rattle.rules.specs.declared.exchanged.Exchanged.TheVariants.{Finished, BadTable, BadBranch, TooShort, BadCell, NoNode}
 use Rattle.rules.specs.Tree.{Tree, size}
 use Rattle.rules.specs.Table.{most_deep, bad, table_within}
-use Rattle.rules.specs.Cells.{cells, Found, faulty, none, bad_cell}
-use Rattle.rules.specs.Call.{Run, run_length}
+use Rattle.rules.specs.Cells.{bad_cell}
+use Rattle.rules.specs.Call.{run_length}
 use Rattle.rules.specs.Exchange.{GivenExchange, not_exchanged, replacing, on_trees, on_branch, exchange_call}
 use Rattle.laws.specs.Shape.{size_shape}
 use Rattle.laws.specs.Memory.{held, held_shape}

@@ -1,12 +1,11 @@
 -- A good table's tree with the cells of a run, and a fresh one: what stands at each node's place.
-use mathlib.Core.Path.{◌≡◌, refl, sym, ap, subst, ◌∙◌}
-use mathlib.Core.Bool.{Bool, true, false, ◌&&◌, and-eq-true_iff}
+use mathlib.Core.Path.{◌≡◌, refl, sym, ap, ◌∙◌}
+use mathlib.Core.Bool.{true, ◌&&◌, and-eq-true_iff}
 use mathlib.Core.List.{List}
-use mathlib.Core.List
-use Prim.Native.Nat.{ℕ, zero, suc, ◌+◌, ◌≤◌, ◌<◌, min}
+use Prim.Native.Nat.{ℕ, zero, suc, ◌+◌, ◌≤◌, ◌<◌}
 use native.Mathlib.Omega.{arith}
-use borrow.Author.Tests.{leb-true, eqb-true}
-use lib.Dec.{leb, eqb}
+use borrow.Author.Tests.{leb-true}
+use lib.Dec.{leb}
 use lib.Ieee.{Float}
 use lib.ListN.{length, get_or, drop, length-drop}
 use lib.Seq.{drop-cons, drop-drop}
@@ -18,9 +17,8 @@ use Rattle.rules.specs.Table.{cleaned, count_allowed, limit_allowed, row_allowed
 use Rattle.rules.specs.Cells.{cells, with_cells, with_cells_all}
 use Rattle.laws.specs.Tables.{Tabled, Tableds}
 use Rattle.tables.specs.At.{Row, At, Ats}
-use Rattle.tables.proofs.Placed.{at_end, ats_end}
+use Rattle.tables.proofs.Placed.{at_end}
 use Rattle.branch.specs.Each.{Each, EachAll}
-use Rattle.laws.specs.Tests.{below_or_not}
 
 -- ---- the cells of a run
 pub record CellAt (c : Cell) (xs : List Float) (ps ms : List ℕ) (q : ℕ) : Type 0 where

@@ -1,10 +1,7 @@
 -- What the checks leave of an exchange: a refusal, or what is to be written.
-use Rattle.std.specs.Prelude.{◌≡◌, Bool, false, List, ℕ, ◌≤◌, ◌<◌, Float, length}
-use Rattle.rules.specs.Tree.{Tree, size, depth}
+use Rattle.std.specs.Prelude.{◌≡◌, List, ℕ, ◌≤◌, ◌<◌, length}
 use Rattle.rules.specs.Table.{most_deep}
-use Rattle.rules.specs.Cells.{none, bad_cell}
-use Rattle.rules.specs.Call.{Run}
-use Rattle.rules.specs.Exchange.{GivenExchange, LeftExchange, left_exchange, not_exchanged, replacing, exchange_call}
+use Rattle.rules.specs.Exchange.{GivenExchange, left_exchange, not_exchanged, replacing, exchange_call}
 use Rattle.rules.specs.declared.exchanged.Exchanged.TheVariants.{Done}
 use Rattle.laws.specs.Memory.{held}
 use Rattle.tables.proofs.Good.{Good}
