@@ -11,7 +11,7 @@ use Rattle.walk.proofs.NodeLaws as node_law
 use Rattle.walk.proofs.LoopLaws as loop-law
 use Rattle.walk.proofs.SequenceLaws as seq-law
 use Rattle.walk.proofs.WhenAllLaws as when-law
-use Rattle.walk.proofs.TurnLaws.{bounds, inside, within, due, small, closer, farther, fewer, turns_left, first_inside, as_it_was}
+use Rattle.walk.proofs.TurnLaws.{farther, turns_left, as_it_was}
 use Rattle.walk.proofs.+walk.Goals as goal
 
 -- ---- tick_node: Depth and fuel, the rule of the kind, and the status on the board.
@@ -21,16 +21,10 @@ tick_node-returns-then-depth-eq0 t c = rw c.stopped.ensures (law.tick_zero _ _ _
 pub tick_node-returns-then-fuel-eq0 : goal.tick_node-returns-then-fuel-eq0
 tick_node-returns-then-fuel-eq0 t c = rw c.stopped-then-fuel-eq0.ensures (law.tick_spent _ _ _ _ _ _ _ c.if-fuel-eq0.true)
 
-pub tick_node-by_kind-result-requires : goal.tick_node-by_kind-result-requires
-tick_node-by_kind-result-requires t c = (omega (arith, c.decreases, c.if-depth-eq0.false), c.requires)
-
 pub tick_node-returns-in-Stopped : goal.tick_node-returns-in-Stopped
 tick_node-returns-in-Stopped t c =
     law.tick_on _ _ _ _ _ _ _ _ _ _ c.if-depth-eq0.false c.if-fuel-eq0.false c.kind_of-kind.ensures c.by_kind-result.ensures
     (law.seen_stopped _ _ _ _ _ c.in-Stopped.is)
-
-pub tick_node-put_seen-requires : goal.tick_node-put_seen-requires
-tick_node-put_seen-requires t c = c.requires
 
 pub tick_node-returns : goal.tick_node-returns
 tick_node-returns t c =
@@ -38,16 +32,10 @@ tick_node-returns t c =
     (law.seen_put _ _ _ _ _ _ (gave_told _ (opened c.in_default.in_default-own.keys2)) c.put_seen.ensures)
 
 -- ---- visit: A leaf at once, or the node tick.
-pub visit-visit_leaf-requires : goal.visit-visit_leaf-requires
-visit-visit_leaf-requires t c = c.requires
-
 pub visit-returns-then-is_leaf : goal.visit-returns-then-is_leaf
 visit-returns-then-is_leaf t c =
     law.visit_leaf_lem _ _ _ _ _ _ _ _ _ c.kind_of-kind.ensures (sym c.is_leaf.ensures ∙ c.if-is_leaf.true)
     c.visit_leaf.ensures
-
-pub visit-tick_node-requires : goal.visit-tick_node-requires
-visit-tick_node-requires t c = (omega (arith, c.decreases), c.requires)
 
 pub visit-returns : goal.visit-returns
 visit-returns t c =
@@ -55,36 +43,6 @@ visit-returns t c =
     c.tick_node.ensures
 
 -- ---- by_kind: The rule of each kind.
-pub by_kind-leaf-requires : goal.by_kind-leaf-requires
-by_kind-leaf-requires t c = c.requires
-
-pub by_kind-decorators-requires : goal.by_kind-decorators-requires
-by_kind-decorators-requires t c = (omega arith, c.requires)
-
-pub by_kind-if_node-requires : goal.by_kind-if_node-requires
-by_kind-if_node-requires t c = (omega arith, c.requires)
-
-pub by_kind-sequence-requires : goal.by_kind-sequence-requires
-by_kind-sequence-requires t c = (omega arith, c.requires)
-
-pub by_kind-memoryless-requires : goal.by_kind-memoryless-requires
-by_kind-memoryless-requires t c = (omega arith, c.requires)
-
-pub by_kind-while_loop-requires : goal.by_kind-while_loop-requires
-by_kind-while_loop-requires t c = (omega arith, c.requires)
-
-pub by_kind-while_all-requires : goal.by_kind-while_all-requires
-by_kind-while_all-requires t c = (omega arith, c.requires)
-
-pub by_kind-when_all-requires : goal.by_kind-when_all-requires
-by_kind-when_all-requires t c = (omega arith, c.requires)
-
-pub by_kind-after-requires : goal.by_kind-after-requires
-by_kind-after-requires t c = (omega arith, c.requires)
-
-pub by_kind-race-requires : goal.by_kind-race-requires
-by_kind-race-requires t c = (omega arith, c.requires)
-
 pub by_kind-returns-in-Wait : goal.by_kind-returns-in-Wait
 by_kind-returns-in-Wait t c = kind-law.by_leaf _ _ _ _ _ _ _ _ _ c.in-Wait.in-Wait-own.keys1 c.leaf.ensures
 
@@ -128,12 +86,6 @@ decorators-returns-then-p-ge255 t c = rw c.stopped.ensures (node_law.decorator_n
 pub decorators-loop-p-init : goal.decorators-loop-p-init
 decorators-loop-p-init t c = ((0, (omega arith, node_law.up_start _ _ _ _ _ _ _ c.if-p-ge255.false _ refl)), omega (arith, c.if-p-ge255.false), omega arith)
 
-pub decorators-offset_bounds-work-q : goal.decorators-offset_bounds-work-q
-decorators-offset_bounds-work-q t c = omega (arith, c.loop-p.invariant.1)
-
-pub decorators-bounds-work-q : goal.decorators-bounds-work-q
-decorators-bounds-work-q t c = omega (arith, c.loop-p.invariant.1)
-
 pub decorators-returns-then-below-eq0 : goal.decorators-returns-then-below-eq0
 decorators-returns-then-below-eq0 t c =
     rw c.stopped-then-below-eq0.ensures (c.loop-p.invariant.0.1.1 ∙ node_law.down_deep _ _ _ _ _ _ _ _ _
@@ -144,22 +96,10 @@ decorators-returns-then-fuel-eq0 t c =
     rw c.stopped-then-fuel-eq0.ensures (c.loop-p.invariant.0.1.1 ∙ node_law.down_spent _ _ _ _ _ _ _ _ _
     c.kind_of.ensures (sym c.decorates.ensures ∙ c.loop-p-test.true) _ c.if-fuel-eq0.true)
 
-pub decorators-overflow_sub-work : goal.decorators-overflow_sub-work
-decorators-overflow_sub-work t c = omega (arith, c.if-fuel-eq0.false)
-
 pub decorators-returns-then-q-ge255 : goal.decorators-returns-then-q-ge255
 decorators-returns-then-q-ge255 t c =
     rw c.stopped-then-q-ge255.ensures (c.loop-p.invariant.0.1.1 ∙ node_law.down_end _ _ _ _ _ _ _ _ _ c.kind_of.ensures
     (sym c.decorates.ensures ∙ c.loop-p-test.true) c.if-below-eq0.false c.if-fuel-eq0.false _ refl _ c.if-q-ge255.true)
-
-pub decorators-overflow_sub-below : goal.decorators-overflow_sub-below
-decorators-overflow_sub-below t c = omega (arith, c.if-below-eq0.false)
-
-pub decorators-overflow_add-q-in-loop-p : goal.decorators-overflow_add-q-in-loop-p
-decorators-overflow_add-q-in-loop-p t c = omega (arith, c.loop-p.invariant.1)
-
-pub decorators-loop-p-smaller : goal.decorators-loop-p-smaller
-decorators-loop-p-smaller t c = omega (arith, c.if-below-eq0.false)
 
 pub decorators-loop-p-preserved : goal.decorators-loop-p-preserved
 decorators-loop-p-preserved t c = (
@@ -175,30 +115,12 @@ decorators-loop-p-preserved t c = (
   omega (arith, c.loop-p.invariant.2, c.if-below-eq0.false),
 )
 
-pub decorators-visit-result-requires : goal.decorators-visit-result-requires
-decorators-visit-result-requires t c = (omega (arith, c.decreases, c.loop-p.invariant.2), c.loop-p.invariant.1)
-
 pub decorators-returns-in-Stopped : goal.decorators-returns-in-Stopped
 decorators-returns-in-Stopped t c = c.loop-p.invariant.0.1.1 ∙ rw c.visit-result.ensures (node_law.up_stopped _ _ _ _ _ _ _ _ _ c.in-Stopped.is)
 
 pub decorators-loop-q-init : goal.decorators-loop-q-init
 decorators-loop-q-init t c =
     ((c.loop-p.invariant.0.0, (c.loop-p.invariant.0.1.0, c.loop-p.invariant.0.1.1 ∙ rw c.visit-result.ensures)), gave_told _ (opened c.in_default.in_default-own.keys2), c.loop-p.invariant.1, omega (arith, c.loop-p.invariant.0.1.0))
-
-pub decorators-overflow_add-p : goal.decorators-overflow_add-p
-decorators-overflow_add-p t c = omega (arith, c.requires)
-
-pub decorators-overflow_sub-q : goal.decorators-overflow_sub-q
-decorators-overflow_sub-q t c = omega (arith, c.loop-q.invariant.3)
-
-pub decorators-decorated-result-requires : goal.decorators-decorated-result-requires
-decorators-decorated-result-requires t c = omega (arith, c.loop-q.invariant.2)
-
-pub decorators-put_seen-requires : goal.decorators-put_seen-requires
-decorators-put_seen-requires t c = omega (arith, c.loop-q.invariant.2)
-
-pub decorators-loop-q-smaller : goal.decorators-loop-q-smaller
-decorators-loop-q-smaller t c = omega (arith, c.loop-q.invariant.3)
 
 pub decorators-loop-q-preserved : goal.decorators-loop-q-preserved
 decorators-loop-q-preserved t c =
@@ -217,25 +139,16 @@ decorators-loop-q-preserved t c =
       omega (arith, c.loop-q-test.true),
     )
 
-pub decorators-decorated-requires : goal.decorators-decorated-requires
-decorators-decorated-requires t c = c.requires
-
 pub decorators-returns : goal.decorators-returns
 decorators-returns t c =
     let i = c.loop-q.invariant.0 in
     i.1.1 ∙ node_law.up_end _ _ _ _ _ (omega (arith, i.1.0, c.loop-q-test.false)) _ _ (c.decorated.ensures _ _)
 
 -- ---- if_node: The branch that is held, or the condition and then the branch that it chooses.
-pub if_node-child-held-requires : goal.if_node-child-held-requires
-if_node-child-held-requires t c = (omega (arith, c.requires), c.end_of-stop.ensures.1)
-
 pub if_node-returns-then-stop-held : goal.if_node-returns-then-stop-held
 if_node-returns-then-stop-held t c =
     rw c.stopped.ensures (node_law.if_lost _ _ _ _ _ _ _ c.end_of-stop.ensures.0 c.place_of-place.ensures.0 _
     c.if-place-gt0.true c.child-held.ensures.0 c.if-stop-held.true)
-
-pub if_node-visit-requires : goal.if_node-visit-requires
-if_node-visit-requires t c = due (bounds _ _ _ _ (c.decreases, c.requires) c.end_of-stop.ensures.1) c.if-stop-held.false
 
 pub if_node-returns-then-place-gt0 : goal.if_node-returns-then-place-gt0
 if_node-returns-then-place-gt0 t c =
@@ -247,34 +160,16 @@ if_node-returns-then-p-ge255 t c =
     rw c.stopped-then-p-ge255.ensures (node_law.if_none _ _ _ _ _ _ _ c.end_of-stop.ensures.0 c.place_of-place.ensures.0
     c.if-place-gt0.false c.if-p-ge255.true)
 
-pub if_node-overflow_add-p-2 : goal.if_node-overflow_add-p-2
-if_node-overflow_add-p-2 t c = omega (arith, c.requires)
-
-pub if_node-visit-condition-requires : goal.if_node-visit-condition-requires
-if_node-visit-condition-requires t c = (omega (arith, c.decreases), omega (arith, c.if-p-ge255.false))
-
 pub if_node-returns-then-chosen-eq0 : goal.if_node-returns-then-chosen-eq0
 if_node-returns-then-chosen-eq0 t c =
     node_law.if_undecided _ _ _ _ _ _ _ c.end_of-stop.ensures.0 c.place_of-place.ensures.0 c.if-place-gt0.false
     c.if-p-ge255.false _ _ _ _ c.visit-condition.ensures (sym c.choice-chosen.ensures ∙ c.if-chosen-eq0.true)
-
-pub if_node-choose-requires : goal.if_node-choose-requires
-if_node-choose-requires t c = (c.if-p-ge255.false, c.end_of-stop.ensures.1)
-
-pub if_node-overflow_add-p-3 : goal.if_node-overflow_add-p-3
-if_node-overflow_add-p-3 t c = omega (arith, c.requires)
-
-pub if_node-child-branch-requires : goal.if_node-child-branch-requires
-if_node-child-branch-requires t c = (omega (arith, c.requires), c.end_of-stop.ensures.1)
 
 pub if_node-returns-then-stop-branch : goal.if_node-returns-then-stop-branch
 if_node-returns-then-stop-branch t c =
     rw c.stopped-then-stop-branch.ensures (node_law.if_chosen_lost _ _ _ _ _ _ _ c.end_of-stop.ensures.0 c.place_of-place.ensures.0
     c.if-place-gt0.false c.if-p-ge255.false _ _ _ _ c.visit-condition.ensures _ c.choice-chosen.ensures
     c.if-chosen-eq0.false _ _ c.choose.ensures.work_after c.choose.ensures.times_after _ c.child-branch.ensures.0 c.if-stop-branch.true)
-
-pub if_node-visit-requires-2 : goal.if_node-visit-requires-2
-if_node-visit-requires-2 t c = due (bounds _ _ _ _ (c.decreases, c.requires) c.end_of-stop.ensures.1) c.if-stop-branch.false
 
 pub if_node-returns : goal.if_node-returns
 if_node-returns t c =
@@ -287,15 +182,9 @@ if_node-returns t c =
 pub loops::while_loop-returns-then-p-ge255 : goal.loops::while_loop-returns-then-p-ge255
 loops::while_loop-returns-then-p-ge255 t c = rw c.stopped.ensures (loop-law.while_none _ _ _ _ _ c.if-p-ge255.true)
 
-pub loops::while_loop-visit-condition-requires : goal.loops::while_loop-visit-condition-requires
-loops::while_loop-visit-condition-requires t c = (omega (arith, c.decreases), first_inside c.if-p-ge255.false)
-
 pub loops::while_loop-returns-in_default : goal.loops::while_loop-returns-in_default
 loops::while_loop-returns-in_default t c =
     loop-law.while_ended _ _ _ _ _ c.if-p-ge255.false _ (not_running_told c.visit-condition.result.seen (opened c.in_default.in_default-own.keys2)) _ _ _ c.visit-condition.ensures
-
-pub loops::while_loop-child-q-requires : goal.loops::while_loop-child-q-requires
-loops::while_loop-child-q-requires t c = (c.end_of-body.ensures.1, c.end_of-stop.ensures.1)
 
 pub loops::while_loop-loop-turns-init : goal.loops::while_loop-loop-turns-init
 loops::while_loop-loop-turns-init t c = (
@@ -308,40 +197,20 @@ pub loops::while_loop-returns-then-stop-q : goal.loops::while_loop-returns-then-
 loops::while_loop-returns-then-stop-q t c =
     rw c.stopped-then-stop-q.ensures (c.loop-turns.invariant.0 ∙ (loop-law.while_lost _ _ _ _ _ _ _ _ _ _ c.loop-turns-test.true c.if-stop-q.true))
 
-pub loops::while_loop-visit-result-requires : goal.loops::while_loop-visit-result-requires
-loops::while_loop-visit-result-requires t c =
-    let b = bounds t c.args.p c.args.depth c.end_of-stop.result (c.decreases, c.requires) c.end_of-stop.ensures.1 in
-    due b c.if-stop-q.false
-
 pub loops::while_loop-returns-in-Stopped : goal.loops::while_loop-returns-in-Stopped
 loops::while_loop-returns-in-Stopped t c =
     c.loop-turns.invariant.0 ∙ (loop-law.while_stopped _ _ _ _ _ _ _ _ _ c.if-stop-q.false _ _ _ _ c.loop-turns-test.true _
     c.in-Stopped.is c.visit-result.ensures)
-
-pub loops::while_loop-put_place-requires : goal.loops::while_loop-put_place-requires
-loops::while_loop-put_place-requires t c =
-    let b = bounds t c.args.p c.args.depth c.end_of-stop.result (c.decreases, c.requires) c.end_of-stop.ensures.1 in
-    b.own
 
 pub loops::while_loop-returns-in-Running-seen : goal.loops::while_loop-returns-in-Running-seen
 loops::while_loop-returns-in-Running-seen t c =
     rw c.waiting.ensures (c.loop-turns.invariant.0 ∙ (loop-law.while_running _ _ _ _ _ _ _ _ _ c.if-stop-q.false _ _ _ _ c.loop-turns-test.true
     (told_as c.visit-result.ensures c.in-Running-seen.is) _ c.put_place.ensures))
 
-pub loops::while_loop-put_place-requires-in-Failure : goal.loops::while_loop-put_place-requires-in-Failure
-loops::while_loop-put_place-requires-in-Failure t c =
-    let b = bounds t c.args.p c.args.depth c.end_of-stop.result (c.decreases, c.requires) c.end_of-stop.ensures.1 in
-    b.own
-
 pub loops::while_loop-returns-in-Failure : goal.loops::while_loop-returns-in-Failure
 loops::while_loop-returns-in-Failure t c =
     c.loop-turns.invariant.0 ∙ (loop-law.while_failed _ _ _ _ _ _ _ _ _ c.if-stop-q.false _ _ _ _ c.loop-turns-test.true _
     c.in-Failure.is c.visit-result.ensures _ c.put_place-in-Failure.ensures)
-
-pub loops::while_loop-put_place-requires-then-not-updates : goal.loops::while_loop-put_place-requires-then-not-updates
-loops::while_loop-put_place-requires-then-not-updates t c =
-    let b = bounds t c.args.p c.args.depth c.end_of-stop.result (c.decreases, c.requires) c.end_of-stop.ensures.1 in
-    b.own
 
 pub loops::while_loop-returns-then-not-updates : goal.loops::while_loop-returns-then-not-updates
 loops::while_loop-returns-then-not-updates t c =
@@ -349,35 +218,15 @@ loops::while_loop-returns-then-not-updates t c =
     (told_as c.visit-result.ensures c.in-Success.is) (sym c.updates.ensures ∙ c.if-not-updates.true) _
     c.put_place-then-not-updates.ensures))
 
-pub loops::while_loop-end_of-next-requires : goal.loops::while_loop-end_of-next-requires
-loops::while_loop-end_of-next-requires t c =
-    let b = bounds t c.args.p c.args.depth c.end_of-stop.result (c.decreases, c.requires) c.end_of-stop.ensures.1 in
-    within b c.if-stop-q.false
-
-pub loops::while_loop-index_after-i-requires : goal.loops::while_loop-index_after-i-requires
-loops::while_loop-index_after-i-requires t c =
-    let b = bounds t c.args.p c.args.depth c.end_of-stop.result (c.decreases, c.requires) c.end_of-stop.ensures.1 in
-    small b c.if-stop-q.false c.loop-turns.invariant.1
-
-pub loops::while_loop-move_on-q-requires : goal.loops::while_loop-move_on-q-requires
-loops::while_loop-move_on-q-requires t c = (c.end_of-next.ensures.1, c.end_of-body.ensures.1)
-
-pub loops::while_loop-overflow_sub-turns : goal.loops::while_loop-overflow_sub-turns
-loops::while_loop-overflow_sub-turns t c = omega (arith, c.loop-turns-test.true)
-
-pub loops::while_loop-loop-turns-smaller : goal.loops::while_loop-loop-turns-smaller
-loops::while_loop-loop-turns-smaller t c = fewer c.loop-turns-test.true
-
 pub loops::while_loop-loop-turns-preserved : goal.loops::while_loop-loop-turns-preserved
-loops::while_loop-loop-turns-preserved t c =
-    let b = bounds t c.args.p c.args.depth c.end_of-stop.result (c.decreases, c.requires) c.end_of-stop.ensures.1 in (
-      c.loop-turns.invariant.0 ∙ loop-law.while_again _ _ _ _ _ _ _ _ _ c.if-stop-q.false _ _ _ _ _ _ c.end_of-next.ensures.0 c.index_after-i.ensures
-          c.move_on-q.ensures.value _ _ c.move_on-q.ensures.work_after c.move_on-q.ensures.times_after _ c.loop-turns-test.true
-          (told_as c.visit-result.ensures c.in-Success.is) (sym c.updates.ensures ∙ c.if-not-updates.false) _ refl,
-      rw
-          (c.index_after-i.ensures, c.move_on-q.ensures.value)
-          (loop-law.index_within _ _ _ _ _ c.loop-turns.invariant.1 (c.end_of-next.ensures.2 (inside b c.if-stop-q.false))),
-    )
+loops::while_loop-loop-turns-preserved t c = (
+  c.loop-turns.invariant.0 ∙ loop-law.while_again _ _ _ _ _ _ _ _ _ c.if-stop-q.false _ _ _ _ _ _ c.end_of-next.ensures.0 c.index_after-i.ensures
+      c.move_on-q.ensures.value _ _ c.move_on-q.ensures.work_after c.move_on-q.ensures.times_after _ c.loop-turns-test.true
+      (told_as c.visit-result.ensures c.in-Success.is) (sym c.updates.ensures ∙ c.if-not-updates.false) _ refl,
+  rw
+      (c.index_after-i.ensures, c.move_on-q.ensures.value)
+      (loop-law.index_within _ _ _ _ _ c.loop-turns.invariant.1 (c.end_of-next.ensures.2 (omega arith))),
+)
 
 pub loops::while_loop-returns : goal.loops::while_loop-returns
 loops::while_loop-returns t c = rw c.stopped-2.ensures (c.loop-turns.invariant.0 ∙ (loop-law.while_over _ _ _ _ _ _ _ _ _ _ (omega (arith, c.loop-turns-test.false))))
@@ -393,24 +242,10 @@ loops::while_all-loop-turns-init t c = (
   omega (arith, c.place_of-i.ensures.1),
 )
 
-pub loops::while_all-overflow_sub-turns : goal.loops::while_all-overflow_sub-turns
-loops::while_all-overflow_sub-turns t c = omega (arith, c.loop-turns-test.true)
-
-pub loops::while_all-overflow_add-p-then-i-eq0 : goal.loops::while_all-overflow_add-p-then-i-eq0
-loops::while_all-overflow_add-p-then-i-eq0 t c = omega (arith, c.if-p-ge255.false)
-
-pub loops::while_all-visit-condition-requires : goal.loops::while_all-visit-condition-requires
-loops::while_all-visit-condition-requires t c =
-    let b = bounds t c.args.p c.args.depth c.end_of-stop.result (c.decreases, c.requires) c.end_of-stop.ensures.1 in
-    (b.falls, first_inside c.if-p-ge255.false)
-
 pub loops::while_all-returns-in-Stopped : goal.loops::while_all-returns-in-Stopped
 loops::while_all-returns-in-Stopped t c =
     c.loop-turns.invariant.0 ∙ loop-law.all_due_stopped _ _ _ _ _ _ _ _ _ _ _ c.loop-turns-test.true c.if-i-eq0.true _
     c.in-Stopped.is _ _ _ c.visit-condition.ensures
-
-pub loops::while_all-loop-turns-smaller-in-Running : goal.loops::while_all-loop-turns-smaller-in-Running
-loops::while_all-loop-turns-smaller-in-Running t c = fewer c.loop-turns-test.true
 
 pub loops::while_all-loop-turns-preserved-in-Running : goal.loops::while_all-loop-turns-preserved-in-Running
 loops::while_all-loop-turns-preserved-in-Running t c = (
@@ -418,11 +253,6 @@ loops::while_all-loop-turns-preserved-in-Running t c = (
       (told_as c.visit-condition.ensures c.in-Running.is) _ refl,
   omega arith,
 )
-
-pub loops::while_all-put_place-requires : goal.loops::while_all-put_place-requires
-loops::while_all-put_place-requires t c =
-    let b = bounds t c.args.p c.args.depth c.end_of-stop.result (c.decreases, c.requires) c.end_of-stop.ensures.1 in
-    b.own
 
 pub loops::while_all-returns-in_default : goal.loops::while_all-returns-in_default
 loops::while_all-returns-in_default t c =
@@ -435,62 +265,30 @@ loops::while_all-returns-then-stop-q t c =
     rw c.stopped-then-stop-q.ensures
     (c.loop-turns.invariant.0 ∙ loop-law.all_lost _ _ _ _ _ _ _ _ _ _ c.if-i-eq0.false _ c.loop-turns-test.true c.if-stop-q.true)
 
-pub loops::while_all-visit-result-requires : goal.loops::while_all-visit-result-requires
-loops::while_all-visit-result-requires t c =
-    let b = bounds t c.args.p c.args.depth c.end_of-stop.result (c.decreases, c.requires) c.end_of-stop.ensures.1 in
-    due b c.if-stop-q.false
-
 pub loops::while_all-returns-in-Stopped-seen : goal.loops::while_all-returns-in-Stopped-seen
 loops::while_all-returns-in-Stopped-seen t c =
     c.loop-turns.invariant.0 ∙ loop-law.all_stopped _ _ _ _ _ _ _ _ _ _ c.if-i-eq0.false c.if-stop-q.false _ _ _ _ c.loop-turns-test.true _
     c.in-Stopped-seen.is c.visit-result.ensures
-
-pub loops::while_all-put_place-requires-in-Running-seen : goal.loops::while_all-put_place-requires-in-Running-seen
-loops::while_all-put_place-requires-in-Running-seen t c =
-    let b = bounds t c.args.p c.args.depth c.end_of-stop.result (c.decreases, c.requires) c.end_of-stop.ensures.1 in
-    b.own
 
 pub loops::while_all-returns-in-Running-seen : goal.loops::while_all-returns-in-Running-seen
 loops::while_all-returns-in-Running-seen t c =
     rw c.waiting.ensures (c.loop-turns.invariant.0 ∙ loop-law.all_running _ _ _ _ _ _ _ _ _ _ c.if-i-eq0.false c.if-stop-q.false _ _ _ _
     c.loop-turns-test.true (told_as c.visit-result.ensures c.in-Running-seen.is) _ c.put_place-in-Running-seen.ensures)
 
-pub loops::while_all-put_place-requires-in-Failure : goal.loops::while_all-put_place-requires-in-Failure
-loops::while_all-put_place-requires-in-Failure t c =
-    let b = bounds t c.args.p c.args.depth c.end_of-stop.result (c.decreases, c.requires) c.end_of-stop.ensures.1 in
-    b.own
-
 pub loops::while_all-returns-in-Failure : goal.loops::while_all-returns-in-Failure
 loops::while_all-returns-in-Failure t c =
     c.loop-turns.invariant.0 ∙ loop-law.all_failed _ _ _ _ _ _ _ _ _ _ c.if-i-eq0.false c.if-stop-q.false _ _ _ _ c.loop-turns-test.true _
     c.in-Failure.is c.visit-result.ensures _ c.put_place-in-Failure.ensures
 
-pub loops::while_all-end_of-next-requires : goal.loops::while_all-end_of-next-requires
-loops::while_all-end_of-next-requires t c =
-    let b = bounds t c.args.p c.args.depth c.end_of-stop.result (c.decreases, c.requires) c.end_of-stop.ensures.1 in
-    within b c.if-stop-q.false
-
-pub loops::while_all-index_after-i-requires : goal.loops::while_all-index_after-i-requires
-loops::while_all-index_after-i-requires t c =
-    let b = bounds t c.args.p c.args.depth c.end_of-stop.result (c.decreases, c.requires) c.end_of-stop.ensures.1 in
-    small b c.if-stop-q.false c.loop-turns.invariant.1
-
-pub loops::while_all-move_on-q-requires : goal.loops::while_all-move_on-q-requires
-loops::while_all-move_on-q-requires t c = (c.end_of-next.ensures.1, c.end_of-body.ensures.1)
-
-pub loops::while_all-loop-turns-smaller : goal.loops::while_all-loop-turns-smaller
-loops::while_all-loop-turns-smaller t c = fewer c.loop-turns-test.true
-
 pub loops::while_all-loop-turns-preserved : goal.loops::while_all-loop-turns-preserved
-loops::while_all-loop-turns-preserved t c =
-    let b = bounds t c.args.p c.args.depth c.end_of-stop.result (c.decreases, c.requires) c.end_of-stop.ensures.1 in (
-      c.loop-turns.invariant.0 ∙ loop-law.all_again _ _ _ _ _ _ _ _ _ _ c.if-i-eq0.false c.if-stop-q.false _ _ _ _ _ _ c.end_of-next.ensures.0
-          c.index_after-i.ensures c.move_on-q.ensures.value _ _ c.move_on-q.ensures.work_after c.move_on-q.ensures.times_after _
-          c.loop-turns-test.true (told_as c.visit-result.ensures c.in-Success.is) _ refl,
-      rw
-          (c.index_after-i.ensures, c.move_on-q.ensures.value)
-          (loop-law.index_within _ _ _ _ _ c.loop-turns.invariant.1 (c.end_of-next.ensures.2 (inside b c.if-stop-q.false))),
-    )
+loops::while_all-loop-turns-preserved t c = (
+  c.loop-turns.invariant.0 ∙ loop-law.all_again _ _ _ _ _ _ _ _ _ _ c.if-i-eq0.false c.if-stop-q.false _ _ _ _ _ _ c.end_of-next.ensures.0
+      c.index_after-i.ensures c.move_on-q.ensures.value _ _ c.move_on-q.ensures.work_after c.move_on-q.ensures.times_after _
+      c.loop-turns-test.true (told_as c.visit-result.ensures c.in-Success.is) _ refl,
+  rw
+      (c.index_after-i.ensures, c.move_on-q.ensures.value)
+      (loop-law.index_within _ _ _ _ _ c.loop-turns.invariant.1 (c.end_of-next.ensures.2 (omega arith))),
+)
 
 pub loops::while_all-returns : goal.loops::while_all-returns
 loops::while_all-returns t c = rw c.stopped-2.ensures (c.loop-turns.invariant.0 ∙ loop-law.all_over _ _ _ _ _ _ _ _ _ _ _ (omega (arith, c.loop-turns-test.false)))
@@ -509,31 +307,16 @@ sequence::sequence-loop-result-init t c = (
   c.if-stop-q.false,
 )
 
-pub sequence::sequence-visit-result-requires : goal.sequence::sequence-visit-result-requires
-sequence::sequence-visit-result-requires t c =
-    let b = bounds t c.args.p c.args.depth c.end_of-stop.result (c.decreases, c.requires) c.end_of-stop.ensures.1 in
-    due b c.loop-result.invariant.2
-
 pub sequence::sequence-returns-in-Stopped : goal.sequence::sequence-returns-in-Stopped
 sequence::sequence-returns-in-Stopped t c =
     let told = sym c.turned.ensures ∙ c.in-Stopped.is in
     turn_out_lem _ _ _ _ _ _ _ (c.loop-result.invariant.0 _ (λ k h. seq-law.seq_stopped _ _ _ _ _ _ _ _ _ _ _ k (turns_left c.loop-result.invariant.2 h)
     (turn_visit _ _ _ _ _ _ _ c.visit-result.ensures told))) told
 
-pub sequence::sequence-put_place-requires : goal.sequence::sequence-put_place-requires
-sequence::sequence-put_place-requires t c =
-    let b = bounds t c.args.p c.args.depth c.end_of-stop.result (c.decreases, c.requires) c.end_of-stop.ensures.1 in
-    b.own
-
 pub sequence::sequence-returns-in-Running : goal.sequence::sequence-returns-in-Running
 sequence::sequence-returns-in-Running t c =
     rw c.waiting-in-Running.ensures (turn_out_lem _ _ _ _ _ _ _ (c.loop-result.invariant.0 _ (λ k h. seq-law.seq_running _ _ _ _ _ _ _ _ _ _ _ k (turns_left c.loop-result.invariant.2 h)
     (turn_visit _ _ _ _ _ _ _ c.visit-result.ensures (sym c.turned.ensures ∙ c.in-Running.is)) _ c.put_place.ensures)) refl)
-
-pub sequence::sequence-put_place-requires-in-Failure : goal.sequence::sequence-put_place-requires-in-Failure
-sequence::sequence-put_place-requires-in-Failure t c =
-    let b = bounds t c.args.p c.args.depth c.end_of-stop.result (c.decreases, c.requires) c.end_of-stop.ensures.1 in
-    b.own
 
 pub sequence::sequence-returns-in-Failure : goal.sequence::sequence-returns-in-Failure
 sequence::sequence-returns-in-Failure t c =
@@ -541,42 +324,11 @@ sequence::sequence-returns-in-Failure t c =
     turn_out_lem _ _ _ _ _ _ _ (c.loop-result.invariant.0 _ (λ k h. seq-law.seq_failed _ _ _ _ _ _ _ _ _ _ _ k (turns_left c.loop-result.invariant.2 h)
     (turn_visit _ _ _ _ _ _ _ c.visit-result.ensures told) _ c.put_place-in-Failure.ensures)) told
 
-pub sequence::sequence-end_of-next-requires : goal.sequence::sequence-end_of-next-requires
-sequence::sequence-end_of-next-requires t c =
-    let b = bounds t c.args.p c.args.depth c.end_of-stop.result (c.decreases, c.requires) c.end_of-stop.ensures.1 in
-    within b c.loop-result.invariant.2
-
-pub sequence::sequence-up_on-requires : goal.sequence::sequence-up_on-requires
-sequence::sequence-up_on-requires t c =
-    let b = bounds t c.args.p c.args.depth c.end_of-stop.result (c.decreases, c.requires) c.end_of-stop.ensures.1 in
-    small b c.loop-result.invariant.2 c.loop-result.invariant.1
-
-pub sequence::sequence-put_place-requires-then-stop-next : goal.sequence::sequence-put_place-requires-then-stop-next
-sequence::sequence-put_place-requires-then-stop-next t c =
-    let b = bounds t c.args.p c.args.depth c.end_of-stop.result (c.decreases, c.requires) c.end_of-stop.ensures.1 in
-    b.own
-
 pub sequence::sequence-returns-then-stop-next : goal.sequence::sequence-returns-then-stop-next
 sequence::sequence-returns-then-stop-next t c =
     let told = sym c.turned.ensures ∙ c.in-Success.is in
     turn_out_lem _ _ _ _ _ _ _ (c.loop-result.invariant.0 _ (λ k h. seq-law.seq_last _ _ _ _ _ _ _ _ _ _ _ (turn_visit _ _ _ _ _ _ _ c.visit-result.ensures told) _ c.end_of-next.ensures.0 k
     (turns_left c.loop-result.invariant.2 h) c.if-stop-next.true _ c.updates-update.ensures _ c.up_on.ensures _ c.put_place-then-stop-next.ensures)) told
-
-pub sequence::sequence-end_of-behind-requires : goal.sequence::sequence-end_of-behind-requires
-sequence::sequence-end_of-behind-requires t c = c.end_of-next.ensures.1
-
-pub sequence::sequence-fresh-requires : goal.sequence::sequence-fresh-requires
-sequence::sequence-fresh-requires t c = c.end_of-behind.ensures.1
-
-pub sequence::sequence-overflow_add-i : goal.sequence::sequence-overflow_add-i
-sequence::sequence-overflow_add-i t c =
-    let b = bounds t c.args.p c.args.depth c.end_of-stop.result (c.decreases, c.requires) c.end_of-stop.ensures.1 in
-    omega (arith, small b c.loop-result.invariant.2 c.loop-result.invariant.1)
-
-pub sequence::sequence-put_place-requires-then-not-update : goal.sequence::sequence-put_place-requires-then-not-update
-sequence::sequence-put_place-requires-then-not-update t c =
-    let b = bounds t c.args.p c.args.depth c.end_of-stop.result (c.decreases, c.requires) c.end_of-stop.ensures.1 in
-    b.own
 
 pub sequence::sequence-returns-then-not-update : goal.sequence::sequence-returns-then-not-update
 sequence::sequence-returns-then-not-update t c =
@@ -585,15 +337,9 @@ sequence::sequence-returns-then-not-update t c =
     c.if-stop-next.false _ c.end_of-behind.ensures.0 _ _ c.fresh.ensures.work_after c.fresh.ensures.times_after k (turns_left c.loop-result.invariant.2 h)
     (sym c.updates-update.ensures ∙ c.if-not-update.true) _ c.put_place-then-not-update.ensures)) refl)
 
-pub sequence::sequence-loop-result-smaller : goal.sequence::sequence-loop-result-smaller
-sequence::sequence-loop-result-smaller t c =
-    let b = bounds t c.args.p c.args.depth c.end_of-stop.result (c.decreases, c.requires) c.end_of-stop.ensures.1 in
-    closer c.loop-result.invariant.2 (c.end_of-next.ensures.2 (inside b c.loop-result.invariant.2))
-
 pub sequence::sequence-loop-result-preserved : goal.sequence::sequence-loop-result-preserved
 sequence::sequence-loop-result-preserved t c =
-    let b = bounds t c.args.p c.args.depth c.end_of-stop.result (c.decreases, c.requires) c.end_of-stop.ensures.1 in
-    let n = c.end_of-next.ensures.2 (inside b c.loop-result.invariant.2) in (
+    let n = c.end_of-next.ensures.2 (omega arith) in (
       (λ r e. c.loop-result.invariant.0 r (λ k h. seq-law.seq_again _ _ _ _ _ _ _ _ _ _ _
           (turn_visit _ _ _ _ _ _ _ c.visit-result.ensures (sym c.turned.ensures ∙ c.in-Success.is)) _ c.end_of-next.ensures.0
           c.if-stop-next.false _ c.end_of-behind.ensures.0 _ _ c.fresh.ensures.work_after c.fresh.ensures.times_after k h n
@@ -607,25 +353,12 @@ pub sequence::memoryless-returns-then-stop-q : goal.sequence::memoryless-returns
 sequence::memoryless-returns-then-stop-q t c =
     turn_out_lem _ _ _ _ _ _ _ (seq-law.mem_empty _ _ _ _ _ _ c.end_of-stop.ensures.0 c.if-stop-q.true _ c.passed.ensures) (turned_back _ _ _ (sym c.turned.ensures))
 
-pub sequence::memoryless-fresh-requires : goal.sequence::memoryless-fresh-requires
-sequence::memoryless-fresh-requires t c = c.end_of-stop.ensures.1
-
 pub sequence::memoryless-loop-rest-init : goal.sequence::memoryless-loop-rest-init
 sequence::memoryless-loop-rest-init t c = (
   (λ r e. seq-law.mem_start _ _ _ _ _ _ c.end_of-stop.ensures.0 c.if-stop-q.false _ _ c.fresh.ensures.work_after c.fresh.ensures.times_after _
       (e 256 (omega (arith, c.end_of-stop.ensures.1)))),
   c.if-stop-q.false,
 )
-
-pub sequence::memoryless-end_of-next-requires : goal.sequence::memoryless-end_of-next-requires
-sequence::memoryless-end_of-next-requires t c =
-    let b = bounds t c.args.p c.args.depth c.end_of-stop.result (c.decreases, c.requires) c.end_of-stop.ensures.1 in
-    within b c.loop-rest.invariant.1
-
-pub sequence::memoryless-visit-result-requires : goal.sequence::memoryless-visit-result-requires
-sequence::memoryless-visit-result-requires t c =
-    let b = bounds t c.args.p c.args.depth c.end_of-stop.result (c.decreases, c.requires) c.end_of-stop.ensures.1 in
-    due b c.loop-rest.invariant.1
 
 pub sequence::memoryless-returns-in-Stopped : goal.sequence::memoryless-returns-in-Stopped
 sequence::memoryless-returns-in-Stopped t c =
@@ -650,22 +383,13 @@ sequence::memoryless-returns-then-stop-next t c =
     turn_out_lem _ _ _ _ _ _ _ (c.loop-rest.invariant.0 _ (λ k h. seq-law.mem_last _ _ _ _ _ _ _ _ _ (turn_visit _ _ _ _ _ _ _ c.visit-result.ensures told) _
     c.end_of-next.ensures.0 k (turns_left c.loop-rest.invariant.1 h) c.if-stop-next.true _ c.passed-then-stop-next.ensures)) told
 
-pub sequence::memoryless-fresh-requires-in-Success : goal.sequence::memoryless-fresh-requires-in-Success
-sequence::memoryless-fresh-requires-in-Success t c = c.end_of-next.ensures.1
-
-pub sequence::memoryless-loop-rest-smaller : goal.sequence::memoryless-loop-rest-smaller
-sequence::memoryless-loop-rest-smaller t c =
-    let b = bounds t c.args.p c.args.depth c.end_of-stop.result (c.decreases, c.requires) c.end_of-stop.ensures.1 in
-    closer c.loop-rest.invariant.1 (c.end_of-next.ensures.2 (inside b c.loop-rest.invariant.1))
-
 pub sequence::memoryless-loop-rest-preserved : goal.sequence::memoryless-loop-rest-preserved
-sequence::memoryless-loop-rest-preserved t c =
-    let b = bounds t c.args.p c.args.depth c.end_of-stop.result (c.decreases, c.requires) c.end_of-stop.ensures.1 in (
-      (λ r e. c.loop-rest.invariant.0 r (λ k h. seq-law.mem_again _ _ _ _ _ _ _ _ _
-          (turn_visit _ _ _ _ _ _ _ c.visit-result.ensures (sym c.turned-in-loop-rest.ensures ∙ c.in-Success.is)) _ c.end_of-next.ensures.0 k h
-          (c.end_of-next.ensures.2 (inside b c.loop-rest.invariant.1)) c.if-stop-next.false _ _ c.fresh-in-Success.ensures.work_after c.fresh-in-Success.ensures.times_after r e)),
-      c.if-stop-next.false,
-    )
+sequence::memoryless-loop-rest-preserved t c = (
+  (λ r e. c.loop-rest.invariant.0 r (λ k h. seq-law.mem_again _ _ _ _ _ _ _ _ _
+      (turn_visit _ _ _ _ _ _ _ c.visit-result.ensures (sym c.turned-in-loop-rest.ensures ∙ c.in-Success.is)) _ c.end_of-next.ensures.0 k h
+      (c.end_of-next.ensures.2 (omega arith)) c.if-stop-next.false _ _ c.fresh-in-Success.ensures.work_after c.fresh-in-Success.ensures.times_after r e)),
+  c.if-stop-next.false,
+)
 
 -- ---- when_all: The turns that are left lead to what the driver is to give.
 pub when_all::when_all-returns-then-stop-q : goal.when_all::when_all-returns-then-stop-q
@@ -677,38 +401,6 @@ when_all::when_all-returns-then-stop-q t c =
 pub when_all::when_all-loop-q-init : goal.when_all::when_all-loop-q-init
 unfolding of_bits
 when_all::when_all-loop-q-init t c = (λ r e. when-law.when_start _ _ _ _ _ _ c.end_of-stop.ensures.0 _ c.if-stop-q.false _ (e 256 (omega (arith, c.end_of-stop.ensures.1))))
-
-pub when_all::when_all-end_of-next-requires : goal.when_all::when_all-end_of-next-requires
-when_all::when_all-end_of-next-requires t c =
-    let b = bounds t c.args.p c.args.depth c.end_of-stop.result (c.decreases, c.requires) c.end_of-stop.ensures.1 in
-    within b c.loop-q-test.true
-
-pub when_all::when_all-offset_bounds-work-q : goal.when_all::when_all-offset_bounds-work-q
-unfolding of_bits
-when_all::when_all-offset_bounds-work-q t c =
-    let b = bounds t c.args.p c.args.depth c.end_of-stop.result (c.decreases, c.requires) c.end_of-stop.ensures.1 in
-    omega (arith, inside b c.loop-q-test.true)
-
-pub when_all::when_all-bounds-work-q : goal.when_all::when_all-bounds-work-q
-unfolding of_bits
-when_all::when_all-bounds-work-q t c =
-    let b = bounds t c.args.p c.args.depth c.end_of-stop.result (c.decreases, c.requires) c.end_of-stop.ensures.1 in
-    omega (arith, inside b c.loop-q-test.true)
-
-pub when_all::when_all-keeps_waiting-requires : goal.when_all::when_all-keeps_waiting-requires
-when_all::when_all-keeps_waiting-requires t c =
-    let b = bounds t c.args.p c.args.depth c.end_of-stop.result (c.decreases, c.requires) c.end_of-stop.ensures.1 in
-    inside b c.loop-q-test.true
-
-pub when_all::when_all-past_waits-next-requires : goal.when_all::when_all-past_waits-next-requires
-when_all::when_all-past_waits-next-requires t c =
-    let b = bounds t c.args.p c.args.depth c.end_of-stop.result (c.decreases, c.requires) c.end_of-stop.ensures.1 in
-    (c.end_of-next.ensures.1, b.end)
-
-pub when_all::when_all-visit-result-requires : goal.when_all::when_all-visit-result-requires
-when_all::when_all-visit-result-requires t c =
-    let b = bounds t c.args.p c.args.depth c.end_of-stop.result (c.decreases, c.requires) c.end_of-stop.ensures.1 in
-    due b c.loop-q-test.true
 
 pub when_all::when_all-returns-in-Stopped : goal.when_all::when_all-returns-in-Stopped
 unfolding of_bits
@@ -726,81 +418,47 @@ when_all::when_all-returns-in-Failure t c =
     c.mark_of.ensures.0 c.if-mark_of-eq0.true _ _ _ k h (as_it_was (turning _ (visiting binary64 _ _)) _ _ (c.keeps_waiting.ensures.work_unchanged c.if-keeps_waiting.false)
     (turn_visit _ _ _ _ _ _ _ c.visit-result.ensures told)))) told
 
-pub when_all::when_all-fresh-requires : goal.when_all::when_all-fresh-requires
-when_all::when_all-fresh-requires t c = c.end_of-next.ensures.1
-
-pub when_all::when_all-put_mark-requires : goal.when_all::when_all-put_mark-requires
-when_all::when_all-put_mark-requires t c =
-    let b = bounds t c.args.p c.args.depth c.end_of-stop.result (c.decreases, c.requires) c.end_of-stop.ensures.1 in
-    inside b c.loop-q-test.true
-
 pub when_all::when_all-loop-q-smaller-then-next-eq2 : goal.when_all::when_all-loop-q-smaller-then-next-eq2
 when_all::when_all-loop-q-smaller-then-next-eq2 t c =
-    let b = bounds t c.args.p c.args.depth c.end_of-stop.result (c.decreases, c.requires) c.end_of-stop.ensures.1 in
-    farther c.loop-q-test.true (c.end_of-next.ensures.2 (inside b c.loop-q-test.true)) (passed_on c.past_waits-next.ensures.waiting)
+    farther c.loop-q-test.true (c.end_of-next.ensures.2 (omega arith)) (passed_on c.past_waits-next.ensures.waiting)
 
 pub when_all::when_all-loop-q-preserved-then-next-eq2 : goal.when_all::when_all-loop-q-preserved-then-next-eq2
 unfolding of_bits
 when_all::when_all-loop-q-preserved-then-next-eq2 t c =
-    let b = bounds t c.args.p c.args.depth c.end_of-stop.result (c.decreases, c.requires) c.end_of-stop.ensures.1 in
     (λ r e. c.loop-q.invariant r (λ k h. when-law.when_running _ _ _ _ _ _ _ _ c.loop-q-test.true _ c.mark_of.ensures.0 c.if-mark_of-eq0.true _ _ _ k h
     (turn_visit _ _ _ _ _ _ _ (c.keeps_waiting.ensures.times_value c.if-keeps_waiting.true _ _ _) refl) _ c.end_of-next.ensures.0
-    (c.end_of-next.ensures.2 (inside b c.loop-q-test.true)) r
+    (c.end_of-next.ensures.2 (omega arith)) r
     (when-law.when_waiting _ _ _ _ _ _ _ _ c.past_waits-next.ensures.waiting c.past_waits-next.ensures.upper_bound r e)))
-
-pub when_all::when_all-loop-q-smaller-else-next-eq2 : goal.when_all::when_all-loop-q-smaller-else-next-eq2
-when_all::when_all-loop-q-smaller-else-next-eq2 t c =
-    let b = bounds t c.args.p c.args.depth c.end_of-stop.result (c.decreases, c.requires) c.end_of-stop.ensures.1 in
-    closer c.loop-q-test.true (c.end_of-next.ensures.2 (inside b c.loop-q-test.true))
 
 pub when_all::when_all-loop-q-preserved-else-next-eq2 : goal.when_all::when_all-loop-q-preserved-else-next-eq2
 unfolding of_bits
 when_all::when_all-loop-q-preserved-else-next-eq2 t c =
-    let b = bounds t c.args.p c.args.depth c.end_of-stop.result (c.decreases, c.requires) c.end_of-stop.ensures.1 in
     (λ r e. c.loop-q.invariant r (λ k h. when-law.when_running _ _ _ _ _ _ _ _ c.loop-q-test.true _ c.mark_of.ensures.0 c.if-mark_of-eq0.true _ _ _ k h
     (turn_visit _ _ _ _ _ _ _ (c.keeps_waiting.ensures.times_value c.if-keeps_waiting.true _ _ _) refl) _ c.end_of-next.ensures.0
-    (c.end_of-next.ensures.2 (inside b c.loop-q-test.true)) r e))
-
-pub when_all::when_all-loop-q-smaller-in-Running : goal.when_all::when_all-loop-q-smaller-in-Running
-when_all::when_all-loop-q-smaller-in-Running t c =
-    let b = bounds t c.args.p c.args.depth c.end_of-stop.result (c.decreases, c.requires) c.end_of-stop.ensures.1 in
-    closer c.loop-q-test.true (c.end_of-next.ensures.2 (inside b c.loop-q-test.true))
+    (c.end_of-next.ensures.2 (omega arith)) r e))
 
 pub when_all::when_all-loop-q-preserved-in-Running : goal.when_all::when_all-loop-q-preserved-in-Running
 unfolding of_bits
 when_all::when_all-loop-q-preserved-in-Running t c =
-    let b = bounds t c.args.p c.args.depth c.end_of-stop.result (c.decreases, c.requires) c.end_of-stop.ensures.1 in
     (λ r e. c.loop-q.invariant r (λ k h. when-law.when_running _ _ _ _ _ _ _ _ c.loop-q-test.true _ c.mark_of.ensures.0 c.if-mark_of-eq0.true _ _ _ k h
     (as_it_was (turning _ (visiting binary64 _ _)) _ _ (c.keeps_waiting.ensures.work_unchanged c.if-keeps_waiting.false)
     (turn_visit _ _ _ _ _ _ _ c.visit-result.ensures (sym c.turned-else-keeps_waiting.ensures ∙ c.in-Running.is))) _ c.end_of-next.ensures.0
-    (c.end_of-next.ensures.2 (inside b c.loop-q-test.true)) r e))
-
-pub when_all::when_all-loop-q-smaller-in-Success : goal.when_all::when_all-loop-q-smaller-in-Success
-when_all::when_all-loop-q-smaller-in-Success t c =
-    let b = bounds t c.args.p c.args.depth c.end_of-stop.result (c.decreases, c.requires) c.end_of-stop.ensures.1 in
-    closer c.loop-q-test.true (c.end_of-next.ensures.2 (inside b c.loop-q-test.true))
+    (c.end_of-next.ensures.2 (omega arith)) r e))
 
 pub when_all::when_all-loop-q-preserved-in-Success : goal.when_all::when_all-loop-q-preserved-in-Success
 unfolding of_bits
 when_all::when_all-loop-q-preserved-in-Success t c =
-    let b = bounds t c.args.p c.args.depth c.end_of-stop.result (c.decreases, c.requires) c.end_of-stop.ensures.1 in
     (λ r e. c.loop-q.invariant r (λ k h. when-law.when_success _ _ _ _ _ _ _ _ c.loop-q-test.true _ c.mark_of.ensures.0 c.if-mark_of-eq0.true _ _ _ k h
     (as_it_was (turning _ (visiting binary64 _ _)) _ _ (c.keeps_waiting.ensures.work_unchanged c.if-keeps_waiting.false)
     (turn_visit _ _ _ _ _ _ _ c.visit-result.ensures (sym c.turned-else-keeps_waiting.ensures ∙ c.in-Success.is))) _ c.end_of-next.ensures.0
-    (c.end_of-next.ensures.2 (inside b c.loop-q-test.true)) _ _ c.fresh.ensures.work_after c.fresh.ensures.times_after _ c.put_mark.ensures _
+    (c.end_of-next.ensures.2 (omega arith)) _ _ c.fresh.ensures.work_after c.fresh.ensures.times_after _ c.put_mark.ensures _
     c.smaller-least.ensures r e))
-
-pub when_all::when_all-loop-q-smaller : goal.when_all::when_all-loop-q-smaller
-when_all::when_all-loop-q-smaller t c =
-    let b = bounds t c.args.p c.args.depth c.end_of-stop.result (c.decreases, c.requires) c.end_of-stop.ensures.1 in
-    closer c.loop-q-test.true (c.end_of-next.ensures.2 (inside b c.loop-q-test.true))
 
 pub when_all::when_all-loop-q-preserved : goal.when_all::when_all-loop-q-preserved
 unfolding of_bits
 when_all::when_all-loop-q-preserved t c =
-    let b = bounds t c.args.p c.args.depth c.end_of-stop.result (c.decreases, c.requires) c.end_of-stop.ensures.1 in
     (λ r e. c.loop-q.invariant r (λ k h. when-law.when_marked _ _ _ _ _ _ _ _ c.loop-q-test.true _ c.mark_of.ensures.0 k h c.if-mark_of-eq0.false _ c.end_of-next.ensures.0
-    (c.end_of-next.ensures.2 (inside b c.loop-q-test.true)) r e))
+    (c.end_of-next.ensures.2 (omega arith)) r e))
 
 pub when_all::when_all-returns-then-all_marked : goal.when_all::when_all-returns-then-all_marked
 unfolding of_bits
@@ -818,48 +476,25 @@ when_all::when_all-returns t c =
 pub when_all::race-loop-q-init : goal.when_all::race-loop-q-init
 when_all::race-loop-q-init t c = (λ r e. when-law.race_start _ _ _ _ _ _ c.end_of-stop.ensures.0 _ (e 256 (omega (arith, c.end_of-stop.ensures.1))))
 
-pub when_all::race-end_of-next-requires : goal.when_all::race-end_of-next-requires
-when_all::race-end_of-next-requires t c =
-    let b = bounds t c.args.p c.args.depth c.end_of-stop.result (c.decreases, c.requires) c.end_of-stop.ensures.1 in
-    within b c.loop-q-test.true
-
-pub when_all::race-visit-result-requires : goal.when_all::race-visit-result-requires
-when_all::race-visit-result-requires t c =
-    let b = bounds t c.args.p c.args.depth c.end_of-stop.result (c.decreases, c.requires) c.end_of-stop.ensures.1 in
-    due b c.loop-q-test.true
-
 pub when_all::race-returns-in_default : goal.when_all::race-returns-in_default
 when_all::race-returns-in_default t c =
     c.loop-q.invariant _ (λ k h. when-law.race_ended _ _ _ _ _ _ c.loop-q-test.true _ _ _ k h _
     (not_running_told c.visit-result.result.seen (opened c.in_default.in_default-own.keys2)) c.visit-result.ensures)
 
-pub when_all::race-past_waits-next-requires : goal.when_all::race-past_waits-next-requires
-when_all::race-past_waits-next-requires t c =
-    let b = bounds t c.args.p c.args.depth c.end_of-stop.result (c.decreases, c.requires) c.end_of-stop.ensures.1 in
-    (c.end_of-next.ensures.1, b.end)
-
 pub when_all::race-loop-q-smaller-then-next-eq2 : goal.when_all::race-loop-q-smaller-then-next-eq2
 when_all::race-loop-q-smaller-then-next-eq2 t c =
-    let b = bounds t c.args.p c.args.depth c.end_of-stop.result (c.decreases, c.requires) c.end_of-stop.ensures.1 in
-    farther c.loop-q-test.true (c.end_of-next.ensures.2 (inside b c.loop-q-test.true)) (passed_on c.past_waits-next.ensures.waiting)
+    farther c.loop-q-test.true (c.end_of-next.ensures.2 (omega arith)) (passed_on c.past_waits-next.ensures.waiting)
 
 pub when_all::race-loop-q-preserved-then-next-eq2 : goal.when_all::race-loop-q-preserved-then-next-eq2
 when_all::race-loop-q-preserved-then-next-eq2 t c =
-    let b = bounds t c.args.p c.args.depth c.end_of-stop.result (c.decreases, c.requires) c.end_of-stop.ensures.1 in
     (λ r e. c.loop-q.invariant r (λ k h. when-law.race_running _ _ _ _ _ _ c.loop-q-test.true _ _ _ k h (told_as c.visit-result.ensures c.in-Running.is) _
-    c.end_of-next.ensures.0 (c.end_of-next.ensures.2 (inside b c.loop-q-test.true)) r
+    c.end_of-next.ensures.0 (c.end_of-next.ensures.2 (omega arith)) r
     (when-law.race_waiting _ _ _ _ _ _ c.past_waits-next.ensures.waiting c.past_waits-next.ensures.upper_bound r e)))
-
-pub when_all::race-loop-q-smaller : goal.when_all::race-loop-q-smaller
-when_all::race-loop-q-smaller t c =
-    let b = bounds t c.args.p c.args.depth c.end_of-stop.result (c.decreases, c.requires) c.end_of-stop.ensures.1 in
-    closer c.loop-q-test.true (c.end_of-next.ensures.2 (inside b c.loop-q-test.true))
 
 pub when_all::race-loop-q-preserved : goal.when_all::race-loop-q-preserved
 when_all::race-loop-q-preserved t c =
-    let b = bounds t c.args.p c.args.depth c.end_of-stop.result (c.decreases, c.requires) c.end_of-stop.ensures.1 in
     (λ r e. c.loop-q.invariant r (λ k h. when-law.race_running _ _ _ _ _ _ c.loop-q-test.true _ _ _ k h (told_as c.visit-result.ensures c.in-Running.is) _
-    c.end_of-next.ensures.0 (c.end_of-next.ensures.2 (inside b c.loop-q-test.true)) r e))
+    c.end_of-next.ensures.0 (c.end_of-next.ensures.2 (omega arith)) r e))
 
 pub when_all::race-returns : goal.when_all::race-returns
 when_all::race-returns t c = rw c.waiting.ensures (c.loop-q.invariant _ (λ k h. when-law.race_over _ _ _ _ _ _ k c.loop-q-test.false))
@@ -873,37 +508,17 @@ when_all::after-loop-q-init t c = (
   omega (arith, c.place_of-place.ensures.1),
 )
 
-pub when_all::after-end_of-next-requires : goal.when_all::after-end_of-next-requires
-when_all::after-end_of-next-requires t c =
-    let b = bounds t c.args.p c.args.depth c.end_of-stop.result (c.decreases, c.requires) c.end_of-stop.ensures.1 in
-    within b c.loop-q-test.true
-
-pub when_all::after-visit-result-requires : goal.when_all::after-visit-result-requires
-when_all::after-visit-result-requires t c =
-    let b = bounds t c.args.p c.args.depth c.end_of-stop.result (c.decreases, c.requires) c.end_of-stop.ensures.1 in
-    due b c.loop-q-test.true
-
 pub when_all::after-returns-in-Stopped : goal.when_all::after-returns-in-Stopped
 unfolding of_bits
 when_all::after-returns-in-Stopped t c =
     c.loop-q.invariant.0 _ (λ k h. when-law.after_stopped _ _ _ _ _ _ _ _ _ _ c.loop-q-test.true _ _ _ k h _
     c.in-Stopped.is c.visit-result.ensures)
 
-pub when_all::after-put_place-requires : goal.when_all::after-put_place-requires
-when_all::after-put_place-requires t c =
-    let b = bounds t c.args.p c.args.depth c.end_of-stop.result (c.decreases, c.requires) c.end_of-stop.ensures.1 in
-    b.own
-
 pub when_all::after-returns-in-Failure : goal.when_all::after-returns-in-Failure
 unfolding of_bits
 when_all::after-returns-in-Failure t c =
     c.loop-q.invariant.0 _ (λ k h. when-law.after_failed _ _ _ _ _ _ _ _ _ _ c.loop-q-test.true _ _ _ k h _
     c.in-Failure.is c.visit-result.ensures _ c.put_place.ensures)
-
-pub when_all::after-put_place-requires-then-not-sooner : goal.when_all::after-put_place-requires-then-not-sooner
-when_all::after-put_place-requires-then-not-sooner t c =
-    let b = bounds t c.args.p c.args.depth c.end_of-stop.result (c.decreases, c.requires) c.end_of-stop.ensures.1 in
-    b.own
 
 pub when_all::after-returns-then-not-sooner : goal.when_all::after-returns-then-not-sooner
 unfolding of_bits
@@ -912,46 +527,23 @@ when_all::after-returns-then-not-sooner t c =
     (told_as c.visit-result.ensures c.in-Success.is) (sym c.sooner.ensures ∙ c.if-not-sooner.true) _
     c.put_place-then-not-sooner.ensures _ c.smaller.ensures)
 
-pub when_all::after-overflow_add-place : goal.when_all::after-overflow_add-place
-unfolding of_bits
-when_all::after-overflow_add-place t c =
-    let b = bounds t c.args.p c.args.depth c.end_of-stop.result (c.decreases, c.requires) c.end_of-stop.ensures.1 in
-    omega (arith, c.loop-q-test.true, c.loop-q.invariant.1, b.end)
-
-pub when_all::after-loop-q-smaller-in-Running : goal.when_all::after-loop-q-smaller-in-Running
-when_all::after-loop-q-smaller-in-Running t c =
-    let b = bounds t c.args.p c.args.depth c.end_of-stop.result (c.decreases, c.requires) c.end_of-stop.ensures.1 in
-    closer c.loop-q-test.true (c.end_of-next.ensures.2 (inside b c.loop-q-test.true))
-
 pub when_all::after-loop-q-preserved-in-Running : goal.when_all::after-loop-q-preserved-in-Running
 unfolding of_bits
 when_all::after-loop-q-preserved-in-Running t c =
-    let b = bounds t c.args.p c.args.depth c.end_of-stop.result (c.decreases, c.requires) c.end_of-stop.ensures.1 in
-    let n = c.end_of-next.ensures.2 (inside b c.loop-q-test.true) in (
+    let n = c.end_of-next.ensures.2 (omega arith) in (
       (λ r e. c.loop-q.invariant.0 r (λ k h. when-law.after_running _ _ _ _ _ _ _ _ _ _ c.loop-q-test.true _ _ _ _ c.end_of-next.ensures.0 n r k h
           (told_as c.visit-result.ensures c.in-Running.is) e)),
       omega (arith, n, c.loop-q.invariant.1),
     )
 
-pub when_all::after-loop-q-smaller : goal.when_all::after-loop-q-smaller
-when_all::after-loop-q-smaller t c =
-    let b = bounds t c.args.p c.args.depth c.end_of-stop.result (c.decreases, c.requires) c.end_of-stop.ensures.1 in
-    closer c.loop-q-test.true (c.end_of-next.ensures.2 (inside b c.loop-q-test.true))
-
 pub when_all::after-loop-q-preserved : goal.when_all::after-loop-q-preserved
 unfolding of_bits
 when_all::after-loop-q-preserved t c =
-    let b = bounds t c.args.p c.args.depth c.end_of-stop.result (c.decreases, c.requires) c.end_of-stop.ensures.1 in
-    let n = c.end_of-next.ensures.2 (inside b c.loop-q-test.true) in (
+    let n = c.end_of-next.ensures.2 (omega arith) in (
       (λ r e. c.loop-q.invariant.0 r (λ k h. when-law.after_sooner _ _ _ _ _ _ _ _ _ _ c.loop-q-test.true _ _ _ _ c.end_of-next.ensures.0 n r k h
           (told_as c.visit-result.ensures c.in-Success.is) (sym c.sooner.ensures ∙ c.if-not-sooner.false) e)),
       omega (arith, n, c.loop-q.invariant.1),
     )
-
-pub when_all::after-put_place-requires-2 : goal.when_all::after-put_place-requires-2
-when_all::after-put_place-requires-2 t c =
-    let b = bounds t c.args.p c.args.depth c.end_of-stop.result (c.decreases, c.requires) c.end_of-stop.ensures.1 in
-    b.own
 
 pub when_all::after-returns-then-none_running : goal.when_all::after-returns-then-none_running
 unfolding of_bits
