@@ -22,7 +22,7 @@ use Rattle.turns.specs.declared.level.Level.{Level}
 use Rattle.turns.specs.Levels.{Fine, Sound, goes, resumed_as, resumed_by, due_turn, done_turn}
 use Rattle.engine.specs.Stands.{kind_as, node_as, level_at, put_at, through, decorator_level, Held}
 use Rattle.engine.specs.Climbs.{Downs, Next, decorator_at, Opens, Closes}
-use Rattle.engine.proofs.Ways.{WayDown, Deeper, Lengths, deeper_one, way_done, way_deeper}
+use Rattle.engine.proofs.Ways.{WayDown, Deeper, deeper_one, way_done, way_deeper}
 
 -- ---- by the kind
 module _ (F : Format) (T : Lent) (v : Visitor) (p : ℕ) (x : Float) (ws : List ℕ) (ts : List Float) where
@@ -73,7 +73,7 @@ module _ {F : Format} {T : Lent} {n₀ : ℕ} {e₀ : Level} {x₀ : Float} {r�
   way_decorator h deep = rw (kind_kept ws (fuel_of ws - 1) e.child (omega arith))
       (way_deeper w refl (no_leaf k d) few f used refl (due_turn (decorator_level k e.child x) x) used ts
       (λ T v. decorator_opens F T v e.child x used ts h k d) refl refl
-      (record { kind = refl; node = refl; sound = λ _. decorator_sound e.child x h k d }) deep refl)
+      (record { kind = refl; node = refl; sound = λ _. decorator_sound e.child x h k d }) deep)
 
 -- from the decorator at p₀ to the one at p, whatever is lent
 pub record WayOpen (F : Format) (n₀ p₀ : ℕ) (x : Float) (r₀ : Levels) (ws₀ : List ℕ) (n p : ℕ) (r : Levels) (ws : List ℕ) : Type 0 where
@@ -110,7 +110,7 @@ module _ {F : Format} {n₀ p₀ : ℕ} {x : Float} {r₀ : Levels} {ws₀ : Lis
 
 pub open_start : {F : Format} (n p : ℕ) (x : Float) (r : Levels) (ws : List ℕ) → p < 255 → 0 < n → Held n (decorator_at ws p x) r → WayOpen F n p x r ws n p r ws
 open_start n p x r ws h some held = record {
-  ways = λ T ts. record { same = refl; held = held; behind = refl; fuel = omega arith; times_long = refl; opens_long = refl; counts_long = refl; wholes_long = refl; rests_long = refl };
+  ways = λ T ts. record { same = refl; held = held; behind = refl; fuel = omega arith };
   deep = omega arith;
   from = omega arith;
   place = h;
@@ -119,18 +119,13 @@ open_start n p x r ws h some held = record {
 
 -- the way down goes on behind the decorators
 pub way_opened : {F : Format} {T : Lent} {n₀ : ℕ} {e₀ : Level} {x₀ : Float} {r₀ : Levels} {ws₀ : List ℕ} {ts₀ : List Float} {n p : ℕ} {x : Float} {r : Levels} {ws : List ℕ} {ts : List Float}
-    → WayDown F T n₀ e₀ x₀ r₀ ws₀ ts₀ n (decorator_at ws p x) x r ws ts → {p' : ℕ} {r' : Levels} {ws' : List ℕ} → Opens F n p x r ws p' r' ws' → Lengths r r'
+    → WayDown F T n₀ e₀ x₀ r₀ ws₀ ts₀ n (decorator_at ws p x) x r ws ts → {p' : ℕ} {r' : Levels} {ws' : List ℕ} → Opens F n p x r ws p' r' ws'
     → {m : ℕ} {k : Kind} {e : Level} → m ≡ n + (p' - p) → k ≡ kind_in (word_at ws' p') → e ≡ decorator_level k p' x → WayDown F T n₀ e₀ x₀ r₀ ws₀ ts₀ m e x r' ws' ts
-way_opened {F} {T} {n₀} {e₀} {x₀} {r₀} {ws₀} {ts₀} {n} {p} {x} {r} {ws} {ts} w o more deep kind same = rw (deep, same, kind) (record {
+way_opened {F} {T} {n₀} {e₀} {x₀} {r₀} {ws₀} {ts₀} {n} {p} {x} {r} {ws} {ts} w o deep kind same = rw (deep, same, kind) (record {
   same = w.same ∙ o.same T ts;
   held = o.held;
   behind = o.behind ∙ w.behind;
   fuel = omega (arith, o.fuel, w.fuel);
-  times_long = w.times_long;
-  opens_long = more.opens_same ∙ w.opens_long;
-  counts_long = more.counts_same ∙ w.counts_long;
-  wholes_long = more.wholes_same ∙ w.wholes_long;
-  rests_long = more.rests_same ∙ w.rests_long;
 })
 
 -- ---- up

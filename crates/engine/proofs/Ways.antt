@@ -7,7 +7,7 @@ use native.Mathlib.Numerals.{add-one}
 use native.Mathlib.Decide.{dec_lt}
 use native.Mathlib.Omega.{arith}
 use lib.Ieee.{Float, Format}
-use lib.ListN.{length, get_or, set, length-set}
+use lib.ListN.{get_or, set}
 use Rattle.rules.specs.declared.behavior.Kind.{Kind}
 use Rattle.rules.specs.Tree.{zero_time}
 use Rattle.rules.specs.Levels.{Levels, entries, cleared}
@@ -34,11 +34,6 @@ pub record WayDown
   pub held : Held n e r
   pub behind : cleared r ≡ cleared r₀
   pub fuel : fuel_of ws ≤ fuel_of ws₀
-  pub times_long : length ts ≡ length ts₀
-  pub opens_long : length r.opens ≡ length r₀.opens
-  pub counts_long : length r.counts ≡ length r₀.counts
-  pub wholes_long : length r.wholes ≡ length r₀.wholes
-  pub rests_long : length r.rests ≡ length r₀.rests
 
 pub record WayUp
     (F : Format) (T : Lent)
@@ -47,27 +42,11 @@ pub record WayUp
   pub held : Held n e r
   pub fuel : fuel_of ws ≤ fuel_of ws₀
   pub going : s₀ ≡ Stopped → s ≡ Stopped
-  pub times_long : length ts ≡ length ts₀
 
 -- the room that has one node more, or none yet
 pub record Deeper (n : ℕ) (e : Level) (r r' : Levels) : Type 0 where
   pub none : n ≡ 0 → r' ≡ r
   pub one : (m : ℕ) → n ≡ suc m → r' ≡ put_at r m e
-
-pub record Lengths (r r' : Levels) : Type 0 where
-  pub opens_same : length r'.opens ≡ length r.opens
-  pub counts_same : length r'.counts ≡ length r.counts
-  pub wholes_same : length r'.wholes ≡ length r.wholes
-  pub rests_same : length r'.rests ≡ length r.rests
-
-put_lengths : (r : Levels) (l : ℕ) (e : Level) → Lengths r (put_at r l e)
-unfolding put_at
-put_lengths r l e = record {
-  opens_same = length-set r.opens l _;
-  counts_same = length-set r.counts l _;
-  wholes_same = length-set r.wholes l _;
-  rests_same = length-set r.rests l _;
-}
 
 pub not_due : ◌≡◌ {A = Bool} false true → ⊥
 not_due e = let z : ◌≡◌ {A = ℕ} 0 1 = cc in omega arith
@@ -103,13 +82,6 @@ module _ (n : ℕ) (e : Level) (r r' : Levels) (d : Deeper n e r r') (h : Held n
       by : (k : ℕ) → n ≡ k → cleared r' ≡ cleared r
       by zero z = rw (d.none z)
       by (suc m) z = rw (d.one m z) (put_cleared r m e (omega (arith, h.few)))
-
-  pub deeper_lengths : Lengths r r'
-  deeper_lengths = by n refl
-    where
-      by : (k : ℕ) → n ≡ k → Lengths r r'
-      by zero z = rw (d.none z) (record { opens_same = refl; counts_same = refl; wholes_same = refl; rests_same = refl })
-      by (suc m) z = rw (d.one m z) (put_lengths r m e)
 
   deeper_outer : (k : ℕ) → n ≡ k → (j : ℕ) → j < n → Sound (level_at r' j)
   deeper_outer zero z j l = absurd (omega arith)
@@ -152,17 +124,11 @@ module _ (n : ℕ) (e : Level) (r r' : Levels) (d : Deeper n e r r') (h : Held n
 pub way_kept : {F : Format} {T : Lent} {n₀ : ℕ} {e₀ : Level} {x₀ : Float} {r₀ : Levels} {ws₀ : List ℕ} {ts₀ : List Float} {n : ℕ} {e : Level} {x : Float} {r : Levels} {ws : List ℕ} {ts : List Float}
     → WayDown F T n₀ e₀ x₀ r₀ ws₀ ts₀ n e x r ws ts → {r' : Levels} → Deeper n e r r' → WayDown F T n₀ e₀ x₀ r₀ ws₀ ts₀ n e x r' ws ts
 way_kept {F} {T} {n₀} {e₀} {x₀} {r₀} {ws₀} {ts₀} {n} {e} {x} {r} {ws} {ts} w {r'} deep =
-    let more = deeper_lengths n e r r' deep w.held in
     record {
       same = w.same ∙ sym (around_same n e r r' deep w.held F T _);
       held = held_kept n e r r' deep w.held;
       behind = deeper_behind n e r r' deep w.held ∙ w.behind;
       fuel = w.fuel;
-      times_long = w.times_long;
-      opens_long = more.opens_same ∙ w.opens_long;
-      counts_long = more.counts_same ∙ w.counts_long;
-      wholes_long = more.wholes_same ∙ w.wholes_long;
-      rests_long = more.rests_same ∙ w.rests_long;
     }
 
 module _ {F : Format} {T : Lent} {n₀ : ℕ} {e₀ : Level} {x₀ : Float} {r₀ : Levels} {ws₀ : List ℕ} {ts₀ : List Float} {n : ℕ} {e : Level} {x : Float} {r : Levels} {ws : List ℕ} {ts : List Float}
@@ -198,22 +164,16 @@ module _ {F : Format} {T : Lent} {n₀ : ℕ} {e₀ : Level} {x₀ : Float} {r�
           → To t.seen t.left ws₃ ts₂
       way_done z ws₃ s same = gives (down_done F T n x e.child ws ts k c h d f ws₁ a t ws₂ ts₂ opens_so z ws₃ (s t.left ts₂)) (λ _. omega (arith, same, used))
 
-      pub way_deeper : t.due ≡ true → KeepsSound (entered_level k e.child x) t → {r' : Levels} → Deeper n e r r' → length ts₂ ≡ length ts
+      pub way_deeper : t.due ≡ true → KeepsSound (entered_level k e.child x) t → {r' : Levels} → Deeper n e r r'
           → WayDown F T n₀ e₀ x₀ r₀ ws₀ ts₀ (n + 1) t.level t.left r' ws₂ ts₂
-      way_deeper z keeps {r'} deep long =
+      way_deeper z keeps {r'} deep =
           let on = down_due F T n x e.child ws ts k c h d f ws₁ a t ws₂ ts₂ opens_so z keeps.node in
-          let more = deeper_lengths n e r r' deep w.held in
           rw add-one (record {
             same = w.same ∙ ap (around F T n e r) on
                 ∙ around_deeper F T n e t.level r r' _ w.held.few w.held.room (λ l. (w.held.inner l).fine) deep.none deep.one;
             held = held_deeper n e r r' deep w.held t.level d (keeps.sound z);
             behind = deeper_behind n e r r' deep w.held ∙ w.behind;
             fuel = omega (arith, used, w.fuel);
-            times_long = long ∙ w.times_long;
-            opens_long = more.opens_same ∙ w.opens_long;
-            counts_long = more.counts_same ∙ w.counts_long;
-            wholes_long = more.wholes_same ∙ w.wholes_long;
-            rests_long = more.rests_same ∙ w.rests_long;
           })
 
 -- ---- up
@@ -293,14 +253,13 @@ module _ {F : Format} {T : Lent}
 
     pub way_up : t.due ≡ false → (ws₂ : List ℕ) → ((l : Float) (ts : List Float) → seen e.node (out t.seen l ws₁ ts) ≡ out t.seen l ws₂ ts) → fuel_of ws₂ ≡ fuel_of ws₁
         → {n' : ℕ} {s' : Seen} {l' : Float} {ws₃ : List ℕ} {ts₃ : List Float} → Closes F T.limits r.opens r.wholes m t.seen t.left ws₂ ts₁ n' s' l' ws₃ ts₃
-        → length ts₃ ≡ length ts → {e' : Level} → (0 < n' → e' ≡ level_at r (n' - 1)) → (n' ≤ 0 → e' ≡ e)
+        → {e' : Level} → (0 < n' → e' ≡ level_at r (n' - 1)) → (n' ≤ 0 → e' ≡ e)
         → WayUp F T n₀ e₀ s₀ l₀ r ws₀ ts₀ n' e' s' l' ws₃ ts₃
-    way_up z ws₂ shown same {n'} {s'} {l'} {ws₃} {ts₃} closed long {e'} p q = record {
+    way_up z ws₂ shown same {n'} {s'} {l'} {ws₃} {ts₃} closed {e'} p q = record {
       same = w.same ∙ turned_up ∙ closed.same T.statuses r.counts T.leftovers r.rests ∙ around_kept F T n' e' r (out s' l' ws₃ ts₃) inside;
       held = held_out n n' e e' r w.held (omega (arith, closed.few)) p q;
       fuel = omega (arith, closed.fuel, same, g, w.fuel);
       going = λ d. absurd (going (w.going d));
-      times_long = long ∙ w.times_long;
     }
       where
         inside : (j : ℕ) → n' ≡ suc j → e' ≡ level_at r j
@@ -323,17 +282,12 @@ module _ {F : Format} {T : Lent} {n₀ : ℕ} {e₀ : Level} {x₀ : Float} {r�
   pub round_less : due ≡ true → fuel_of ws₂ < fuel_of ws
   round_less z = omega (arith, u.fuel, d.less (u.going z))
 
-  pub round_on : due ≡ true → length ts₂ ≡ length ts → Lengths r r₁ → WayDown F T n₀ e₀ x₀ r₀ ws₀ ts₀ n₂ e₂ l₂ r₁ ws₂ ts₂
-  round_on z long same = record {
+  pub round_on : due ≡ true → WayDown F T n₀ e₀ x₀ r₀ ws₀ ts₀ n₂ e₂ l₂ r₁ ws₂ ts₂
+  round_on z = record {
     same = w.same ∙ d.same ∙ u.on z;
     held = u.held z;
     behind = round_behind;
     fuel = omega (arith, round_less z, w.fuel);
-    times_long = long ∙ w.times_long;
-    opens_long = same.opens_same ∙ w.opens_long;
-    counts_long = same.counts_same ∙ w.counts_long;
-    wholes_long = same.wholes_same ∙ w.wholes_long;
-    rests_long = same.rests_same ∙ w.rests_long;
   }
 
 -- the root is due, with no node open
