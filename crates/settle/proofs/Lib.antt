@@ -1,2 +1,1 @@
 pub mod BackLaws
-pub mod SettledLaws

@@ -1,7 +1,6 @@
 -- What is put back from the words of a tree is its columns.
 use Rattle.std.specs.Prelude.{◌≡◌, Bool, List, map, ◌++◌, ℕ, ◌+◌, ◌≤◌, ◌<◌, take, drop}
 use Rattle.std.proofs.Common.{ap, ◌∙◌, append-nil, add-zero, zero-add, suc-add, add_assoc, arith}
-use mathlib.Core.List
 use Rattle.rules.specs.declared.behavior.Kind.{Kind}
 use Rattle.rules.specs.Kinds.{code}
 use Rattle.rules.specs.Tree.{Cell, Tree, node, Forest, [], ◌∷◌, size, sizes}
