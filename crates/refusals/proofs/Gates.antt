@@ -1,5 +1,5 @@
 -- Each way through the checks leaves of the call what the rules say.
-use mathlib.Core.Path.{◌≡◌, refl, sym, ◌∙◌}
+use mathlib.Core.Path.{◌≡◌, refl, sym, ap, ◌∙◌}
 use mathlib.Core.Bool.{Bool, true, false, cond, not, ◌&&◌, ◌||◌}
 use mathlib.Core.List.{List}
 use Prim.Native.Nat.{ℕ, ◌≤◌, ◌<◌}
@@ -126,8 +126,8 @@ bad_table fresh k g p e = refuses fresh g k _ (call_is fresh g ∙ rw (on_table,
 
 -- ---- 4, of a table whose tree has n nodes
 module _ (fresh : Bool) (k : ℕ) (g : Given) {t : Tree} {n : ℕ} (is : table g.kinds g.ns g.limits ≡ good t) (sized : size t ≡ n) where
-  too_short : too_short g n ≡ true → Refuses fresh k g TooShort
-  too_short e = refuses fresh g k _ (call_is fresh g ∙ rw (on_table, is, sized, e)) refl λ r q. rw (no_room, is, sized, e)
+  too_short_lem : too_short g n ≡ true → Refuses fresh k g TooShort
+  too_short_lem e = refuses fresh g k _ (call_is fresh g ∙ rw (on_table, is, sized, e)) refl λ r q. rw (no_room, is, sized, e)
 
   module _ (long : too_short g n ≡ false) where
     room_found : call_of fresh g ≡ due_of fresh g t
@@ -173,7 +173,7 @@ unmatched fresh k g n a u z e = go (table g.kinds g.ns g.limits) refl u.says
   where
     go : (x : Table) → table g.kinds g.ns g.limits ≡ x → a ≡ unmatched_as x → Refuses fresh k g a
     go (bad p) i s = rw s (bad_table fresh k g p i)
-    go (good t) i s = rw s (too_short fresh k g i (u.sized t i ∙ sym z) e)
+    go (good t) i s = rw s (too_short_lem fresh k g i (u.sized t i ∙ sym z) e)
 
 -- ---- the pass over table and cells: what is asked, and what it found
 long_all : (a b c : Bool) → not a || not b || not c ≡ false → (a ≡ true) × (b ≡ true) × (c ≡ true)
@@ -241,6 +241,20 @@ module _ {k : ℕ} {g : Given} {ws : List ℕ} {n : ℕ} where
   held_cells false t =
       let f = t.accepted.fine refl in
       record { fit = t; behind = t.accepted.behind; fine = f; is = room_found false k g t.accepted.is t.accepted.sized t.long ∙ rw (due_of, f) }
+
+-- what the pass found of a call whose memory is as long as its rows
+pub found :
+    {fresh : Bool} {k m : ℕ} (g : Given) {ws₀ ws : List ℕ} {r : Scanned} {n : ℕ}
+    → Scans g.kinds g.ns g.limits g.cells'.times g.cells'.places g.cells'.marks fresh ws₀ ws r
+    → r ≡ Good n
+    → ws₀ ≡ replicate 260 0
+    → m ≡ length (rows g.kinds g.ns g.limits)
+    → too_short g m ≡ false
+    → most_deep ≤ k
+    → Held fresh k g ws n
+found {fresh = fresh} g s e z m long room =
+    let a = scan_good g.kinds g.ns g.limits g.cells'.times g.cells'.places g.cells'.marks fresh _ _ _ s _ e z in
+    held_cells fresh (record { accepted = a; long = ap (λ (n : ℕ). too_short g n) (a.nodes ∙ sym m) ∙ long; entries = room })
 
 module _ {fresh : Bool} {k : ℕ} {g : Given} {ws : List ℕ} {n : ℕ} where
   -- ---- 5
