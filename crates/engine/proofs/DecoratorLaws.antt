@@ -20,7 +20,7 @@ use Rattle.work.specs.Flat.{Out, out, Lent, lent, Visitor, result_of, and_then, 
 use Rattle.work.proofs.KindLaws.{decorator_case}
 use Rattle.turns.specs.declared.level.Level.{Level}
 use Rattle.turns.specs.Levels.{Fine, Sound, goes, resumed_as, resumed_by, due_turn, done_turn}
-use Rattle.engine.specs.Stands.{kind_as, node_as, level_at, put_at, through, decorator_level, Held}
+use Rattle.engine.specs.Stands.{kind_as, node_as, level_at, put_at, through, decorator_level}
 use Rattle.engine.specs.Climbs.{Downs, Next, decorator_at, Opens, Closes}
 use Rattle.engine.proofs.Ways.{WayDown, Deeper, deeper_one, way_done, way_deeper}
 
@@ -108,15 +108,6 @@ module _ {F : Format} {n₀ p₀ : ℕ} {x : Float} {r₀ : Levels} {ws₀ : Lis
     fuel = any_way.fuel;
   }
 
-pub open_start : {F : Format} (n p : ℕ) (x : Float) (r : Levels) (ws : List ℕ) → p < 255 → 0 < n → Held n (decorator_at ws p x) r → WayOpen F n p x r ws n p r ws
-open_start n p x r ws h some held = record {
-  ways = λ T ts. record { same = refl; held = held; behind = refl; fuel = omega arith };
-  deep = omega arith;
-  from = omega arith;
-  place = h;
-  some = some;
-}
-
 -- the way down goes on behind the decorators
 pub way_opened : {F : Format} {T : Lent} {n₀ : ℕ} {e₀ : Level} {x₀ : Float} {r₀ : Levels} {ws₀ : List ℕ} {ts₀ : List Float} {n p : ℕ} {x : Float} {r : Levels} {ws : List ℕ} {ts : List Float}
     → WayDown F T n₀ e₀ x₀ r₀ ws₀ ts₀ n (decorator_at ws p x) x r ws ts → {p' : ℕ} {r' : Levels} {ws' : List ℕ} → Opens F n p x r ws p' r' ws'
@@ -129,9 +120,6 @@ way_opened {F} {T} {n₀} {e₀} {x₀} {r₀} {ws₀} {ts₀} {n} {p} {x} {r} {
 })
 
 -- ---- up
-pub close_start : {F : Format} {limits : List Float} {opens : List ℕ} {wholes : List Float} {n : ℕ} {s : Seen} {l : Float} {ws : List ℕ} {ts : List Float}
-    → Closes F limits opens wholes n s l ws ts n s l ws ts
-close_start = record { few = omega arith; same = λ a cs b rs. refl; fuel = refl }
 
 -- the decorator in the innermost of the entries takes the result
 module _ {F : Format} {limits : List Float} {opens : List ℕ} {wholes : List Float}

@@ -1,7 +1,7 @@
 -- What a way down and a way up have kept so far.
 use mathlib.Core.Path.{◌≡◌, refl, sym, ap, ◌∙◌, subst}
 use mathlib.Core.Bool.{Bool, true, false}
-use mathlib.Core.List.{List, [], ◌∷◌}
+use mathlib.Core.List.{List}
 use Prim.Native.Nat.{ℕ, zero, suc, ◌+◌, ◌-◌, ◌≤◌, ◌<◌}
 use native.Mathlib.Numerals.{add-one}
 use native.Mathlib.Decide.{dec_lt}
@@ -16,8 +16,6 @@ use Rattle.work.specs.declared.result.Seen.TheVariants.{Stopped}
 use Rattle.work.specs.Word.{kind_in}
 use Rattle.work.specs.Array.{word_at, fuel_of}
 use Rattle.work.specs.Flat.{Out, out, Lent, lent, Visitor, seen, is_leaf, visit_leaf, by_kind, visit, tick, visiting}
-use Rattle.work.proofs.Laws.{Among}
-use Rattle.work.proofs.VisitLaws.{Gave, gave_told, no_gave}
 use Rattle.turns.specs.declared.level.Level.{Level}
 use Rattle.turns.specs.declared.level.Turn.{Turn}
 use Rattle.turns.specs.Levels.{Sound, KeepsSound, goes, resumed_by, entered_level}
@@ -50,14 +48,6 @@ pub record Deeper (n : ℕ) (e : Level) (r r' : Levels) : Type 0 where
 
 pub not_due : ◌≡◌ {A = Bool} false true → ⊥
 not_due e = let z : ◌≡◌ {A = ℕ} 0 1 = cc in omega arith
-
--- what a `match` tells of the arms other than the first
-pub going_told : (s : Seen) → Among (1 ∷ 2 ∷ 3 ∷ []) s → s ≡ Stopped → ⊥
-going_told s h z = no_gave (subst Gave z (gave_told s h))
-
-around_none : (F : Format) (T : Lent) (n : ℕ) (e : Level) (r : Levels) (o : Out) → n ≤ 0 → around F T n e r o ≡ o
-around_none F T zero e r o h = refl
-around_none F T (suc n) e r o h = absurd (omega arith)
 
 pub deeper_none : {n : ℕ} {e : Level} {r r' : Levels} → n ≤ 0 → r' ≡ r → Deeper n e r r'
 deeper_none h z = record { none = λ _. z; one = λ m k. absurd (omega arith) }
@@ -201,20 +191,11 @@ held_out n m e e' r h d p q = record {
 module _ {F : Format} {T : Lent}
     {n₀ : ℕ} {e₀ : Level} {s₀ : Seen} {l₀ : Float} {r : Levels} {ws₀ : List ℕ} {ts₀ : List Float} {n : ℕ} {e : Level} {s : Seen} {l : Float} {ws : List ℕ} {ts : List Float}
     (w : WayUp F T n₀ e₀ s₀ l₀ r ws₀ ts₀ n e s l ws ts) where
-  -- the walk has stopped, or no node is open
+  -- the walk has stopped
   pub way_stopped : s ≡ Stopped → Ups F T r n₀ e₀ s₀ l₀ ws₀ ts₀ false n e s l ws ts
   way_stopped z = record {
     on = λ d. absurd (not_due d);
     over = λ _. w.same ∙ around_stopped F T n e r s l ws ts z;
-    held = λ d. absurd (not_due d);
-    going = λ d. absurd (not_due d);
-    fuel = w.fuel;
-  }
-
-  pub way_over : n ≤ 0 → Ups F T r n₀ e₀ s₀ l₀ ws₀ ts₀ false n e s l ws ts
-  way_over z = record {
-    on = λ d. absurd (not_due d);
-    over = λ _. w.same ∙ around_none F T n e r (out s l ws ts) z;
     held = λ d. absurd (not_due d);
     going = λ d. absurd (not_due d);
     fuel = w.fuel;
@@ -276,23 +257,6 @@ module _ {F : Format} {T : Lent} {n₀ : ℕ} {e₀ : Level} {x₀ : Float} {r�
   pub round_over : due ≡ false → due_at F T n₀ e₀ x₀ r₀ ws₀ ts₀ ≡ out s₂ l₂ ws₂ ts₂
   round_over z = w.same ∙ d.same ∙ u.over z
 
-  pub round_behind : cleared r₁ ≡ cleared r₀
-  round_behind = d.behind ∙ w.behind
-
-  pub round_less : due ≡ true → fuel_of ws₂ < fuel_of ws
-  round_less z = omega (arith, u.fuel, d.less (u.going z))
-
-  pub round_on : due ≡ true → WayDown F T n₀ e₀ x₀ r₀ ws₀ ts₀ n₂ e₂ l₂ r₁ ws₂ ts₂
-  round_on z = record {
-    same = w.same ∙ d.same ∙ u.on z;
-    held = u.held z;
-    behind = round_behind;
-    fuel = omega (arith, round_less z, w.fuel);
-  }
-
 -- the root is due, with no node open
 pub root_due : (F : Format) (T : Lent) (e : Level) (x : Float) (r : Levels) (ws : List ℕ) (ts : List Float) → e.child ≡ 0 → tick F T 16 0 x ws ts ≡ due_at F T 0 e x r ws ts
 root_due F T e x r ws ts z = rw z (visit_root F T x ws ts)
-
-pub root_held : (e : Level) (r : Levels) → e.child ≡ 0 → 16 ≤ entries r → Held 0 e r
-root_held e r z long = record { few = omega arith; due_in = omega arith; inner = λ h. absurd (omega arith); outer = λ j h. absurd (omega arith); room = long }

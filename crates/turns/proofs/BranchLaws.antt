@@ -1,4 +1,4 @@
--- One law for each path of If.
+-- Laws for the paths of If.
 use mathlib.Core.Path.{◌≡◌, refl}
 use mathlib.Core.List.{List}
 use Prim.Native.Nat.{ℕ, ◌+◌, ◌≤◌, ◌<◌}
@@ -39,16 +39,7 @@ choice_small Success = omega arith
 choice_small Failure = omega arith
 
 module _ (v : Visitor) (e : Level) (l : Float) (ws : List ℕ) (ts : List Float) where
-  pub if_branch : (s : Seen) → (e.index ≡ 0 → ⊥) → if_resumed v e (out s l ws ts) ≡ out s l ws ts
-  if_branch s h = rw (ne_eqb e.index 0 h)
-
   module _ (z : e.index ≡ 0) where
-    pub if_undecided : (s : Seen) → choice_of s ≡ 0 → if_resumed v e (out s l ws ts) ≡ out s l ws ts
-    if_undecided Stopped h = rw (eq-eqb e.index 0 z)
-    if_undecided Running h = rw (eq-eqb e.index 0 z)
-    if_undecided Success h = absurd (omega arith)
-    if_undecided Failure h = absurd (omega arith)
-
     decided : (s : Seen) → (choice_of s ≡ 0 → ⊥) → if_resumed v e (out s l ws ts) ≡ chosen v e.node e.stop (choice_of s) l ws ts
     decided Stopped h = absurd (h refl)
     decided Running h = absurd (h refl)

@@ -1,22 +1,18 @@
--- One law for each path of the loop drivers.
+-- Laws for the paths of the loop drivers.
 use mathlib.Core.Path.{◌≡◌, refl}
-use mathlib.Core.Bool.{true, false, cond}
-use mathlib.Core.List.{List, [], ◌∷◌}
-use types.Run.{miss}
+use mathlib.Core.Bool.{true, cond}
+use mathlib.Core.List.{List}
 use Prim.Native.Nat.{ℕ, zero, suc, ◌+◌, ◌-◌, ◌≤◌, ◌<◌}
 use native.Mathlib.Numerals.{sub-one}
-use native.Mathlib.Decide.{dec_lt}
-use native.Mathlib.Omega.{arith}
 use lib.Dec.{eqb}
 use lib.Ieee.{Float}
 use borrow.Author.Tests.{lt-ltb, le-ltb, eq-eqb, ne_eqb}
 use Rattle.rules.specs.Tree.{zero_time}
 use Rattle.work.specs.declared.result.Seen.{Seen}
-use Rattle.work.specs.declared.result.Seen.TheVariants.{Stopped, Running, Success, Failure}
+use Rattle.work.specs.declared.result.Seen.TheVariants.{Stopped, Success}
 use Rattle.work.specs.Word.{place_of}
-use Rattle.work.specs.Array.{word_at, fuel_of, updates, end_of, set_place, child_from, index_after, child_after, moved_words, moved_times}
+use Rattle.work.specs.Array.{word_at, fuel_of, updates, end_of, child_from, index_after, child_after, moved_words, moved_times}
 use Rattle.work.specs.Flat.{Out, out, Visitor, and_then, moved, while_on, while_holds, while_go, while_body, while_loop, while_all_on, while_all_holds, while_all_go, while_all}
-use Rattle.work.proofs.Laws.{Among}
 use Rattle.turns.specs.declared.level.Level.{Level}
 use Rattle.turns.specs.Levels.{while_resumed, while_all_resumed}
 use Rattle.turns.proofs.FuelLaws.{fuel_moved}
@@ -73,10 +69,6 @@ module _ (v : Visitor) (p : ℕ) (dt : Float) (ws : List ℕ) (ts : List Float) 
   unfolding while_loop
   while_asks h k e z = rw (lt-ltb p 255 h, eq-eqb k 0 e)
 
-  pub while_begins : (stop body i q : ℕ) → stop ≡ end_of ws p → body ≡ end_of ws (p + 1) → i ≡ place_of (word_at ws p) → q ≡ child_from ws stop i body
-      → (o : Out) → while_go v p stop body (fuel_of ws) q i dt ws ts ≡ o → while_body v p dt ws ts ≡ o
-  while_begins stop body i q a b c d o g = rw (← a, ← b, ← c, ← d) g
-
   pub all_none : 255 ≤ p → while_all v p dt ws ts ≡ out Stopped zero_time ws ts
   unfolding while_all
   all_none h = rw (le-ltb p 255 h)
@@ -86,57 +78,8 @@ module _ (v : Visitor) (p : ℕ) (dt : Float) (ws : List ℕ) (ts : List Float) 
   unfolding while_all
   all_begins h stop body i q a b c d o g = rw (lt-ltb p 255 h, ← a, ← b, ← c, ← d) g
 
--- ---- the condition has given a result
-module _ (v : Visitor) (e : Level) where
-  pub while_ended : (s : Seen) (l : Float) (ws : List ℕ) (ts : List Float) → e.count ≡ 0 → Among (0 ∷ 2 ∷ 3 ∷ []) s → while_resumed v e (out s l ws ts) ≡ out s l ws ts
-  while_ended Stopped l ws ts h n = rw (eq-eqb e.count 0 h)
-  while_ended Running l ws ts h n = absurd (miss (0 ∷ 2 ∷ 3 ∷ []) 1 tt n)
-  while_ended Success l ws ts h n = rw (eq-eqb e.count 0 h)
-  while_ended Failure l ws ts h n = rw (eq-eqb e.count 0 h)
-
-  pub while_holds_lem : (s : Seen) (l : Float) (ws : List ℕ) (ts : List Float) → e.count ≡ 0 → s ≡ Running → (o : Out) → while_body v e.node e.whole ws ts ≡ o
-      → while_resumed v e (out s l ws ts) ≡ o
-  while_holds_lem s l ws ts h t o g = rw (eq-eqb e.count 0 h, t) g
-
-  pub all_halts : (s : Seen) (l : Float) (ws : List ℕ) (ts : List Float) → e.index ≡ 0 → s ≡ Stopped → while_all_resumed v e (out s l ws ts) ≡ out s l ws ts
-  all_halts s l ws ts h t = rw (eq-eqb e.index 0 h, t)
-
-  pub all_ended : (s : Seen) (l : Float) (ws : List ℕ) (ts : List Float) → e.index ≡ 0 → Among (2 ∷ 3 ∷ []) s → (ws₁ : List ℕ) → ws₁ ≡ set_place ws e.node 1
-      → while_all_resumed v e (out s l ws ts) ≡ out s l ws₁ ts
-  all_ended Stopped l ws ts h n ws₁ f = absurd (miss (2 ∷ 3 ∷ []) 0 tt n)
-  all_ended Running l ws ts h n ws₁ f = absurd (miss (2 ∷ 3 ∷ []) 1 tt n)
-  all_ended Success l ws ts h n ws₁ f = rw (eq-eqb e.index 0 h, f)
-  all_ended Failure l ws ts h n ws₁ f = rw (eq-eqb e.index 0 h, f)
-
-  pub all_holds : (s : Seen) (l : Float) (ws : List ℕ) (ts : List Float) → e.index ≡ 0 → s ≡ Running → (o : Out)
-      → while_all_go v e.node e.stop e.next e.whole e.count e.next 1 e.rest ws ts ≡ o → while_all_resumed v e (out s l ws ts) ≡ o
-  all_holds s l ws ts h t o g = rw (eq-eqb e.index 0 h, t) g
-
 -- ---- a child of the body has given a result
 module _ (v : Visitor) (e : Level) (s : Seen) (l : Float) (ws : List ℕ) (ts : List Float) where
-  module _ (n : e.count ≡ 0 → ⊥) where
-    pub while_stopped : s ≡ Stopped → while_resumed v e (out s l ws ts) ≡ out s l ws ts
-    while_stopped t = rw (ne_eqb e.count 0 n, t)
-
-    pub while_running : s ≡ Running → (ws₁ : List ℕ) → ws₁ ≡ set_place ws e.node e.index → while_resumed v e (out s l ws ts) ≡ out Running zero_time ws₁ ts
-    while_running t ws₁ f = rw (ne_eqb e.count 0 n, t, f)
-
-    pub while_failed : s ≡ Failure → (ws₁ : List ℕ) → ws₁ ≡ set_place ws e.node e.index → while_resumed v e (out s l ws ts) ≡ out s l ws₁ ts
-    while_failed t ws₁ f = rw (ne_eqb e.count 0 n, t, f)
-
-    pub while_other : s ≡ Success → updates ws ≡ false → (ws₁ : List ℕ) → ws₁ ≡ set_place ws e.node e.index → while_resumed v e (out s l ws ts) ≡ out Running zero_time ws₁ ts
-    while_other t u ws₁ f = rw (ne_eqb e.count 0 n, t, u, f)
-
-  module _ (m : e.index ≡ 0 → ⊥) where
-    pub all_stopped : s ≡ Stopped → while_all_resumed v e (out s l ws ts) ≡ out s l ws ts
-    all_stopped t = rw (ne_eqb e.index 0 m, t)
-
-    pub all_running : s ≡ Running → (ws₁ : List ℕ) → ws₁ ≡ set_place ws e.node e.index → while_all_resumed v e (out s l ws ts) ≡ out Running zero_time ws₁ ts
-    all_running t ws₁ f = rw (ne_eqb e.index 0 m, t, f)
-
-    pub all_failed : s ≡ Failure → (ws₁ : List ℕ) → ws₁ ≡ set_place ws e.node e.index → while_all_resumed v e (out s l ws ts) ≡ out s l ws₁ ts
-    all_failed t ws₁ f = rw (ne_eqb e.index 0 m, t, f)
-
   module _ (t : s ≡ Success) (next i' q' : ℕ) (a : next ≡ end_of ws e.child) (b : i' ≡ index_after e.index next e.stop) (c : q' ≡ child_after next e.stop e.next)
       (ws₁ : List ℕ) (ts₁ : List Float) (x : ws₁ ≡ moved_words e.child next e.stop e.next ws) (y : ts₁ ≡ moved_times e.child next e.stop e.next ws ts) where
     pub while_again : (e.count ≡ 0 → ⊥) → updates ws ≡ true → (o : Out) → while_go v e.node e.stop e.next (e.count - 1) q' i' l ws₁ ts₁ ≡ o
@@ -149,18 +92,6 @@ module _ (v : Visitor) (e : Level) (s : Seen) (l : Float) (ws : List ℕ) (ts : 
     unfolding moved moved_words moved_times
     all_again m o r = rw (ne_eqb e.index 0 m, t, ← a, ← b) (rw (x, y, c) at r)
 
--- ---- where the body goes on
-pub index_within : (i next stop body q : ℕ) → i ≤ 255 + q → q < next → index_after i next stop ≤ 255 + child_after next stop body
-index_within i next stop body q h g = elim (dec_lt next stop) [
-  | yes l ↦ rw (lt-ltb next stop l) (omega arith)
-  | no l ↦ let o : stop ≤ next = omega arith in rw (le-ltb next stop o) (omega arith)
-]
-
-pub child_within : (p next stop body : ℕ) → p < next → p < body → p < child_after next stop body
-child_within p next stop body h g = elim (dec_lt next stop) [
-  | yes l ↦ rw (lt-ltb next stop l) h
-  | no l ↦ let o : stop ≤ next = omega arith in rw (le-ltb next stop o) g
-]
-
+-- ---- what moving on leaves as it is
 pub fuel_moved_on : (ws ws₁ : List ℕ) (q next stop body : ℕ) → next ≤ 256 → ws₁ ≡ moved_words q next stop body ws → fuel_of ws₁ ≡ fuel_of ws
 fuel_moved_on ws ws₁ q next stop body h e = rw e (fuel_moved ws q next stop body h)

@@ -1,11 +1,10 @@
 -- The driver of each kind, by the arm of a `match` that has it.
-use mathlib.Core.Path.{◌≡◌, refl, ap, sym, subst, ◌∙◌}
-use mathlib.Core.Bool.{Bool, true, false, cond}
+use mathlib.Core.Path.{◌≡◌, refl, ap, sym, ◌∙◌}
+use mathlib.Core.Bool.{Bool, cond}
 use mathlib.Core.List.{List, [], ◌∷◌}
 use types.Run.{OneOf}
 use denote.Enum.Declared.{tag_of}
-use Prim.Native.Nat.{ℕ, ◌≤◌, ◌<◌}
-use native.Mathlib.Omega.{arith}
+use Prim.Native.Nat.{ℕ}
 use lib.Ieee.{Float, Format, binary64}
 use Rattle.rules.specs.declared.behavior.Kind.{Kind}
 use Rattle.rules.specs.Kinds.{kind_of}
@@ -13,113 +12,70 @@ use Rattle.rules.specs.Outcome.{largest}
 use Rattle.rules.proofs.Arms.{arm}
 use Rattle.rules.specs.contracts.behavior.Kind.{the_type}
 use Rattle.work.specs.declared.result.Seen.{Seen}
-use Rattle.work.specs.Array.{fuel_of}
-use Rattle.work.specs.Flat.{Out, out, Lent, lent, Visitor, turn_out, turning, is_leaf, is_decorator, exchanges_of}
-use Rattle.work.specs.Flat.{decorator, if_node, sequence, memoryless, when_all, race, after, while_loop, while_all, by_kind, visit}
+use Rattle.work.specs.Flat.{Out, out, Lent, lent, Visitor, turn_out, turning, exchanges_of}
+use Rattle.work.specs.Flat.{if_node, sequence, memoryless, when_all, race, after, while_loop, while_all, by_kind, visit}
 use Rattle.turns.specs.declared.level.Level.{Level}
 use Rattle.turns.specs.declared.level.Turn.{Turn}
-use Rattle.turns.specs.Levels.{Fine, Keeps, Ready, Sound, KeepsSound, Resumed, goes, entered_level, resumed_as, resumed_by}
-use Rattle.turns.specs.Levels.{sequence_resumed, memoryless_resumed, when_all_resumed, race_resumed, after_resumed, while_resumed, while_all_resumed, if_resumed, decorator_resumed}
+use Rattle.turns.specs.Levels.{Keeps, Resumed, goes, entered_level, resumed_as, resumed_by}
+use Rattle.turns.specs.Levels.{sequence_resumed, memoryless_resumed, when_all_resumed, race_resumed, after_resumed, while_resumed, while_all_resumed, if_resumed}
 
--- a kind's driver: how it enters its node, what it makes of a child's outcome, and what it needs of a level
-pub record Driven (g : Format → Lent → Visitor → Visitor) (f : Format → Lent → Resumed) (N : Level → Type 0) (k : Kind) : Type 0 where
+-- a kind's driver: how it enters its node, and what it makes of a child's outcome
+pub record Driven (g : Format → Lent → Visitor → Visitor) (f : Format → Lent → Resumed) (k : Kind) : Type 0 where
   pub enters : (F : Format) (T : Lent) (v : Visitor) (p : ℕ) (dt : Float) (ws : List ℕ) (ts : List Float) → by_kind F T v k p dt ws ts ≡ g F T v p dt ws ts
   pub resumes : (F : Format) (T : Lent) (v : Visitor) (e : Level) (o : Out) → resumed_as F T v k e o ≡ f F T v e o
-  pub made_ready : (e : Level) → N e → Ready k e
-  pub is_ready : (e : Level) → Ready k e → N e
 
-own : (k : Kind) → Driven (λ F T v. by_kind F T v k) (λ F T v. resumed_as F T v k) (Ready k) k
-own k = record { enters = λ F T v p dt ws ts. refl; resumes = λ F T v e o. refl; made_ready = λ e n. n; is_ready = λ e n. n }
+own : (k : Kind) → Driven (λ F T v. by_kind F T v k) (λ F T v. resumed_as F T v k) k
+own k = record { enters = λ F T v p dt ws ts. refl; resumes = λ F T v e o. refl }
 
 -- ---- each arm's driver
-abbrev Nothing : Level → Type 0
-Nothing e = Unit {0}
-
-abbrev Past : Level → Type 0
-Past e = e.child < e.next
-
-abbrev Body : Level → Type 0
-Body e = e.node < e.next
-
-abbrev BodyOnce : Level → Type 0
-BodyOnce e = 0 < e.count → e.node < e.next
-
 abbrev turned_by : Bool → (Visitor → Visitor) → Visitor → Visitor
 turned_by x d v p dt ws ts = turn_out x (d (turning x v) p dt ws ts)
 
 module _ (k : Kind) where
-  pub leaf_driver : OneOf (0 ∷ 1 ∷ 2 ∷ []) (tag_of the_type k) → Driven (λ F T v. by_kind F T v k) (λ F T v e o. o) Nothing k
+  pub if_driver : OneOf (7 ∷ []) (tag_of the_type k) → Driven (λ F T. if_node) (λ F T. if_resumed) k
   unfolding kind_of by_kind
-  leaf_driver h = arm (λ k. Driven (λ F T v. by_kind F T v k) (λ F T v e o. o) Nothing k) (0 ∷ 1 ∷ 2 ∷ []) k h (own _, (own _, (own _, tt)))
+  if_driver h = arm (Driven (λ F T. if_node) (λ F T. if_resumed)) (7 ∷ []) k h (own _, tt)
 
-  pub decorator_driver : OneOf (3 ∷ 4 ∷ 5 ∷ []) (tag_of the_type k) → Driven decorator decorator_resumed Nothing k
+  pub while_driver : OneOf (11 ∷ []) (tag_of the_type k) → Driven (λ F T. while_loop) (λ F T. while_resumed) k
   unfolding kind_of by_kind
-  decorator_driver h = arm (Driven decorator decorator_resumed Nothing) (3 ∷ 4 ∷ 5 ∷ []) k h (own _, (own _, (own _, tt)))
+  while_driver h = arm (Driven (λ F T. while_loop) (λ F T. while_resumed)) (11 ∷ []) k h (own _, tt)
 
-  pub if_driver : OneOf (7 ∷ []) (tag_of the_type k) → Driven (λ F T. if_node) (λ F T. if_resumed) Nothing k
+  pub while_all_driver : OneOf (12 ∷ []) (tag_of the_type k) → Driven (λ F T. while_all) (λ F T. while_all_resumed) k
   unfolding kind_of by_kind
-  if_driver h = arm (Driven (λ F T. if_node) (λ F T. if_resumed) Nothing) (7 ∷ []) k h (own _, tt)
+  while_all_driver h = arm (Driven (λ F T. while_all) (λ F T. while_all_resumed)) (12 ∷ []) k h (own _, tt)
 
-  pub while_driver : OneOf (11 ∷ []) (tag_of the_type k) → Driven (λ F T. while_loop) (λ F T. while_resumed) BodyOnce k
+  pub after_driver : OneOf (15 ∷ []) (tag_of the_type k) → Driven (λ F T v. after v (largest F)) (λ F T. after_resumed) k
   unfolding kind_of by_kind
-  while_driver h = arm (Driven (λ F T. while_loop) (λ F T. while_resumed) BodyOnce) (11 ∷ []) k h (own _, tt)
+  after_driver h = arm (Driven (λ F T v. after v (largest F)) (λ F T. after_resumed)) (15 ∷ []) k h (own _, tt)
 
-  pub while_all_driver : OneOf (12 ∷ []) (tag_of the_type k) → Driven (λ F T. while_all) (λ F T. while_all_resumed) Body k
+  pub race_driver : OneOf (16 ∷ []) (tag_of the_type k) → Driven (λ F T. race) (λ F T. race_resumed) k
   unfolding kind_of by_kind
-  while_all_driver h = arm (Driven (λ F T. while_all) (λ F T. while_all_resumed) Body) (12 ∷ []) k h (own _, tt)
-
-  pub after_driver : OneOf (15 ∷ []) (tag_of the_type k) → Driven (λ F T v. after v (largest F)) (λ F T. after_resumed) Past k
-  unfolding kind_of by_kind
-  after_driver h = arm (Driven (λ F T v. after v (largest F)) (λ F T. after_resumed) Past) (15 ∷ []) k h (own _, tt)
-
-  pub race_driver : OneOf (16 ∷ []) (tag_of the_type k) → Driven (λ F T. race) (λ F T. race_resumed) Past k
-  unfolding kind_of by_kind
-  race_driver h = arm (Driven (λ F T. race) (λ F T. race_resumed) Past) (16 ∷ []) k h (own _, tt)
+  race_driver h = arm (Driven (λ F T. race) (λ F T. race_resumed)) (16 ∷ []) k h (own _, tt)
 
   -- two kinds, of which one exchanges Success and Failure
   module _ (x : Bool) (e : x ≡ exchanges_of k) where
-    pub sequence_driver : OneOf (6 ∷ 8 ∷ []) (tag_of the_type k) → Driven (λ F T. turned_by x sequence) (λ F T. sequence_resumed x) Nothing k
+    pub sequence_driver : OneOf (6 ∷ 8 ∷ []) (tag_of the_type k) → Driven (λ F T. turned_by x sequence) (λ F T. sequence_resumed x) k
     unfolding kind_of by_kind
-    sequence_driver h = rw e (arm (λ k. let x = exchanges_of k in Driven (λ F T. turned_by x sequence) (λ F T. sequence_resumed x) Nothing k)
+    sequence_driver h = rw e (arm (λ k. let x = exchanges_of k in Driven (λ F T. turned_by x sequence) (λ F T. sequence_resumed x) k)
         (6 ∷ 8 ∷ []) k h (own _, (own _, tt)))
 
-    pub memoryless_driver : OneOf (9 ∷ 10 ∷ []) (tag_of the_type k) → Driven (λ F T. turned_by x memoryless) (λ F T. memoryless_resumed x) Past k
+    pub memoryless_driver : OneOf (9 ∷ 10 ∷ []) (tag_of the_type k) → Driven (λ F T. turned_by x memoryless) (λ F T. memoryless_resumed x) k
     unfolding kind_of by_kind
-    memoryless_driver h = rw e (arm (λ k. let x = exchanges_of k in Driven (λ F T. turned_by x memoryless) (λ F T. memoryless_resumed x) Past k)
+    memoryless_driver h = rw e (arm (λ k. let x = exchanges_of k in Driven (λ F T. turned_by x memoryless) (λ F T. memoryless_resumed x) k)
         (9 ∷ 10 ∷ []) k h (own _, (own _, tt)))
 
-    pub when_all_driver : OneOf (13 ∷ 14 ∷ []) (tag_of the_type k) → Driven (λ F T. turned_by x (λ v. when_all v (largest F))) (λ F T. when_all_resumed x) Past k
+    pub when_all_driver : OneOf (13 ∷ 14 ∷ []) (tag_of the_type k) → Driven (λ F T. turned_by x (λ v. when_all v (largest F))) (λ F T. when_all_resumed x) k
     unfolding kind_of by_kind
-    when_all_driver h = rw e (arm (λ k. let x = exchanges_of k in Driven (λ F T. turned_by x (λ v. when_all v (largest F))) (λ F T. when_all_resumed x) Past k)
+    when_all_driver h = rw e (arm (λ k. let x = exchanges_of k in Driven (λ F T. turned_by x (λ v. when_all v (largest F))) (λ F T. when_all_resumed x) k)
         (13 ∷ 14 ∷ []) k h (own _, (own _, tt)))
 
--- the first arm has no driver
-no : ◌≡◌ {A = Bool} true false → ⊥
-no e = let z : ◌≡◌ {A = ℕ} 0 1 = cc in omega arith
-
-pub not_entered : (k : Kind) → OneOf (0 ∷ 1 ∷ 2 ∷ 3 ∷ 4 ∷ 5 ∷ []) (tag_of the_type k) → is_leaf k ≡ false → is_decorator k ≡ false → ⊥
-unfolding kind_of
-not_entered k h = arm (λ k. is_leaf k ≡ false → is_decorator k ≡ false → ⊥) (0 ∷ 1 ∷ 2 ∷ 3 ∷ 4 ∷ 5 ∷ []) k h
-    ((λ a b. no a), ((λ a b. no a), ((λ a b. no a), ((λ a b. no b), ((λ a b. no b), ((λ a b. no b), tt))))))
-
--- ---- what a driver asks of an open node
-pub asked : {g : Format → Lent → Visitor → Visitor} {f : Format → Lent → Resumed} {N : Level → Type 0} {e : Level} → Sound e → Driven g f N e.kind → Fine e × N e
-asked {e = e} s d = (s.fine, d.is_ready e s.ready)
-
 -- ---- a turn of a driver
-module _ {g : Format → Lent → Visitor → Visitor} {f : Format → Lent → Resumed} {N : Level → Type 0} {e : Level} {t : Turn} (d : Driven g f N e.kind) (k : Keeps e t) where
+module _ {g : Format → Lent → Visitor → Visitor} {f : Format → Lent → Resumed} {e : Level} {t : Turn} (d : Driven g f e.kind) (k : Keeps e t) where
   goes_on : (F : Format) (T : Lent) (v : Visitor) (ws : List ℕ) (ts : List Float) → goes (f F T) v t ws ts ≡ goes (resumed_by F T) v t ws ts
   goes_on F T v ws ts =
       let o = v t.level.child t.left ws ts in
       ap (λ (x : Out). cond t.due x (out t.seen t.left ws ts))
       (sym (d.resumes F T v t.level o) ∙ ap (λ (x : Kind). resumed_as F T v x t.level o) (sym k.kind))
-
-  keeps_sound : (t.due ≡ true → N t.level) → KeepsSound e t
-  keeps_sound h = record {
-    kind = k.kind;
-    node = k.node;
-    sound = λ i. record { fine = k.fine i; ready = subst (λ (x : Kind). Ready x t.level) (sym k.kind) (d.made_ready t.level (h i)) };
-  }
 
   -- the child has given a result; a driver that visits children itself does so as `visit` does
   abbrev Resumes : List Float → Seen → Float → List ℕ → List Float → List ℕ → List Float → (Format → Lent → Resumed) → Type 0
@@ -127,22 +83,14 @@ module _ {g : Format → Lent → Visitor → Visitor} {f : Format → Lent → 
       → let T = lent limits a b in let v = visit binary64 T tk in g binary64 T v e (out s l ws ts) ≡ goes (g binary64 T) v t ws₁ ts₁
 
   module _ {limits : List Float} {s : Seen} {l : Float} {ws : List ℕ} {ts : List Float} (ws₁ : List ℕ) (ts₁ : List Float) where
-    pub visited_by : Resumes limits s l ws ts ws₁ ts₁ f → (t.due ≡ true → N t.level) → fuel_of ws₁ ≤ fuel_of ws
-        → Resumes limits s l ws ts ws₁ ts₁ resumed_by × (KeepsSound e t × (fuel_of ws₁ ≤ fuel_of ws))
-    visited_by h n w =
-        (λ a b tk. let T = lent limits a b in let v = visit binary64 T tk in d.resumes binary64 T v e (out s l ws ts) ∙ h a b tk ∙ goes_on binary64 T v ws₁ ts₁, (keeps_sound n, w))
-
-    pub resumed_by_lem : ((a : List ℕ) (b : List Float) (v : Visitor) → f binary64 (lent limits a b) v e (out s l ws ts) ≡ goes (f binary64 (lent limits a b)) v t ws₁ ts₁)
-        → (t.due ≡ true → N t.level) → fuel_of ws₁ ≡ fuel_of ws → Resumes limits s l ws ts ws₁ ts₁ resumed_by × (KeepsSound e t × (fuel_of ws₁ ≤ fuel_of ws))
-    resumed_by_lem h n w = visited_by (λ a b tk. h a b (visit binary64 (lent limits a b) tk)) n (omega arith)
+    pub visited_by : Resumes limits s l ws ts ws₁ ts₁ f → Resumes limits s l ws ts ws₁ ts₁ resumed_by
+    visited_by h a b tk = let T = lent limits a b in let v = visit binary64 T tk in d.resumes binary64 T v e (out s l ws ts) ∙ h a b tk ∙ goes_on binary64 T v ws₁ ts₁
 
 -- the node is entered
-module _ {g : Format → Lent → Visitor → Visitor} {f : Format → Lent → Resumed} {N : Level → Type 0} {k : Kind} {p : ℕ} {dt : Float} {e : Level} {t : Turn}
-    (i : e ≡ entered_level k p dt) (d : Driven g f N k) (keeps : Keeps e t) where
+module _ {g : Format → Lent → Visitor → Visitor} {f : Format → Lent → Resumed} {k : Kind} {p : ℕ} {dt : Float} {e : Level} {t : Turn}
+    (i : e ≡ entered_level k p dt) (d : Driven g f k) (keeps : Keeps e t) where
   pub opened_by : (ws : List ℕ) (ts : List Float) (ws₁ : List ℕ) (ts₁ : List Float)
-      → ((T : Lent) (v : Visitor) → g binary64 T v e.node e.whole ws ts ≡ goes (f binary64 T) v t ws₁ ts₁) → (t.due ≡ true → N t.level) → fuel_of ws₁ ≡ fuel_of ws
-      → ((T : Lent) (v : Visitor) → by_kind binary64 T v k p dt ws ts ≡ goes (resumed_by binary64 T) v t ws₁ ts₁)
-      × (KeepsSound (entered_level k p dt) t × (fuel_of ws₁ ≡ fuel_of ws))
-  opened_by ws ts ws₁ ts₁ h n w =
-      let own = rw i at keeps in
-      (λ T v. d.enters binary64 T v p dt ws ts ∙ (rw i at (h T v)) ∙ goes_on d own binary64 T v ws₁ ts₁, (keeps_sound d own n, w))
+      → ((T : Lent) (v : Visitor) → g binary64 T v e.node e.whole ws ts ≡ goes (f binary64 T) v t ws₁ ts₁)
+      → (T : Lent) (v : Visitor) → by_kind binary64 T v k p dt ws ts ≡ goes (resumed_by binary64 T) v t ws₁ ts₁
+  opened_by ws ts ws₁ ts₁ h T v =
+      let own = rw i at keeps in d.enters binary64 T v p dt ws ts ∙ (rw i at (h T v)) ∙ goes_on d own binary64 T v ws₁ ts₁

@@ -1,8 +1,7 @@
--- One law for each path of the sequence drivers; and 256 turns stand for as many as are left.
+-- Laws for the paths of the sequence drivers; and 256 turns stand for as many as are left.
 use mathlib.Core.Path.{◌≡◌, refl, sym, ◌∙◌}
-use mathlib.Core.Bool.{Bool, true, false, cond}
-use mathlib.Core.List.{List, [], ◌∷◌}
-use types.Run.{miss}
+use mathlib.Core.Bool.{Bool, true, cond}
+use mathlib.Core.List.{List}
 use Prim.Native.Nat.{ℕ, zero, suc, ◌+◌, ◌-◌, ◌≤◌, ◌<◌}
 use native.Mathlib.Decide.{dec_lt}
 use native.Mathlib.Omega.{arith}
@@ -12,15 +11,14 @@ use Rattle.rules.specs.declared.status.Status.{Status}
 use Rattle.rules.specs.declared.status.Status.TheVariants as status
 use Rattle.rules.specs.Tree.{zero_time}
 use Rattle.work.specs.declared.result.Seen.{Seen}
-use Rattle.work.specs.declared.result.Seen.TheVariants.{Stopped, Running, Success, Failure}
+use Rattle.work.specs.declared.result.Seen.TheVariants.{Running, Success}
 use Rattle.work.specs.Word.{place_of}
-use Rattle.work.specs.Array.{word_at, updates, passed, end_of, set_place, fresh_words, fresh_times, child_from, up_on}
+use Rattle.work.specs.Array.{word_at, updates, passed, end_of, fresh_words, fresh_times, child_from}
 use Rattle.work.specs.Flat.{Out, out, Step, Visitor, and_then, turned, turn_out, turning, sequence_on, memoryless_on, sequence_go, sequence, memoryless_go, memoryless}
-use Rattle.work.proofs.Laws.{Among}
 use Rattle.turns.specs.declared.level.Level.{Level}
 use Rattle.turns.specs.Levels.{sequence_resumed, memoryless_resumed}
 use Rattle.turns.proofs.FuelLaws.{then_alike}
-use Rattle.turns.proofs.TurnLaws.{turned_as, end_past}
+use Rattle.turns.proofs.TurnLaws.{end_past}
 
 cond_alike : (u : Bool) (a b w : Out) → a ≡ b → cond u a w ≡ cond u b w
 cond_alike u a b w h = rw h
@@ -74,25 +72,9 @@ module _ (x : Bool) (v : Visitor) (p : ℕ) (dt : Float) (ws : List ℕ) (ts : L
 
 -- a child has given a result
 module _ (x : Bool) (v : Visitor) (e : Level) (s : Seen) (l : Float) (ws : List ℕ) (ts : List Float) where
-  pub seq_stopped : turned x s ≡ Stopped → sequence_resumed x v e (out s l ws ts) ≡ out s l ws ts
-  seq_stopped h = rw h (turned_as x s Stopped l ws ts h)
-
-  pub seq_running : turned x s ≡ Running → (ws₁ : List ℕ) → ws₁ ≡ set_place ws e.node e.index → sequence_resumed x v e (out s l ws ts) ≡ out Running zero_time ws₁ ts
-  seq_running h ws₁ f = rw (h, f)
-
-  pub seq_failed : turned x s ≡ Failure → (ws₁ : List ℕ) → ws₁ ≡ set_place ws e.node e.index → sequence_resumed x v e (out s l ws ts) ≡ out s l ws₁ ts
-  seq_failed h ws₁ f = rw (h, f) (turned_as x s Failure l _ ts h)
-
   module _ (h : turned x s ≡ Success) (next : ℕ) (n : next ≡ end_of ws e.child) where
-    pub seq_last : e.stop ≤ next → (u : Bool) → u ≡ updates ws → (j : ℕ) → j ≡ up_on u e.index → (ws₁ : List ℕ) → ws₁ ≡ set_place ws e.node j
-        → sequence_resumed x v e (out s l ws ts) ≡ out s l ws₁ ts
-    seq_last g u a j b ws₁ f = rw (h, ← n, le-leb e.stop next g, ← a, ← b, ← f) (turned_as x s Success l ws₁ ts h)
-
     module _ (g : next < e.stop) (behind : ℕ) (b : behind ≡ end_of ws next) (ws₁ : List ℕ) (ts₁ : List Float)
         (y : ws₁ ≡ fresh_words e.child (behind - e.child) ws) (z : ts₁ ≡ fresh_times e.child (behind - e.child) ts) where
-      pub seq_other : updates ws ≡ false → (ws₂ : List ℕ) → ws₂ ≡ set_place ws₁ e.node (e.index + 1) → sequence_resumed x v e (out s l ws ts) ≡ out Running zero_time ws₂ ts₁
-      seq_other u ws₂ f = rw (h, ← n, lt-leb e.stop next g, ← b, ← y, ← z, u, ← f)
-
       pub seq_again : e.stop ≤ 256 → updates ws ≡ true
           → sequence_resumed x v e (out s l ws ts)
           ≡ turn_out x (and_then (turn_out x (v next l ws₁ ts₁)) (sequence_on e.node e.stop (sequence_go (turning x v) e.node e.stop 256) next (e.index + 1)))
@@ -148,19 +130,7 @@ module _ (x : Bool) (v : Visitor) (p : ℕ) (dt : Float) (ws : List ℕ) (ts : L
 
 -- a child has given a result
 module _ (x : Bool) (v : Visitor) (e : Level) (s : Seen) (l : Float) (ws : List ℕ) (ts : List Float) where
-  pub mem_ended : (t : Seen) → turned x s ≡ t → Among (0 ∷ 3 ∷ []) t → memoryless_resumed x v e (out s l ws ts) ≡ out s l ws ts
-  mem_ended Stopped h n = rw h (turned_as x s Stopped l ws ts h)
-  mem_ended Running h n = absurd (miss (0 ∷ 3 ∷ []) 1 tt n)
-  mem_ended Success h n = absurd (miss (0 ∷ 3 ∷ []) 2 tt n)
-  mem_ended Failure h n = rw h (turned_as x s Failure l ws ts h)
-
-  pub mem_running : turned x s ≡ Running → memoryless_resumed x v e (out s l ws ts) ≡ out Running zero_time ws ts
-  mem_running h = rw h
-
   module _ (h : turned x s ≡ Success) where
-    pub mem_last : e.stop ≤ e.next → (r : Float) → r ≡ passed ws l → memoryless_resumed x v e (out s l ws ts) ≡ out s r ws ts
-    mem_last g r f = rw (h, le-leb e.stop e.next g, ← f) (turned_as x s Success r ws ts h)
-
     pub mem_again : e.stop ≤ 256 → e.next < e.stop → (ws₁ : List ℕ) (ts₁ : List Float)
         → ws₁ ≡ fresh_words e.child (e.next - e.child) ws → ts₁ ≡ fresh_times e.child (e.next - e.child) ts → (behind : ℕ) → behind ≡ end_of ws₁ e.next
         → memoryless_resumed x v e (out s l ws ts)

@@ -1,6 +1,6 @@
--- A turn that is done, and one that is due; and where children stand.
-use mathlib.Core.Path.{◌≡◌, ap, ◌∙◌}
-use mathlib.Core.Bool.{Bool, true, false, cond}
+-- A turn that is due; and where children stand.
+use mathlib.Core.Path.{◌≡◌}
+use mathlib.Core.Bool.{cond}
 use mathlib.Core.List.{List}
 use Prim.Native.Nat.{ℕ, zero, suc, ◌+◌, ◌-◌, ◌≤◌, ◌<◌}
 use native.Mathlib.Decide.{dec_lt}
@@ -8,40 +8,17 @@ use native.Mathlib.Omega.{arith}
 use lib.Dec.{ltb}
 use lib.Ieee.{Float}
 use borrow.Author.Tests.{le-leb, lt-leb, lt-ltb, le-ltb}
-use Rattle.work.specs.declared.result.Result.{Result}
-use Rattle.work.specs.declared.result.Seen.{Seen}
 use Rattle.work.specs.Word.{below_of}
-use Rattle.work.specs.Array.{word_at, fuel_of, end_of, set_place, fresh_words, child_from}
-use Rattle.work.specs.Flat.{out, turned}
-use Rattle.work.proofs.VisitLaws.{turned_back}
+use Rattle.work.specs.Array.{word_at, fuel_of, end_of, fresh_words, child_from}
 use Rattle.turns.specs.declared.level.Level.{Level}
 use Rattle.turns.specs.declared.level.Turn.{Turn}
-use Rattle.turns.specs.Levels.{Fine, Keeps, due_turn, done_turn}
-use Rattle.turns.proofs.FuelLaws.{fuel_set, fuel_fresh_to}
-
--- ---- a node that is done, with the equation of its turn put in
-pub none : {A : Type 0} → ◌≡◌ {A = Bool} false true → A
-none h = let z : ◌≡◌ {A = ℕ} 0 1 = cc in absurd (omega arith)
-
-pub over : {e n : Level} {r : Result} → n.kind ≡ e.kind → n.node ≡ e.node → Keeps e (done_turn n r)
-over k p = record { kind = k; node = p; fine = none }
+use Rattle.turns.specs.Levels.{Fine, Keeps, due_turn}
+use Rattle.turns.proofs.FuelLaws.{fuel_fresh_to}
 
 -- ---- a child is due
 module _ (n : Level) (l : Float) (t : Turn) (d : t ≡ due_turn n l) where
   pub due_keeps : (e : Level) → n.kind ≡ e.kind → n.node ≡ e.node → Fine n → Keeps e t
   due_keeps e k p f = rw d (record { kind = k; node = p; fine = λ h. f })
-
--- of a level with other places
-pub keeps_as : (e n : Level) (t : Turn) → n.kind ≡ e.kind → n.node ≡ e.node → Keeps n t → Keeps e t
-keeps_as e n t k p f = record { kind = f.kind ∙ k; node = f.node ∙ p; fine = f.fine }
-
--- ---- a node has a word
-pub node_within : {e : Level} → Fine e → e.node < 256
-node_within f = omega (arith, f.node_in, f.child_in)
-
--- ---- exchanged twice
-pub turned_as : (x : Bool) (s t : Seen) (l : Float) (ws : List ℕ) (ts : List Float) → turned x s ≡ t → out (turned x t) l ws ts ≡ out s l ws ts
-turned_as x s t l ws ts h = ap (λ (u : Seen). out u l ws ts) (turned_back x s t h)
 
 -- ---- where a child ends, and where the next begins
 past : (q e : ℕ) → q < 256 → q < cond (ltb (q + 1 + e) 256) (q + 1 + e) 256
@@ -71,8 +48,6 @@ pub child_behind : (ws : List ℕ) (stop i p q : ℕ) → stop ≤ 256 → q ≡
 child_behind ws stop i p q h e = rw e (child_past ws stop i p h)
 
 -- ---- what is written leaves the fuel as it is
-pub fuel_placed : (ws ws₁ : List ℕ) (p i : ℕ) → p < 256 → ws₁ ≡ set_place ws p i → fuel_of ws₁ ≡ fuel_of ws
-fuel_placed ws ws₁ p i h e = rw e (fuel_set ws p _ h)
 
 pub fuel_freshed : (ws ws₁ : List ℕ) (q to : ℕ) → to ≤ 256 → ws₁ ≡ fresh_words q (to - q) ws → fuel_of ws₁ ≡ fuel_of ws
 fuel_freshed ws ws₁ q to h e = rw e (fuel_fresh_to ws q to h)

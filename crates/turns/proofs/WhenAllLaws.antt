@@ -1,8 +1,7 @@
 -- The turns that a driver still has do not matter, as long as there are enough of them: 256 may stand for what is left of 256.
 use mathlib.Core.Path.{◌≡◌, refl, sym, ap, ◌∙◌}
 use mathlib.Core.Bool.{Bool, true, false, cond, not, ◌&&◌}
-use mathlib.Core.List.{List, [], ◌∷◌}
-use types.Run.{miss}
+use mathlib.Core.List.{List}
 use Prim.Native.Nat.{ℕ, zero, suc, ◌+◌, ◌-◌, ◌≤◌, ◌<◌}
 use native.Mathlib.Decide.{dec_lt}
 use native.Mathlib.Omega.{arith}
@@ -13,22 +12,20 @@ use Rattle.rules.specs.declared.status.Status.{Status}
 use Rattle.rules.specs.declared.status.Status.TheVariants as status
 use Rattle.rules.specs.Tree.{zero_time}
 use Rattle.rules.specs.Outcome.{smaller}
-use Rattle.work.specs.declared.result.Seen.{Seen}
-use Rattle.work.specs.declared.result.Seen.TheVariants.{Stopped, Running, Success, Failure}
+use Rattle.work.specs.declared.result.Seen.TheVariants.{Running, Success}
 use Rattle.work.specs.Word.{mark_of, place_of, with_mark}
-use Rattle.work.specs.Array.{word_at, fuel_of, end_of, passed, set_place, set_mark, fresh_words, fresh_times, child_from}
+use Rattle.work.specs.Array.{word_at, fuel_of, end_of, passed, set_place, set_mark, fresh_words, child_from}
 use Rattle.work.specs.Flat.{Out, out, Step, Visitor, lent, visit, and_then, waiting, turned, turn_out, turning, when_all_on, race_on, after_on}
 use Rattle.work.specs.Flat.{when_all_go, when_all, race_go, race, after_over, after_go, after}
 use Rattle.work.specs.declared.result.Result.{Result}
-use Rattle.work.proofs.Laws.{Among}
 use Rattle.work.proofs.VisitLaws.{turn_visit}
 use Rattle.leaves.specs.Waiting.{Waiting}
 use Rattle.leaves.specs.Waiting as w
 use Rattle.leaves.proofs.WaitLaws.{passed_on}
 use Rattle.turns.specs.declared.level.Level.{Level}
-use Rattle.turns.specs.Levels.{Fine, when_all_resumed, race_resumed, after_resumed}
+use Rattle.turns.specs.Levels.{Fine, when_all_resumed, race_resumed}
 use Rattle.turns.proofs.FuelLaws.{fuel_set, fuel_waiting, then_alike}
-use Rattle.turns.proofs.TurnLaws.{turned_as, end_past, fuel_freshed}
+use Rattle.turns.proofs.TurnLaws.{end_past, fuel_freshed}
 
 -- ---- Race
 race_on_alike : (f g : ℕ → Step) (next : ℕ) → ((ws : List ℕ) (ts : List Float) → f next ws ts ≡ g next ws ts)
@@ -67,12 +64,6 @@ module _ (v : Visitor) (stop : ℕ) (dt : Float) where
 pub race_start : (v : Visitor) (p stop : ℕ) (dt : Float) (ws : List ℕ) (ts : List Float) (o : Out) → stop ≡ end_of ws p → race_go v stop dt 256 (p + 1) ws ts ≡ o → race v p dt ws ts ≡ o
 unfolding race
 race_start v p stop dt ws ts o a g = rw (← a) g
-
-pub race_ends : (f : ℕ → Step) (next : ℕ) (s : Seen) (l : Float) (ws : List ℕ) (ts : List Float) → Among (0 ∷ 2 ∷ 3 ∷ []) s → and_then (out s l ws ts) (race_on f next) ≡ out s l ws ts
-race_ends f next Stopped l ws ts n = refl
-race_ends f next Running l ws ts n = absurd (miss (0 ∷ 2 ∷ 3 ∷ []) 1 tt n)
-race_ends f next Success l ws ts n = refl
-race_ends f next Failure l ws ts n = refl
 
 -- ---- WhenAll
 when_on_alike : (f g : ℕ → Bool → Float → Step) (q next : ℕ) (all : Bool) (least : Float)
@@ -214,19 +205,6 @@ module _ (x : Bool) (v : Visitor) (top : Float) (p : ℕ) (dt : Float) (ws : Lis
   unfolding when_all
   when_start h o g = rw (← a, lt-leb stop (p + 1) h) g
 
--- what WhenAll makes of the result of a child
-module _ (x : Bool) (v : Visitor) (e : Level) (r : Result) (ws : List ℕ) (ts : List Float) where
-  pub when_ended : (t : Seen) → turned x r.seen ≡ t → Among (0 ∷ 3 ∷ []) t → when_all_resumed x v e (out r.seen r.left ws ts) ≡ out r.seen r.left ws ts
-  when_ended Stopped h n = rw h (turned_as x r.seen Stopped r.left ws ts h)
-  when_ended Running h n = absurd (miss (0 ∷ 3 ∷ []) 1 tt n)
-  when_ended Success h n = absurd (miss (0 ∷ 3 ∷ []) 2 tt n)
-  when_ended Failure h n = rw h (turned_as x r.seen Failure r.left ws ts h)
-
-  pub when_succeeds : turned x r.seen ≡ Success → (ws₁ ws₂ : List ℕ) (ts₁ : List Float) (l : Float) (o : Out) → ws₁ ≡ fresh_words e.child (e.next - e.child) ws
-      → ws₂ ≡ set_mark ws₁ e.child → ts₁ ≡ fresh_times e.child (e.next - e.child) ts → l ≡ smaller e.rest r.left
-      → turn_out x (when_all_go (turning x v) e.stop e.whole 256 e.next (not (eqb e.count 0)) l ws₂ ts₁) ≡ o → when_all_resumed x v e (out r.seen r.left ws ts) ≡ o
-  when_succeeds h ws₁ ws₂ ts₁ l o a b c d g = rw (h, ← a, ← b, ← c, ← d) g
-
 -- what it writes leaves the fuel as it is
 pub when_fuel : (e : Level) → Fine e → (ws ws₁ ws₂ : List ℕ) → ws₁ ≡ fresh_words e.child (e.next - e.child) ws → ws₂ ≡ set_mark ws₁ e.child → fuel_of ws₂ ≡ fuel_of ws
 when_fuel e f ws ws₁ ws₂ a b =
@@ -289,23 +267,3 @@ pub after_start : (v : Visitor) (top : Float) (p stop i q : ℕ) (dt : Float) (w
     → q ≡ child_from ws stop i (p + 1) → after_go v p stop dt 256 q i true top ws ts ≡ o → after v top p dt ws ts ≡ o
 unfolding after
 after_start v top p stop i q dt ws ts o a b d g = rw (← a, ← b, ← d) g
-
--- what After makes of the result of a child
-module _ (v : Visitor) (e : Level) (r : Result) (ws : List ℕ) (ts : List Float) where
-  pub after_stops : r.seen ≡ Stopped → after_resumed v e (out r.seen r.left ws ts) ≡ out r.seen r.left ws ts
-  after_stops h = rw h
-
-  pub after_fails : r.seen ≡ Failure → (ws₁ : List ℕ) → ws₁ ≡ set_place ws e.node e.index → after_resumed v e (out r.seen r.left ws ts) ≡ out r.seen r.left ws₁ ts
-  after_fails h ws₁ f = rw (h, f)
-
-  pub after_runs : r.seen ≡ Running → (o : Out) → after_go v e.node e.stop e.whole 256 e.next e.index false zero_time ws ts ≡ o
-      → after_resumed v e (out r.seen r.left ws ts) ≡ o
-  after_runs h o g = rw h g
-
-  pub after_late : r.seen ≡ Success → not (eqb e.count 0) && lt r.left e.rest ≡ false → (ws₁ : List ℕ) → ws₁ ≡ set_place ws e.node e.index
-      → (l : Float) → l ≡ smaller e.rest r.left → after_resumed v e (out r.seen r.left ws ts) ≡ out Failure l ws₁ ts
-  after_late h n ws₁ f l g = rw (h, n, f, g)
-
-  pub after_sooner : r.seen ≡ Success → not (eqb e.count 0) && lt r.left e.rest ≡ true → (o : Out)
-      → after_go v e.node e.stop e.whole 256 e.next (e.index + 1) true r.left ws ts ≡ o → after_resumed v e (out r.seen r.left ws ts) ≡ o
-  after_sooner h n o g = rw (h, n) g
