@@ -6,7 +6,6 @@ use Rattle.branch.specs.Depth.{Known}
 use Rattle.branch.proofs.Depths.{Left}
 use Rattle.branch.proofs.depth.deepest.Given as goal
 
--- The trees before `at` are at most so deep.
 abbrev pub invariant-loop-at : goal.invariant-loop-at
 invariant-loop-at l = (ts : Forest) → EachAll l.ends Any l.from ts l.stop → depths ts ≤ 16 → Known l.deep l.ends l.from l.stop → Left l.ends l.from l.stop ts l.levels l.at
 

@@ -5,7 +5,6 @@ use lib.ListN.{length}
 use Rattle.branch.specs.Depth.{Known}
 use Rattle.branch.proofs.depth.depth_of.Given as goal
 
--- The depth of each tree from `at` on is known.
 abbrev pub invariant-loop-at : goal.invariant-loop-at
 invariant-loop-at l = (l.at ≤ l.n) × (length l.deep ≡ 256) × Known l.deep l.ends l.at l.n
 

@@ -5,7 +5,6 @@ use Rattle.branch.specs.Way.{Stands}
 use Rattle.branch.proofs.Ways.{Going}
 use Rattle.branch.proofs.way.way_to.Given as goal
 
--- Each turn goes past a child or into it.
 abbrev pub invariant-loop-child : goal.invariant-loop-child
 invariant-loop-child l = (t : Tree) → Stands l.kinds l.ns l.ends l.places l.marks t → l.at < size t → Going l.kinds l.ns l.ends l.places l.marks t l.at l.up l.above l.child l.i l.spot
 

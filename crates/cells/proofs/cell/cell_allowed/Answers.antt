@@ -20,33 +20,28 @@ returns-then-ended c =
 pub returns-then-not-time_allowed : goal.returns-then-not-time_allowed
 unfolding cell_allowed
 returns-then-not-time_allowed c =
-    let bare = c in
     let time = c.time_allowed in
-    rw (bare.if-ended.false, eq-eqb _ 0 bare.if-mark-eq0.true, sym time.ensures ∙ c.if-not-time_allowed.true)
+    rw (c.if-ended.false, eq-eqb _ 0 c.if-mark-eq0.true, sym time.ensures ∙ c.if-not-time_allowed.true)
 
 pub returns-then-mark-eq0 : goal.returns-then-mark-eq0
 unfolding cell_allowed
 returns-then-mark-eq0 c =
-    let bare = c in
     let time = c.time_allowed in
-    rw (bare.if-ended.false, eq-eqb _ 0 bare.if-mark-eq0.true, sym time.ensures ∙ c.if-not-time_allowed.false)
+    rw (c.if-ended.false, eq-eqb _ 0 c.if-mark-eq0.true, sym time.ensures ∙ c.if-not-time_allowed.false)
     c.place_allowed.ensures
 
 pub returns-then-not-may_end : goal.returns-then-not-may_end
 unfolding cell_allowed
 returns-then-not-may_end c =
-    let marked = c in
-    rw (marked.if-ended.false, ne_eqb _ 0 marked.if-mark-eq0.false, c.if-not-may_end.true, and-false)
+    rw (c.if-ended.false, ne_eqb _ 0 c.if-mark-eq0.false, c.if-not-may_end.true, and-false)
 
 pub returns-then-mark-ne1 : goal.returns-then-mark-ne1
 unfolding cell_allowed
 returns-then-mark-ne1 c =
-    let marked = c in
-    rw (marked.if-ended.false, ne_eqb _ 0 marked.if-mark-eq0.false, ne_eqb _ 1 c.if-mark-ne1.true)
+    rw (c.if-ended.false, ne_eqb _ 0 c.if-mark-eq0.false, ne_eqb _ 1 c.if-mark-ne1.true)
 
 pub returns : goal.returns
 unfolding cell_allowed
 returns c =
-    let marked = c in
     let may = c.if-not-may_end.false in
-    rw (marked.if-ended.false, ne_eqb _ 0 marked.if-mark-eq0.false, may, eq-eqb _ 1 c.if-mark-ne1.false) c.at_start-2.ensures
+    rw (c.if-ended.false, ne_eqb _ 0 c.if-mark-eq0.false, may, eq-eqb _ 1 c.if-mark-ne1.false) c.at_start-2.ensures

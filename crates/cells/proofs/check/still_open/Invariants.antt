@@ -4,7 +4,6 @@ use Prim.Native.Nat.{◌≤◌}
 use Rattle.cells.specs.Check.{still_open}
 use Rattle.cells.proofs.check.still_open.Given as goal
 
--- As many nodes are open as of those that are left.
 abbrev pub invariant-loop-left : goal.invariant-loop-left
 invariant-loop-left l = (l.left ≤ 16) × (still_open l.stops l.at l.left ≡ still_open l.stops l.at l.count)
 

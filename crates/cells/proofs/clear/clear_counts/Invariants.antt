@@ -3,7 +3,6 @@ use Prim.Native.Nat.{◌-◌}
 use Rattle.work.proofs.Filling.{Filling}
 use Rattle.cells.proofs.clear.clear_counts.Given as goal
 
--- The entries before i are zero.
 abbrev pub invariant-loop-i : goal.invariant-loop-i
 invariant-loop-i l = Filling 0 l.initial.counts l.n l.i l.counts
 

@@ -4,7 +4,6 @@ use Rattle.rules.specs.Tree.{zero_time}
 use Rattle.work.proofs.Filling.{Filling}
 use Rattle.cells.proofs.clear.clear_times.Given as goal
 
--- The times before i are zero.
 abbrev pub invariant-loop-i : goal.invariant-loop-i
 invariant-loop-i l = Filling zero_time l.initial.times l.n l.i l.times
 

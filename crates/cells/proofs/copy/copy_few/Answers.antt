@@ -5,9 +5,8 @@ use Rattle.cells.proofs.copy.copy_few.Goals as goal
 
 pub loop-i-preserved : goal.loop-i-preserved
 loop-i-preserved c =
-    let at = c in
-    let inv = at.loop-i.invariant in
-    let pre = at.requires in
+    let inv = c.loop-i.invariant in
+    let pre = c.requires in
     let h = c.loop-i-test.true in (
       copying_more _ (pre.long.times, pre.long_2.times) inv.0 h refl,
       copying_more _ (pre.long.places, pre.long_2.places) inv.1 h refl,

@@ -3,7 +3,6 @@ use Prim.Native.Nat.{◌-◌}
 use Rattle.cells.proofs.Copies.{Copying}
 use Rattle.cells.proofs.copy.copy_marks.Given as goal
 
--- What stands before i is copied.
 abbrev pub invariant-loop-i : goal.invariant-loop-i
 invariant-loop-i l = Copying l.from l.initial.to l.n l.i l.to
 

@@ -5,29 +5,23 @@ use Rattle.tables.proofs.answers.bad_answer.Goals as goal
 
 pub returns-then-leftovers-i : goal.returns-then-leftovers-i
 returns-then-leftovers-i c =
-    let loop = c in
-    let a = loop.args in
-    ends_second a.statuses.now a.leftovers.now loop.loop-i.i loop.loop-i.invariant.1.1 c.loop-i-test.true c.if-leftovers-i.true
+    let a = c.args in
+    ends_second a.statuses.now a.leftovers.now c.loop-i.i c.loop-i.invariant.1.1 c.loop-i-test.true c.if-leftovers-i.true
 
 pub returns-then-not-allowed : goal.returns-then-not-allowed
 returns-then-not-allowed c =
-    let first = c in
-    let loop = first in
-    let a = loop.args in
-    refuses a.statuses.now a.leftovers.now loop.loop-i.i loop.loop-i.invariant.1.1 _ _
-    first.loop-i-test.true first.if-leftovers-i.false c.allowed.ensures c.if-not-allowed.true
+    let a = c.args in
+    refuses a.statuses.now a.leftovers.now c.loop-i.i c.loop-i.invariant.1.1 _ _
+    c.loop-i-test.true c.if-leftovers-i.false c.allowed.ensures c.if-not-allowed.true
 
 pub loop-i-preserved : goal.loop-i-preserved
 loop-i-preserved c =
-    let first = c in
-    let loop = first in
-    let a = loop.args in
-    let on = goes_on a.statuses.now a.leftovers.now loop.loop-i.i loop.loop-i.invariant.1.1 _ _
-    first.loop-i-test.true first.if-leftovers-i.false c.allowed.ensures c.if-not-allowed.false in
+    let a = c.args in
+    let on = goes_on a.statuses.now a.leftovers.now c.loop-i.i c.loop-i.invariant.1.1 _ _
+    c.loop-i-test.true c.if-leftovers-i.false c.allowed.ensures c.if-not-allowed.false in
     (omega arith, (omega arith, on))
 
 pub returns : goal.returns
 returns c =
-    let loop = c in
-    let a = loop.args in
-    ends_first a.statuses.now a.leftovers.now loop.loop-i.i loop.loop-i.invariant.1.1 c.loop-i-test.false
+    let a = c.args in
+    ends_first a.statuses.now a.leftovers.now c.loop-i.i c.loop-i.invariant.1.1 c.loop-i-test.false

@@ -12,10 +12,8 @@ float_to_bits-number c = no_nan c.cleaned-number.result c.if-number.false
 
 pub returns-then-number-lt-INFINITY : goal.returns-then-number-lt-INFINITY
 returns-then-number-lt-INFINITY c =
-    let clean = c in
-    rw (← clean.cleaned-number.ensures, number_bits clean.cleaned-number.result (search rules), lt-ltb _ _ c.if-number-lt-INFINITY.true)
+    rw (← c.cleaned-number.ensures, number_bits c.cleaned-number.result (search rules), lt-ltb _ _ c.if-number-lt-INFINITY.true)
 
 pub returns-else-number-lt-INFINITY : goal.returns-else-number-lt-INFINITY
 returns-else-number-lt-INFINITY c =
-    let clean = c in
-    rw (← clean.cleaned-number.ensures, number_bits clean.cleaned-number.result (search rules), le-ltb _ _ c.if-number-lt-INFINITY.false)
+    rw (← c.cleaned-number.ensures, number_bits c.cleaned-number.result (search rules), le-ltb _ _ c.if-number-lt-INFINITY.false)

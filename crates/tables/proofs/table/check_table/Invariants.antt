@@ -3,7 +3,6 @@ use Prim.Native.Nat.{◌-◌}
 use Rattle.tables.proofs.Turn.{Nodes, Ended}
 use Rattle.tables.proofs.table.check_table.Given as goal
 
--- A tree is next, or a tree has ended: each way through a turn keeps what is known of the open nodes.
 abbrev pub invariant-loop-left : goal.invariant-loop-left
 invariant-loop-left l = Ended l.deep l.kinds l.ns l.limits l.initial.ends l.begins l.owed l.ends l.open l.left l.at
 
