@@ -2,8 +2,7 @@
 use mathlib.Core.Path.{◌≡◌, refl, sym, ap, ◌∙◌}
 use mathlib.Core.Bool.{Bool, true, false, cond}
 use mathlib.Core.List.{List, ◌++◌, append-nil}
-use mathlib.Core.List
-use Prim.Native.Nat.{ℕ, zero, suc, ◌+◌, ◌-◌, ◌^◌, ◌≤◌, ◌<◌, min}
+use Prim.Native.Nat.{ℕ, zero, suc, ◌-◌, ◌^◌, ◌≤◌, ◌<◌, min}
 use native.Mathlib.Numerals.{sub-one}
 use native.Mathlib.Omega.{arith}
 use borrow.Author.Tests.{eq-eqb, ne_eqb}
@@ -18,7 +17,7 @@ use Rattle.rules.specs.declared.event.Event.TheVariants.{Update, Other}
 use Rattle.rules.specs.declared.answer.Answer.{Answer}
 use Rattle.rules.specs.declared.answer.Answer.TheVariants.{Ticked, Asked, OutOfFuel}
 use Rattle.rules.specs.declared.answer.Record.{Record}
-use Rattle.rules.specs.Tree.{Cell, zero_time, fresh_cell, Tree, [], ◌∷◌, size, depth}
+use Rattle.rules.specs.Tree.{Cell, zero_time, fresh_cell, Tree, size, depth}
 use Rattle.rules.specs.Outcome.{event_of, dt, world, Out, done, asks, short}
 use Rattle.rules.specs.Table.{most_deep}
 use Rattle.rules.specs.Cells.{cells, with_cells, column, time_of, place_of, mark_of}
