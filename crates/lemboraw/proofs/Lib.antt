@@ -1,4 +1,0 @@
-mod Lend
-mod Shape
-mod Outer
-mod Roomed
