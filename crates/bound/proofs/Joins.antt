@@ -2,7 +2,7 @@
 use mathlib.Core.Path.{◌≡◌, refl, sym, ap, ◌∙◌}
 use Prim.Native.Nat.{ℕ, ◌+◌, ◌*◌, max}
 use native.Mathlib.Omega.{arith}
-use Rattle.rules.specs.Tree.{Forest, [], ◌∷◌}
+use Rattle.rules.specs.Tree.{Forest, [], ◌◂◌}
 use Rattle.rules.specs.Bound.{Lim, never, within, sum_l, max_l, times_l, bound}
 use Rattle.limits.specs.declared.node.Join.{Join}
 use Rattle.limits.specs.declared.node.Join.TheVariants.{Sum, Largest, Smallest, Product}
@@ -11,7 +11,7 @@ use Rattle.limits.specs.Node.{none_l, join_l, joined}
 -- from the first on, onto what there is
 unfoldable pub onto : Join → ℕ → Lim → Forest → Lim
 onto j d a [] = a
-onto j d a (t ∷ ts) = onto j d (join_l j a (bound d t)) ts
+onto j d a (t ◂ ts) = onto j d (join_l j a (bound d t)) ts
 
 -- an operation that gives none where one is none
 module _ (op : Lim → Lim → Lim) (f : ℕ → ℕ → ℕ)
@@ -51,9 +51,9 @@ swap Smallest (within a) (within b) (within c) = ap within (omega arith)
 out : (j : Join) (d : ℕ) (a b : Lim) (ts : Forest) → onto j d (join_l j a b) ts ≡ join_l j b (onto j d a ts)
 unfolding onto
 out j d a b [] = turn j a b
-out j d a b (t ∷ ts) = ap (λ (x : Lim). onto j d x ts) (swap j a b (bound d t)) ∙ out j d (join_l j a (bound d t)) b ts
+out j d a b (t ◂ ts) = ap (λ (x : Lim). onto j d x ts) (swap j a b (bound d t)) ∙ out j d (join_l j a (bound d t)) b ts
 
 pub onto_all : (j : Join) (d : ℕ) (ts : Forest) → onto j d (none_l j) ts ≡ joined j d ts
 unfolding onto joined
 onto_all j d [] = refl
-onto_all j d (t ∷ ts) = out j d (none_l j) (bound d t) ts ∙ ap (join_l j (bound d t)) (onto_all j d ts)
+onto_all j d (t ◂ ts) = out j d (none_l j) (bound d t) ts ∙ ap (join_l j (bound d t)) (onto_all j d ts)

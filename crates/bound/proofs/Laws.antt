@@ -13,7 +13,7 @@ use lib.ListN.{get_or, length}
 use Rattle.rules.specs.declared.behavior.Kind.{Kind}
 use Rattle.rules.specs.declared.behavior.Kind.TheVariants.{After}
 use Rattle.rules.specs.Kinds.{kind_of, is, timed, fewest, most, children}
-use Rattle.rules.specs.Tree.{zero_time, Cell, Tree, node, Forest, [], ◌∷◌, count}
+use Rattle.rules.specs.Tree.{zero_time, Cell, Tree, node, Forest, [], ◌◂◌, count}
 use Rattle.rules.specs.Table.{cleaned, row_allowed, count_allowed, limit_allowed}
 use Rattle.rules.specs.Bound.{Lim, within, whole_time, own_ticks, bound, boundable, boundables}
 use Rattle.tables.specs.At.{Row, At, Ats}
@@ -45,7 +45,7 @@ module _ (F : Format) (kinds ns : List ℕ) (limits : List Float) (ends : List �
 
   pub after_stop : (q : ℕ) (ts : Forest) (stop : ℕ) → Ats kinds ns limits ends q ts stop → after ends (count ts) q ≡ stop
   after_stop q [] stop h = h
-  after_stop q (t ∷ ts) stop h = after_stop (get_or ends q 0) ts stop h.1
+  after_stop q (t ◂ ts) stop h = after_stop (get_or ends q 0) ts stop h.1
 
   -- ---- a node's children
   room_down : (stop less : ℕ) → less ≤ stop → Room kinds ns limits stop → Room kinds ns limits less
@@ -60,13 +60,13 @@ module _ (F : Format) (kinds ns : List ℕ) (limits : List Float) (ends : List �
   children_stand q k n l c b ts h = record { held = h.held.1; whole = and_second (row_bounded F k (count ts) l) (boundables F ts) h.whole; are = refl }
 
   -- one tree, and those behind it
-  pub one_stands : (q many : ℕ) (t : Tree) (ts : Forest) (stop : ℕ) → Stand F kinds ns limits ends q many (t ∷ ts) stop → Stands F kinds ns limits ends q t
+  pub one_stands : (q many : ℕ) (t : Tree) (ts : Forest) (stop : ℕ) → Stand F kinds ns limits ends q many (t ◂ ts) stop → Stands F kinds ns limits ends q t
   unfolding boundable
   one_stands q many t ts stop h = record { held = h.held.0; whole = and_first (boundable F t) (boundables F ts) h.whole }
 
   pub rest_stand :
       (q many : ℕ) (t : Tree) (ts : Forest) (stop : ℕ) →
-      Stand F kinds ns limits ends q many (t ∷ ts) stop →
+      Stand F kinds ns limits ends q many (t ◂ ts) stop →
       Stand F kinds ns limits ends (get_or ends q 0) (many - 1) ts stop
   unfolding boundable
   rest_stand q many t ts stop h = record { held = h.held.1; whole = and_second (boundable F t) (boundables F ts) h.whole; are = omega (arith, h.are) }
@@ -118,7 +118,7 @@ module _ (F : Format) (kinds ns : List ℕ) (limits : List Float) (ends : List �
     alone_bound r a z (node k n l c b []) h =
         let a' : Alone k own r = subst (λ (k : Kind). Alone k own r) (same_kind k n l c b [] h) a in
         a' d n l c b (omega (arith, few q k n l 0 h.held.0)) (same_own k n l c b [] h)
-    alone_bound r a z (node k n l c b (t ∷ ts)) h = absurd (some (count ts) (same_count k n l c b (t ∷ ts) h ∙ z))
+    alone_bound r a z (node k n l c b (t ◂ ts)) h = absurd (some (count ts) (same_count k n l c b (t ◂ ts) h ∙ z))
       where
         some : (m : ℕ) → suc m ≡ 0 → ⊥
         some m e = omega arith
@@ -128,13 +128,13 @@ module _ (F : Format) (kinds ns : List ℕ) (limits : List Float) (ends : List �
         → ((ts : Forest) (stop : ℕ) → Stand F kinds ns limits ends (get_or ends (q + 1) 0) (many - 1) ts stop → rest ≡ clipped (joined join d ts))
         → (t : Tree) → Stands F kinds ns limits ends q t → r ≡ clipped (bound d t)
     together_bound first rest join r a z e f g (node k n l c b []) h = absurd (z (sym (same_count k n l c b [] h)))
-    together_bound first rest join r a z e f g (node k n l c b (t ∷ ts)) h =
-        let kk = same_kind k n l c b (t ∷ ts) h in
+    together_bound first rest join r a z e f g (node k n l c b (t ◂ ts)) h =
+        let kk = same_kind k n l c b (t ◂ ts) h in
         let a' : Together k own first rest r = subst (λ (k : Kind). Together k own first rest r) kk a in
-        let s : Stand F kinds ns limits ends (q + 1) (suc (count ts)) (t ∷ ts) (get_or ends q 0) = rw add-one (children_stand q k n l c b (t ∷ ts) h) in
+        let s : Stand F kinds ns limits ends (q + 1) (suc (count ts)) (t ◂ ts) (get_or ends q 0) = rw add-one (children_stand q k n l c b (t ◂ ts) h) in
         let rest = rest_stand (q + 1) (suc (count ts)) t ts (get_or ends q 0) s in
-        let s' : Stand F kinds ns limits ends (get_or ends (q + 1) 0) (many - 1) ts (get_or ends q 0) = rw (← same_count k n l c b (t ∷ ts) h) rest in
-        a' d n l c b t ts (omega (arith, enough q k n l (suc (count ts)) h.held.0)) (same_own k n l c b (t ∷ ts) h)
+        let s' : Stand F kinds ns limits ends (get_or ends (q + 1) 0) (many - 1) ts (get_or ends q 0) = rw (← same_count k n l c b (t ◂ ts) h) rest in
+        a' d n l c b t ts (omega (arith, enough q k n l (suc (count ts)) h.held.0)) (same_own k n l c b (t ◂ ts) h)
         (f t (one_stands (q + 1) (suc (count ts)) t ts (get_or ends q 0) s))
         (rw (e, kk) at (g ts (get_or ends q 0) s'))
 
@@ -170,9 +170,9 @@ module _ (F : Format) (kinds ns : List ℕ) (limits : List Float) (ends : List �
     where
       go : (t : Tree) → Stands F kinds ns limits ends q t → Children q many
       go (node k n l c b []) h = absurd (z (m-is ∙ rw (k_is, h.held.0.kind, h.held.0.number) (sym h.held.0.kids)))
-      go (node k n l c b (t ∷ ts)) h =
+      go (node k n l c b (t ◂ ts)) h =
           let m : many ≡ suc (count ts) = m-is ∙ rw (k_is, h.held.0.kind, h.held.0.number) (sym h.held.0.kids) in
-          let s : Stand F kinds ns limits ends (q + 1) many (t ∷ ts) (get_or ends q 0) = rw (add-one, m) (children_stand q k n l c b (t ∷ ts) h) in
+          let s : Stand F kinds ns limits ends (q + 1) many (t ◂ ts) (get_or ends q 0) = rw (add-one, m) (children_stand q k n l c b (t ◂ ts) h) in
           let s' = rest_stand (q + 1) many t ts (get_or ends q 0) s in
           let one = one_stands (q + 1) many t ts (get_or ends q 0) s in
           let up = ends_after (q + 1) t one.held in
@@ -209,7 +209,7 @@ module _ (F : Format) (kinds ns : List ℕ) (limits : List Float) (ends : List �
       where
         go : (us : Forest) → count us ≡ 0 → onto join d h.sofar us ≡ onto join d (none_l join) ts → all ≡ clipped (joined join d ts)
         go [] m e = h.counted ∙ ap clipped (e ∙ onto_all join d ts)
-        go (u ∷ us) m e = absurd (some (count us) m)
+        go (u ◂ us) m e = absurd (some (count us) m)
           where
             some : (m : ℕ) → suc m ≡ 0 → ⊥
             some m e = omega arith
@@ -232,7 +232,7 @@ module _ (F : Format) (kinds ns : List ℕ) (limits : List Float) (ends : List �
           where
             none : (m : ℕ) → 0 < m → 0 ≡ m → ⊥
             none m a b = omega arith
-        go (u ∷ us) s e =
+        go (u ◂ us) s e =
             let o = one_stands at left u us stop s in
             record {
               trees = us;
@@ -257,7 +257,7 @@ module _ (F : Format) (kinds ns : List ℕ) (limits : List Float) (ends : List �
           where
             none : (m : ℕ) → 0 < m → 0 ≡ m → ⊥
             none m a b = omega arith
-        go (u ∷ us) s =
+        go (u ◂ us) s =
             let o = one_stands at left u us r.stop s in
             let on = ends_from_lem (get_or ends at 0) us r.stop s.held.1 in
             let stops : after ends count₀ from ≡ r.stop = rw (← r.stand.are) (after_stop from r.trees r.stop r.stand.held) in

@@ -12,7 +12,7 @@ use lib.Ieee.{Float, Format, nan}
 use lib.ListN.{get_or, length}
 use Rattle.rules.specs.declared.behavior.Kind.{Kind}
 use Rattle.rules.specs.Kinds.{kind_of, children}
-use Rattle.rules.specs.Tree.{zero_time, Tree, node, Forest, [], ◌∷◌, count}
+use Rattle.rules.specs.Tree.{zero_time, Tree, node, Forest, [], ◌◂◌, count}
 use Rattle.rules.specs.Table.{cleaned}
 use Rattle.rules.specs.Bound.{boundable, boundables}
 use Rattle.tables.specs.At.{Row, At, Ats}
@@ -51,7 +51,7 @@ module _ (F : Format) (kinds ns : List ℕ) (limits : List Float) where
           (q : ℕ) (ts : Forest) (stop : ℕ) → Ats kinds ns limits ends q ts stop → stop ≤ top →
           ((i : ℕ) → q ≤ i → i < stop → row_at i ≡ true) → boundables F ts ≡ true
       all_rows_of q [] stop h u f = refl
-      all_rows_of q (t ∷ ts) stop h u f =
+      all_rows_of q (t ◂ ts) stop h u f =
           let on = ends_from_lem F kinds ns limits ends (get_or ends q 0) ts stop h.1 in
           let up = ends_after F kinds ns limits ends q t h.0 in
           let first = all_rows q t h.0 (omega arith) (λ i a b. f i a (omega arith)) in
@@ -72,7 +72,7 @@ module _ (F : Format) (kinds ns : List ℕ) (limits : List Float) where
           (q : ℕ) (ts : Forest) (stop : ℕ) → Ats kinds ns limits ends q ts stop → stop ≤ top →
           (i : ℕ) → q ≤ i → i < stop → row_at i ≡ false → boundables F ts ≡ false
       a_row_of q [] stop h u i from to e = absurd (omega arith)
-      a_row_of q (t ∷ ts) stop h u i from to e = ⊎_elim
+      a_row_of q (t ◂ ts) stop h u i from to e = ⊎_elim
           (λ (s : i < get_or ends q 0). rw (a_row q t h.0 (le_trans (ends_from_lem F kinds ns limits ends (get_or ends q 0) ts stop h.1) u) i from s e))
           (λ (s : get_or ends q 0 ≤ i). rw (a_row_of (get_or ends q 0) ts stop h.1 u i s to e) (and-false (boundable F t)))
           (either i (get_or ends q 0))

@@ -6,7 +6,7 @@ use native.Mathlib.Numerals.{add-one}
 use native.Mathlib.Omega.{arith}
 use lib.ListN.{length, get_or, set}
 use lib.Seq.{get_or-set_same, get_or-set_other}
-use Rattle.rules.specs.Tree.{Tree, node, Forest, [], ◌∷◌, size, depth, depths}
+use Rattle.rules.specs.Tree.{Tree, node, Forest, [], ◌◂◌, size, depth, depths}
 use Rattle.branch.specs.Each.{Each, EachAll, Any}
 use Rattle.branch.specs.Depth.{Known, Deepest}
 use Rattle.laws.specs.Tests.{below_or_not}
@@ -27,14 +27,14 @@ module _ (ends : List ℕ) (from stop : ℕ) (ts : Forest) where
     none_by : (us : Forest) → EachAll ends Any at us stop → max levels (depths us) ≡ depths ts → stop ≤ at → levels ≡ depths ts
     unfolding depth
     none_by [] h m past = omega arith
-    none_by (u ∷ us) h m past = absurd (omega (arith, each_end ends Any u at h.0, size_pos u, eachs_end ends Any us (get_or ends at 0) stop h.1))
+    none_by (u ◂ us) h m past = absurd (omega (arith, each_end ends Any u at h.0, size_pos u, eachs_end ends Any us (get_or ends at 0) stop h.1))
 
     pub none_left : Left levels at → stop ≤ at → levels ≡ depths ts
     none_left l past = none_by l.us l.stands l.most past
 
     goes_by : (us : Forest) → EachAll ends Any at us stop → at < stop → at < get_or ends at 0
     goes_by [] h before = absurd (omega (arith, h))
-    goes_by (u ∷ us) h before = omega (arith, each_end ends Any u at h.0, size_pos u)
+    goes_by (u ◂ us) h before = omega (arith, each_end ends Any u at h.0, size_pos u)
 
     pub goes_on : Left levels at → at < stop → at < get_or ends at 0
     goes_on l before = goes_by l.us l.stands before
@@ -43,7 +43,7 @@ module _ (ends : List ℕ) (from stop : ℕ) (ts : Forest) where
       next_by : (us : Forest) → EachAll ends Any at us stop → from ≤ at → max levels (depths us) ≡ depths ts → at < stop → Left (max levels (get_or deep at 0)) (get_or ends at 0)
       unfolding depth
       next_by [] h later m before = absurd (omega (arith, h))
-      next_by (u ∷ us) h later m before =
+      next_by (u ◂ us) h later m before =
           let e = each_end ends Any u at h.0 in
           let p = size_pos u in
           let z = eachs_end ends Any us (get_or ends at 0) stop h.1 in

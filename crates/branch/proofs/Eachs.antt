@@ -6,7 +6,7 @@ use native.Mathlib.Omega.{arith}
 use lib.Ieee.{Float}
 use lib.ListN.{get_or}
 use Rattle.rules.specs.declared.behavior.Kind.{Kind}
-use Rattle.rules.specs.Tree.{Cell, Tree, node, Forest, [], ◌∷◌, size, sizes}
+use Rattle.rules.specs.Tree.{Cell, Tree, node, Forest, [], ◌◂◌, size, sizes}
 use Rattle.branch.specs.Each.{Each, EachAll}
 
 pub size_pos : (t : Tree) → 0 < size t
@@ -22,7 +22,7 @@ module _ (ends : List ℕ) (P : ℕ → Kind → ℕ → Float → Cell → Type
 
     pub eachs_end : (ts : Forest) (q stop : ℕ) → EachAll ends P q ts stop → stop ≡ q + sizes ts
     eachs_end [] q stop h = omega (arith, h)
-    eachs_end (t ∷ ts) q stop h = omega (arith, each_end t q h.0, eachs_end ts (get_or ends q 0) stop h.1)
+    eachs_end (t ◂ ts) q stop h = omega (arith, each_end t q h.0, eachs_end ts (get_or ends q 0) stop h.1)
 
   module _ (Q : ℕ → Kind → ℕ → Float → Cell → Type 0) (to : (q : ℕ) (k : Kind) (n : ℕ) (l : Float) (c : Cell) → P q k n l c → Q q k n l c) where
     mutual
@@ -31,4 +31,4 @@ module _ (ends : List ℕ) (P : ℕ → Kind → ℕ → Float → Cell → Type
 
       pub eachs_map : (ts : Forest) (q stop : ℕ) → EachAll ends P q ts stop → EachAll ends Q q ts stop
       eachs_map [] q stop h = h
-      eachs_map (t ∷ ts) q stop h = (each_map t q h.0, eachs_map ts (get_or ends q 0) stop h.1)
+      eachs_map (t ◂ ts) q stop h = (each_map t q h.0, eachs_map ts (get_or ends q 0) stop h.1)

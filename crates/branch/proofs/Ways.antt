@@ -11,7 +11,7 @@ use lib.Ieee.{Float}
 use lib.ListN.{get_or}
 use Rattle.rules.specs.declared.behavior.Kind.{Kind}
 use Rattle.rules.specs.Kinds.{kind_of}
-use Rattle.rules.specs.Tree.{Cell, Tree, node, Forest, [], ◌∷◌, size, marked}
+use Rattle.rules.specs.Tree.{Cell, Tree, node, Forest, [], ◌◂◌, size, marked}
 use Rattle.rules.specs.Exchange.{spot, free, free_in}
 use Rattle.branch.specs.Each.{Each, EachAll}
 use Rattle.branch.specs.Way.{above, above_in, way_at, Node, Stands}
@@ -88,7 +88,7 @@ module _ (kinds ns ends places marks : List ℕ) where
     passes_by : (us : Forest) (stop : ℕ) → Among t at up levels child i in_spot us stop → get_or ends child 0 ≤ at → Going t at up levels (get_or ends child 0) (i + 1) in_spot
     unfolding free above
     passes_by [] stop a past = absurd (omega (arith, a.stands))
-    passes_by (u ∷ us) stop a past =
+    passes_by (u ◂ us) stop a past =
         let e = each_end ends Here u child a.stands.0 in
         let pos = size_pos u in
         let z : at - child - size u ≡ at - get_or ends child 0 = omega arith in
@@ -110,7 +110,7 @@ module _ (kinds ns ends places marks : List ℕ) where
 
     later_by : (us : Forest) (stop : ℕ) → Among t at up levels child i in_spot us stop → child < get_or ends child 0
     later_by [] stop a = absurd (omega (arith, a.stands, a.low, a.high))
-    later_by (u ∷ us) stop a = omega (arith, each_end ends Here u child a.stands.0, size_pos u)
+    later_by (u ◂ us) stop a = omega (arith, each_end ends Here u child a.stands.0, size_pos u)
 
     -- ---- into a child, the tree u
     record Entered : Type 0 where
@@ -123,7 +123,7 @@ module _ (kinds ns ends places marks : List ℕ) where
     enters_by : (us : Forest) (stop : ℕ) → Among t at up levels child i in_spot us stop → at < get_or ends child 0 → Entered
     unfolding free above
     enters_by [] stop a before = absurd (omega (arith, a.stands))
-    enters_by (u ∷ us) stop a before =
+    enters_by (u ◂ us) stop a before =
         let e = each_end ends Here u child a.stands.0 in
         let f = lt-ltb (at - child) (size u) (omega arith) in
         record { u = u; stands = a.stands.0; fits = omega arith; leads = rw f at a.leads; deep = rw f at a.deep }

@@ -1,7 +1,7 @@
 -- What holds of each node of a tree at its place, where its subtrees end as `ends` says.
 use Rattle.std.specs.Prelude.{◌≡◌, List, ℕ, suc, Float, get_or}
 use Rattle.rules.specs.declared.behavior.Kind.{Kind}
-use Rattle.rules.specs.Tree.{Cell, Tree, node, Forest, [], ◌∷◌}
+use Rattle.rules.specs.Tree.{Cell, Tree, node, Forest, [], ◌◂◌}
 
 module _ (ends : List ℕ) (P : ℕ → Kind → ℕ → Float → Cell → Type 0) where
   abbrev mutual
@@ -12,7 +12,7 @@ module _ (ends : List ℕ) (P : ℕ → Kind → ℕ → Float → Cell → Type
     -- trees from q to stop
     pub EachAll : ℕ → Forest → ℕ → Type 0
     EachAll q [] stop = q ≡ stop
-    EachAll q (t ∷ ts) stop = Each q t × EachAll (get_or ends q 0) ts stop
+    EachAll q (t ◂ ts) stop = Each q t × EachAll (get_or ends q 0) ts stop
 
 -- nothing but where the subtrees end
 abbrev pub Any : ℕ → Kind → ℕ → Float → Cell → Type 0

@@ -2,7 +2,7 @@
 use Rattle.std.specs.Prelude.{◌≡◌, Bool, false, cond, List, ℕ, zero, suc, ◌-◌, ◌<◌, ◌≤◌, ltb, Float, length, get_or}
 use Rattle.rules.specs.declared.behavior.Kind.{Kind}
 use Rattle.rules.specs.Kinds.{kind_of}
-use Rattle.rules.specs.Tree.{Cell, Tree, node, Forest, [], ◌∷◌, size}
+use Rattle.rules.specs.Tree.{Cell, Tree, node, Forest, [], ◌◂◌, size}
 use Rattle.rules.specs.Exchange.{free}
 use Rattle.branch.specs.Each.{Each}
 use Rattle.branch.specs.declared.way.Way.{Way}
@@ -18,7 +18,7 @@ unfoldable mutual
 
   pub above_in : Forest → ℕ → ℕ
   above_in [] p = 0
-  above_in (t ∷ ts) p = cond (ltb p (size t)) (above t p) (above_in ts (p - size t))
+  above_in (t ◂ ts) p = cond (ltb p (size t)) (above t p) (above_in ts (p - size t))
 
 abbrev pub way_at : Bool → ℕ → Way
 way_at free n = cond free (Free n) Held

@@ -7,7 +7,7 @@ use native.Mathlib.Omega.{arith}
 use lib.Ieee.{Float}
 use lib.ListN.{length, take, drop, length-drop}
 use lib.Seq.{drop-drop, take-add}
-use Rattle.rules.specs.Tree.{Cell, Tree, node, Forest, [], ◌∷◌, size, sizes}
+use Rattle.rules.specs.Tree.{Cell, Tree, node, Forest, [], ◌◂◌, size, sizes}
 use Rattle.rules.specs.Cells.{cells, with_cells, with_cells_all, column, columns, time_of, place_of, mark_of}
 
 mutual
@@ -19,7 +19,7 @@ mutual
 
   with_drops : (ts : Forest) (cs : List Cell) → (with_cells_all ts cs).1 ≡ drop (sizes ts) cs
   with_drops [] cs = refl
-  with_drops (t ∷ ts) cs = with_drops ts (with_cells t cs).1 ∙ ap (λ (l : List Cell). drop (sizes ts) l) (with_drop t cs) ∙ drop-drop (sizes ts) (size t) cs
+  with_drops (t ◂ ts) cs = with_drops ts (with_cells t cs).1 ∙ ap (λ (l : List Cell). drop (sizes ts) l) (with_drop t cs) ∙ drop-drop (sizes ts) (size t) cs
 
 map_drop : {A B : Type 0} (f : A → B) (n : ℕ) (l : List A) → map f (drop n l) ≡ drop n (map f l)
 map_drop f zero l = refl
@@ -40,7 +40,7 @@ module _ {A : Type 0} (f : Cell → ℕ → A) where
 
     with_columns : (ts : Forest) (cs : List Cell) (behind : List A) → sizes ts ≤ length cs → columns f (with_cells_all ts cs).0 behind ≡ take (sizes ts) (read cs) ++ behind
     with_columns [] cs behind h = refl
-    with_columns (t ∷ ts) cs behind h =
+    with_columns (t ◂ ts) cs behind h =
         with_column t cs (columns f (with_cells_all ts (with_cells t cs).1).0 behind) (omega arith)
         ∙ rw (with_columns ts (with_cells t cs).1 behind (rw (with_drop t cs, length-drop) (omega arith)), with_drop t cs, map_drop, take-add, append_assoc)
 
@@ -91,4 +91,4 @@ module _ {A : Type 0} (f : Cell → ℕ → A) where
 
     columns_behind : (ts : Forest) (behind : List A) → columns f ts behind ≡ columns f ts List.[] ++ behind
     columns_behind [] behind = refl
-    columns_behind (t ∷ ts) behind = rw (column_behind t (columns f ts behind), columns_behind ts behind, column_behind t (columns f ts List.[]), append_assoc)
+    columns_behind (t ◂ ts) behind = rw (column_behind t (columns f ts behind), columns_behind ts behind, column_behind t (columns f ts List.[]), append_assoc)

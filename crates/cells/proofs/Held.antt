@@ -7,7 +7,7 @@ use lib.Ieee.{Float, nan}
 use lib.ListN.{length, get_or, drop}
 use Rattle.rules.specs.declared.behavior.Kind.{Kind}
 use Rattle.rules.specs.Kinds.{kind_of}
-use Rattle.rules.specs.Tree.{Cell, Tree, node, Forest, [], ◌∷◌, size, depth, depths}
+use Rattle.rules.specs.Tree.{Cell, Tree, node, Forest, [], ◌◂◌, size, depth, depths}
 use Rattle.rules.specs.Cells.{cell_of, cells, with_cells, with_cells_all}
 use Rattle.tables.specs.At.{At, Ats}
 use Rattle.tables.proofs.Placed.{ats_end}
@@ -46,7 +46,7 @@ module _ (kinds ns ends : List ℕ) (times : List Float) (places marks : List �
 
     pub Helds : Forest → ℕ → ℕ → ℕ → Type 0
     Helds [] d q stop = q ≡ stop
-    Helds (t ∷ ts) d q stop = Held t d q × Helds ts d (get_or ends q 0) stop
+    Helds (t ◂ ts) d q stop = Held t d q × Helds ts d (get_or ends q 0) stop
 
   mutual
     pub held_lt : (t : Tree) (d q : ℕ) → Held t d q → q < get_or ends q 0
@@ -55,7 +55,7 @@ module _ (kinds ns ends : List ℕ) (times : List Float) (places marks : List �
 
     pub helds_le : (ts : Forest) (d q stop : ℕ) → Helds ts d q stop → q ≤ stop
     helds_le [] d q stop h = omega arith
-    helds_le (t ∷ ts) d q stop h = omega (arith, held_lt t d q h.0, helds_le ts d (get_or ends q 0) stop h.1)
+    helds_le (t ◂ ts) d q stop h = omega (arith, held_lt t d q h.0, helds_le ts d (get_or ends q 0) stop h.1)
 
   -- a tree that stands in the table, with the cells of the run
   abbrev run : List Cell
@@ -78,7 +78,7 @@ module _ (kinds ns ends : List ℕ) (times : List Float) (places marks : List �
           (ts : Forest) (d q stop : ℕ) → depths ts ≤ d → Ats kinds ns limits ends q ts stop → stop ≤ length run →
           Helds (with_cells_all ts (drop q run)).0 d q stop × ((with_cells_all ts (drop q run)).1 ≡ drop stop run)
       holds_all [] d q stop deep h long = (h, ap (λ (x : ℕ). drop x run) h)
-      holds_all (t ∷ ts) d q stop deep h long =
+      holds_all (t ◂ ts) d q stop deep h long =
           let z = ats_end kinds ns limits ts ends (get_or ends q 0) stop h.1 in
           let r = holds t d q (omega arith) h.0 (omega arith) in
           let rest = holds_all ts d (get_or ends q 0) stop (omega arith) h.1 long in

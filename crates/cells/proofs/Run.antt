@@ -12,7 +12,7 @@ use lib.ListN.{length, get_or, set}
 use lib.Seq.{get_or-set_same, get_or-set_other}
 use Rattle.rules.specs.declared.behavior.Kind.{Kind}
 use Rattle.rules.specs.Kinds.{kind_of, marks_children}
-use Rattle.rules.specs.Tree.{Cell, Tree, node, Forest, [], ◌∷◌}
+use Rattle.rules.specs.Tree.{Cell, Tree, node, Forest, [], ◌◂◌}
 use Rattle.rules.specs.Table.{zero_bits}
 use Rattle.rules.specs.Cells.{cell_allowed, ended_in, Found, faulty, none, bad_cell, bad_cells}
 use Rattle.tables.proofs.Placed.{Alike}
@@ -50,7 +50,7 @@ run_none e m stop σ at = refl
 
 bad_cons :
     (e m : Bool) (at : ℕ) (t : Tree) (us : Forest) →
-    bad_cells e m at (t ∷ us) ≡ after (bad_cell e m at t) (λ a. bad_cells e m a us)
+    bad_cells e m at (t ◂ us) ≡ after (bad_cell e m at t) (λ a. bad_cells e m a us)
 unfolding bad_cell
 bad_cons e m at t us = split (bad_cell e m at t) (λ a. bad_cells e m a us)
 
@@ -63,7 +63,7 @@ module _ (e m : Bool) (k : Kind) (n : ℕ) (l : Float) (c : Cell) (b : ℕ) (ts 
   bad_node = refl
 
   abbrev frames : List Frame
-  frames = List.◌∷◌ (frame e m (node k n l c b ts ∷ us) stop) σ
+  frames = List.◌∷◌ (frame e m (node k n l c b ts ◂ us) stop) σ
 
   at_node :
       (x : Bool) → cell_allowed e m k n c ≡ x →
@@ -130,7 +130,7 @@ module _ (kinds ns ends : List ℕ) (times : List Float) (places marks : List �
     may_is : get_or may (length frames) false ≡ m
     flag : Flag e until at stop
     zip : Zip stops may until frames (suc (suc deep)) stop
-    runs : run (List.◌∷◌ (frame e m (node k n' l c b kids ∷ us) stop) frames) at ≡ answer
+    runs : run (List.◌∷◌ (frame e m (node k n' l c b kids ◂ us) stop) frames) at ≡ answer
 
   zip_le : (stops : List ℕ) (may : List Bool) (until : ℕ) (σ : List Frame) (d at : ℕ) → Zip stops may until σ d at → at ≤ n
   zip_le stops may until List.[] d at z = omega arith
@@ -145,7 +145,7 @@ module _ (kinds ns ends : List ℕ) (times : List Float) (places marks : List �
   ends_all stops may until List.[] d at z h = refl
   ends_all stops may until (List.◌∷◌ (frame e m [] stop) σ) d at (w, (s, (y, (f, z)))) h =
       run_none e m stop σ at ∙ ends_all stops may until σ (suc d) at (rw (← w) at z) h
-  ends_all stops may until (List.◌∷◌ (frame e m (t ∷ ts) stop) σ) d at (w, (s, (y, (f, z)))) h =
+  ends_all stops may until (List.◌∷◌ (frame e m (t ◂ ts) stop) σ) d at (w, (s, (y, (f, z)))) h =
       let first = held_lt kinds ns ends times places marks t d at w.0 in
       let rest = helds_le kinds ns ends times places marks ts d (get_or ends at 0) stop w.1 in
       absurd (omega (arith, zip_le stops may until σ (suc d) stop z))
@@ -168,7 +168,7 @@ module _ (kinds ns ends : List ℕ) (times : List Float) (places marks : List �
   unfolding run bad_cell
   start stops may t h e s y = record {
     deep = 16;
-    frames = List.◌∷◌ (frame false false (t ∷ []) n) List.[];
+    frames = List.◌∷◌ (frame false false (t ◂ []) n) List.[];
     level = refl;
     levels = refl;
     zip = ((h, e), (s, (y, (omega arith, refl))));
@@ -179,8 +179,8 @@ module _ (kinds ns ends : List ℕ) (times : List Float) (places marks : List �
   module _ (stops : List ℕ) (may : List Bool) (until at : ℕ) (answer : Found) where
     build :
         (e m : Bool) (t : Tree) (us : Forest) (stop : ℕ) (σ : List Frame) (d : ℕ) → d + suc (length σ) ≡ 17 →
-        Zip stops may until (List.◌∷◌ (frame e m (t ∷ us) stop) σ) d at →
-        run (List.◌∷◌ (frame e m (t ∷ us) stop) σ) at ≡ answer →
+        Zip stops may until (List.◌∷◌ (frame e m (t ◂ us) stop) σ) d at →
+        run (List.◌∷◌ (frame e m (t ◂ us) stop) σ) at ≡ answer →
         Ready stops may (suc (length σ)) until at answer
     build e m (node k n' l c b kids) us stop σ zero ups (w, (s, (y, (f, z)))) r = absurd w.0
     build e m (node k n' l c b kids) us stop σ (suc d) ups (w, (s, (y, (f, z)))) r = record {
@@ -216,13 +216,13 @@ module _ (kinds ns ends : List ℕ) (times : List Float) (places marks : List �
         Ready stops may (still_open stops at (length σ)) until at answer
     ready_at List.[] d ups z r h = absurd (omega arith)
     ready_at (List.◌∷◌ (frame e m [] stop) List.[]) d ups (w, (s, (y, (f, z)))) r h = absurd (omega arith)
-    ready_at (List.◌∷◌ (frame e m (t ∷ us) stop) List.[]) d ups z r h =
+    ready_at (List.◌∷◌ (frame e m (t ◂ us) stop) List.[]) d ups z r h =
         opened (one stops at) (build e m t us stop List.[] d ups z r)
     ready_at (List.◌∷◌ (frame e m [] stop) (List.◌∷◌ g σ)) d ups (w, (s, (y, (f, z)))) r h =
         let zip = subst (λ (x : ℕ). Zip stops may until (List.◌∷◌ g σ) (suc d) x) (sym w) z in
         let runs = sym (run_none e m stop (List.◌∷◌ g σ) at) ∙ r in
         opened (top_drops stops at (length σ) (omega arith)) (ready_at (List.◌∷◌ g σ) (suc d) (omega arith) zip runs h)
-    ready_at (List.◌∷◌ (frame e m (t ∷ us) stop) (List.◌∷◌ g σ)) d ups (w, (s, (y, (f, z)))) r h =
+    ready_at (List.◌∷◌ (frame e m (t ◂ us) stop) (List.◌∷◌ g σ)) d ups (w, (s, (y, (f, z)))) r h =
         let first = held_lt kinds ns ends times places marks t d at w.0 in
         let rest = helds_le kinds ns ends times places marks us d (get_or ends at 0) stop w.1 in
         opened (top_stays stops at (length σ) (omega arith)) (build e m t us stop (List.◌∷◌ g σ) d ups (w, (s, (y, (f, z)))) r)
@@ -405,7 +405,7 @@ module _ (kinds ns ends : List ℕ) (times : List Float) (places marks : List �
             (kids : Forest) (d : ℕ) → Helds kinds ns ends times places marks kids d (suc at) end → end ≤ at + 1 →
             kids ≡ []
         no_kids [] d h le = refl
-        no_kids (t ∷ ts) d h le =
+        no_kids (t ◂ ts) d h le =
             let first = held_lt kinds ns ends times places marks t d (suc at) h.0 in
             let others = helds_le kinds ns ends times places marks ts d (get_or ends (suc at) 0) end h.1 in
             absurd (omega arith)
@@ -428,7 +428,7 @@ module _ (kinds ns ends : List ℕ) (times : List Float) (places marks : List �
 
         no_level : (kids : Forest) → Helds kinds ns ends times places marks kids 0 (suc at) end → at + 1 < end → ⊥
         no_level [] h lt = omega arith
-        no_level (node k n l c b ts ∷ us) h lt = h.0
+        no_level (node k n l c b ts ◂ us) h lt = h.0
 
         -- there are no more levels
         pub never : at + 1 < end → 16 ≤ open' → ⊥

@@ -6,7 +6,7 @@ use native.Mathlib.Omega.{arith}
 use lib.Ieee.{Float}
 use lib.ListN.{length, take, drop, get_or}
 use Rattle.rules.specs.declared.behavior.Kind.{Kind}
-use Rattle.rules.specs.Tree.{Cell, Tree, node, Forest, [], ◌∷◌, size, sizes}
+use Rattle.rules.specs.Tree.{Cell, Tree, node, Forest, [], ◌◂◌, size, sizes}
 use Rattle.rules.specs.Exchange.{replaced, size_at, listed, listed_all, new_sinces}
 use Rattle.laws.specs.Listed.{listed_replaced}
 use Rattle.branch.specs.declared.write.Cut.{Cut}
@@ -30,7 +30,7 @@ module _ {A : Type 0} (field : Kind → ℕ → Float → Cell → A) where
 
       listeds_values : (ts : Forest) (q stop : ℕ) → EachAll ends Known q ts stop → (behind : List A) → listed_all field ts behind ≡ values g q (sizes ts) ++ behind
       listeds_values [] q stop h behind = refl
-      listeds_values (t ∷ ts) q stop h behind =
+      listeds_values (t ◂ ts) q stop h behind =
           let e = each_end ends Known t q h.0 in
           listed_values t q h.0 (listed_all field ts behind)
           ∙ rw (listeds_values ts (get_or ends q 0) stop h.1 behind, e, values_add g (size t) q (sizes ts), append_assoc)

@@ -7,7 +7,7 @@ use native.Mathlib.Omega.{arith}
 use lib.Ieee.{Float}
 use lib.ListN.{get_or}
 use Rattle.rules.specs.declared.behavior.Kind.{Kind}
-use Rattle.rules.specs.Tree.{Cell, Tree, node, Forest, [], ◌∷◌, size, sizes, depth, depths}
+use Rattle.rules.specs.Tree.{Cell, Tree, node, Forest, [], ◌◂◌, size, sizes, depth, depths}
 use Rattle.rules.specs.Exchange.{replaced, replaced_in, size_at, size_in}
 use Rattle.branch.specs.Each.{Each, EachAll}
 use Rattle.branch.specs.Way.{above, above_in}
@@ -24,7 +24,7 @@ module _ (u : Tree) where
 
     sizes_replaced : (ts : Forest) (p : ℕ) → p < sizes ts → sizes (replaced_in ts p u) + size_in ts p ≡ sizes ts + size u
     sizes_replaced [] p h = absurd (omega arith)
-    sizes_replaced (t ∷ ts) p h = below_or_not p (size t)
+    sizes_replaced (t ◂ ts) p h = below_or_not p (size t)
         (λ e m. rw e (omega (arith, size_replaced t p m)))
         (λ e m. rw e (omega (arith, sizes_replaced ts (p - size t) (omega arith))))
 
@@ -38,7 +38,7 @@ module _ (u : Tree) where
 
     depths_low : (ts : Forest) (p : ℕ) → p < sizes ts → above_in ts p + depth u ≤ depths (replaced_in ts p u)
     depths_low [] p h = absurd (omega arith)
-    depths_low (t ∷ ts) p h = below_or_not p (size t)
+    depths_low (t ◂ ts) p h = below_or_not p (size t)
         (λ e m. rw e (omega (arith, depth_low t p m)))
         (λ e m. rw e (omega (arith, depths_low ts (p - size t) (omega arith))))
 
@@ -52,7 +52,7 @@ module _ (u : Tree) where
 
     depths_high : (ts : Forest) (p : ℕ) → p < sizes ts → depths (replaced_in ts p u) ≤ max (depths ts) (above_in ts p + depth u)
     depths_high [] p h = absurd (omega arith)
-    depths_high (t ∷ ts) p h = below_or_not p (size t)
+    depths_high (t ◂ ts) p h = below_or_not p (size t)
         (λ e m. rw e (omega (arith, depth_high t p m)))
         (λ e m. rw e (omega (arith, depths_high ts (p - size t) (omega arith))))
 
@@ -66,7 +66,7 @@ mutual
 
   aboves_low : (ts : Forest) (p : ℕ) → above_in ts p ≤ p
   aboves_low [] p = omega arith
-  aboves_low (t ∷ ts) p = below_or_not p (size t) (λ e m. rw e (above_low t p)) (λ e m. rw e (omega (arith, aboves_low ts (p - size t))))
+  aboves_low (t ◂ ts) p = below_or_not p (size t) (λ e m. rw e (above_low t p)) (λ e m. rw e (omega (arith, aboves_low ts (p - size t))))
 
 -- where the branch ends
 module _ (ends : List ℕ) (P : ℕ → Kind → ℕ → Float → Cell → Type 0) where
@@ -81,7 +81,7 @@ module _ (ends : List ℕ) (P : ℕ → Kind → ℕ → Float → Cell → Type
 
     branches_end : (ts : Forest) (q p stop : ℕ) → EachAll ends P q ts stop → p < sizes ts → get_or ends (q + p) 0 ≡ q + p + size_in ts p
     branches_end [] q p stop h m = absurd (omega arith)
-    branches_end (t ∷ ts) q p stop h m = below_or_not p (size t)
+    branches_end (t ◂ ts) q p stop h m = below_or_not p (size t)
         (λ e l. rw e (branch_end t q p h.0 l))
         (λ e l.
         let z = each_end ends P t q h.0 in
@@ -97,6 +97,6 @@ mutual
 
   branches_fit : (ts : Forest) (p : ℕ) → p < sizes ts → p + size_in ts p ≤ sizes ts
   branches_fit [] p h = absurd (omega arith)
-  branches_fit (t ∷ ts) p h = below_or_not p (size t)
+  branches_fit (t ◂ ts) p h = below_or_not p (size t)
       (λ e m. rw e (omega (arith, branch_fits t p m)))
       (λ e m. rw e (omega (arith, branches_fit ts (p - size t) (omega arith))))

@@ -12,7 +12,7 @@ use lib.Seq.{drop-cons, drop-drop}
 use Rattle.rules.specs.declared.behavior.Kind.{Kind}
 use Rattle.rules.specs.Kinds.{code, kind_of}
 use Rattle.rules.specs.Codes.{code_kind}
-use Rattle.rules.specs.Tree.{zero_time, Cell, new_cell, Tree, node, Forest, [], ◌∷◌, size, sizes, count}
+use Rattle.rules.specs.Tree.{zero_time, Cell, new_cell, Tree, node, Forest, [], ◌◂◌, size, sizes, count}
 use Rattle.rules.specs.Table.{cleaned, count_allowed, limit_allowed, row_allowed}
 use Rattle.rules.specs.Cells.{cells, with_cells, with_cells_all}
 use Rattle.laws.specs.Tables.{Tabled, Tableds}
@@ -45,7 +45,7 @@ mutual
 
   with_drops : (ts : Forest) (cs : List Cell) → (with_cells_all ts cs).1 ≡ drop (sizes ts) cs
   with_drops [] cs = refl
-  with_drops (t ∷ ts) cs = with_drops ts (with_cells t cs).1 ∙ ap (λ (l : List Cell). drop (sizes ts) l) (with_drop t cs) ∙ drop-drop (sizes ts) (size t) cs
+  with_drops (t ◂ ts) cs = with_drops ts (with_cells t cs).1 ∙ ap (λ (l : List Cell). drop (sizes ts) l) (with_drop t cs) ∙ drop-drop (sizes ts) (size t) cs
 
 -- ---- what stands at a node's place
 module _ (kinds ns : List ℕ) (limits : List Float) where
@@ -78,7 +78,7 @@ module _ (kinds ns : List ℕ) (limits : List Float) where
 
       freshes_stand : (ts : Forest) (q stop : ℕ) → Ats kinds ns limits ends q ts stop → Tableds ts → EachAll ends Fresh q ts stop
       freshes_stand [] q stop h f = h
-      freshes_stand (t ∷ ts) q stop h f = (fresh_stands t q h.0 f.0, freshes_stand ts (get_or ends q 0) stop h.1 f.1)
+      freshes_stand (t ◂ ts) q stop h f = (fresh_stands t q h.0 f.0, freshes_stand ts (get_or ends q 0) stop h.1 f.1)
 
     -- the tree with its cells
     module _ (times : List Float) (places marks : List ℕ) where
@@ -103,7 +103,7 @@ module _ (kinds ns : List ℕ) (limits : List Float) where
 
         stand_with : (ts : Forest) (q stop : ℕ) (cs : List Cell) → Ats kinds ns limits ends q ts stop → cs ≡ drop q run → q + sizes ts ≤ length run → EachAll ends Stood q (with_cells_all ts cs).0 stop
         stand_with [] q stop cs h e low = h
-        stand_with (t ∷ ts) q stop cs h e low =
+        stand_with (t ◂ ts) q stop cs h e low =
             let end = at_end kinds ns limits t ends q h.0 in
             let dropped = with_drop t cs ∙ ap (λ (l : List Cell). drop (size t) l) e ∙ drop-drop (size t) q run in
             let rest : (with_cells t cs).1 ≡ drop (get_or ends q 0) run = dropped ∙ ap (λ (z : ℕ). drop z run) (sym end) in

@@ -9,7 +9,7 @@ use Rattle.rules.specs.declared.behavior.Kind.{Kind}
 use Rattle.rules.specs.declared.behavior.Kind.TheVariants.{Wait, WaitForever, Action, Invert, AlwaysSucceed, Timeout, Select, If, Sequence}
 use Rattle.rules.specs.declared.behavior.Kind.TheVariants.{MemorylessSequence, MemorylessSelector, While, WhileAll, WhenAll, WhenAny, After, Race}
 use Rattle.rules.specs.Kinds.{is, timed}
-use Rattle.rules.specs.Tree.{Cell, Tree, node, Forest, [], ◌∷◌, count}
+use Rattle.rules.specs.Tree.{Cell, Tree, node, Forest, [], ◌◂◌, count}
 use Rattle.rules.specs.Bound.{whole_time, boundable, boundables}
 use Rattle.laws.specs.Shape.{shape, shapes}
 use Rattle.laws.specs.Tables.{Tabled, Tableds, at_least}
@@ -18,20 +18,20 @@ use Rattle.finish.specs.Shaped.{Shaped, Shapeds, Shaped₁, Shaped₂, Shaped₃
 
 some : (ts : Forest) → T (not (eqb (count ts) 0)) → 1 ≤ count ts
 some [] h = absurd h
-some (t ∷ ts) h = omega arith
+some (t ◂ ts) h = omega arith
 
 module _ (F : Format) where
   one : (ts : Forest) → 1 ≤ count ts → Shapeds F (shapes ts) → Shaped₁ F (shapes ts)
   one [] h s = not-suc-le-zero h
-  one (t ∷ ts) h s = s
+  one (t ◂ ts) h s = s
 
   two : (ts : Forest) → 2 ≤ count ts → Shapeds F (shapes ts) → Shaped₂ F (shapes ts)
   two [] h s = not-suc-le-zero h
-  two (t ∷ ts) h s = (s.0, one ts (le_of_suc-le-suc h) s.1)
+  two (t ◂ ts) h s = (s.0, one ts (le_of_suc-le-suc h) s.1)
 
   three : (ts : Forest) → 3 ≤ count ts → Shapeds F (shapes ts) → Shaped₃ F (shapes ts)
   three [] h s = not-suc-le-zero h
-  three (t ∷ ts) h s = (s.0, two ts (le_of_suc-le-suc h) s.1)
+  three (t ◂ ts) h s = (s.0, two ts (le_of_suc-le-suc h) s.1)
 
   -- the parts of the bound's test
   module _ (k : Kind) (n : ℕ) (l : Float) (c : Cell) (b : ℕ) (ts : Forest) (h : T (boundable F (node k n l c b ts))) where
@@ -73,4 +73,4 @@ module _ (F : Format) where
 
     accepted_all : (ts : Forest) → Tableds ts → T (boundables F ts) → Shapeds F (shapes ts)
     accepted_all [] r h = tt
-    accepted_all (t ∷ ts) r h = (accepted t r.0 (and_l (boundable F t) (boundables F ts) h), accepted_all ts r.1 (and_r (boundable F t) (boundables F ts) h))
+    accepted_all (t ◂ ts) r h = (accepted t r.0 (and_l (boundable F t) (boundables F ts) h), accepted_all ts r.1 (and_r (boundable F t) (boundables F ts) h))

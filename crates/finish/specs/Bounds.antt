@@ -4,7 +4,7 @@ use Rattle.std.proofs.Common.{inl, inr, le_trans, le_refl, not-suc-le-zero, div-
 use Rattle.std.specs.Float.{Format}
 use Rattle.rules.specs.declared.behavior.Kind.TheVariants.{Wait, WaitForever, Action, Invert, AlwaysSucceed, Timeout, Select, If, Sequence}
 use Rattle.rules.specs.declared.behavior.Kind.TheVariants.{MemorylessSequence, MemorylessSelector, While, WhileAll, WhenAll, WhenAny, After, Race}
-use Rattle.rules.specs.Tree.{Tree, node, Forest, [], ◌∷◌}
+use Rattle.rules.specs.Tree.{Tree, node, Forest, [], ◌◂◌}
 use Rattle.rules.specs.Bound.{num, Lim, never, within, sum_l, max_l, times_l, min_l, own_ticks, bound, first, sum, largest, smallest, first_and_largest, first_times_sum}
 use Rattle.laws.specs.Shape.{Shape, shp, Shapes, shape, shapes}
 use Rattle.finish.specs.Shaped.{Shaped, Shapeds, Shaped₁, Shaped₂, Shaped₃}
@@ -82,9 +82,9 @@ module _ (F : Format) (d : ℕ) (pos : 0 < d) where
     enough_pos (shp If n l ts) s h = if_pos ts s h
     enough_pos (shp Sequence n l ts) s h = sum_pos ts s h
     enough_pos (shp MemorylessSequence n l Shape.[]) s h = not-suc-le-zero h
-    enough_pos (shp MemorylessSequence n l (Shape.◌∷◌ t ts)) s h = h
+    enough_pos (shp MemorylessSequence n l (Shape.◌◂◌ t ts)) s h = h
     enough_pos (shp MemorylessSelector n l Shape.[]) s h = not-suc-le-zero h
-    enough_pos (shp MemorylessSelector n l (Shape.◌∷◌ t ts)) s h = h
+    enough_pos (shp MemorylessSelector n l (Shape.◌◂◌ t ts)) s h = h
     enough_pos (shp While n l ts) s h = cond_pos ts s h
     enough_pos (shp WhileAll n l ts) s h = loop_pos ts s h
     enough_pos (shp WhenAll n l ts) s h = max_pos ts h
@@ -94,31 +94,31 @@ module _ (F : Format) (d : ℕ) (pos : 0 < d) where
 
     first_pos : (ss : Shapes) → Shaped₁ F ss → EnoughFirst d ss 0 → ⊥
     first_pos Shape.[] s h = h
-    first_pos (Shape.◌∷◌ t ts) s h = enough_pos t s.0 h
+    first_pos (Shape.◌◂◌ t ts) s h = enough_pos t s.0 h
 
     cond_pos : (ss : Shapes) → Shaped₂ F ss → EnoughFirst d ss 0 → ⊥
     cond_pos Shape.[] s h = h
-    cond_pos (Shape.◌∷◌ t ts) s h = enough_pos t s.0 h
+    cond_pos (Shape.◌◂◌ t ts) s h = enough_pos t s.0 h
 
     sum_pos : (ss : Shapes) → Shaped₁ F ss → EnoughSum d ss 0 → ⊥
     sum_pos Shape.[] s h = s
-    sum_pos (Shape.◌∷◌ t ts) s h = enough_pos t s.0 (rw (sum_zero h.0 h.1 h.2) at h.3)
+    sum_pos (Shape.◌◂◌ t ts) s h = enough_pos t s.0 (rw (sum_zero h.0 h.1 h.2) at h.3)
 
     if_pos : (ss : Shapes) → Shaped₃ F ss → EnoughIf d ss 0 → ⊥
     if_pos Shape.[] s h = h
-    if_pos (Shape.◌∷◌ t ts) s h = enough_pos t s.0 (rw (sum_zero h.0 h.1 h.2) at h.3)
+    if_pos (Shape.◌◂◌ t ts) s h = enough_pos t s.0 (rw (sum_zero h.0 h.1 h.2) at h.3)
 
     loop_pos : (ss : Shapes) → Shaped₂ F ss → EnoughLoop d ss 0 → ⊥
     loop_pos Shape.[] s h = h
-    loop_pos (Shape.◌∷◌ t ts) s h = enough_pos t s.0 (rw (mul_zero h.0 h.1 h.2 h.3) at h.4)
+    loop_pos (Shape.◌◂◌ t ts) s h = enough_pos t s.0 (rw (mul_zero h.0 h.1 h.2 h.3) at h.4)
 
     max_pos : (ss : Shapes) → EnoughMax d ss 0 → ⊥
     max_pos Shape.[] h = not-suc-le-zero h
-    max_pos (Shape.◌∷◌ t ts) h = max_pos ts h.1
+    max_pos (Shape.◌◂◌ t ts) h = max_pos ts h.1
 
     min_pos : (ss : Shapes) → Shapeds F ss → EnoughMin d ss 0 → ⊥
     min_pos Shape.[] s h = h
-    min_pos (Shape.◌∷◌ t ts) s h = elim h [ inl g ↦ enough_pos t s.0 g | inr g ↦ min_pos ts s.1 g ]
+    min_pos (Shape.◌◂◌ t ts) s h = elim h [ inl g ↦ enough_pos t s.0 g | inr g ↦ min_pos ts s.1 g ]
 
   sum_one : (ss : Shapes) (k : ℕ) → Shaped₁ F ss → EnoughSum d ss k → 1 ≤ k
   sum_one ss zero s h = absurd (sum_pos ss s h)
@@ -138,9 +138,9 @@ module _ (F : Format) (d : ℕ) (pos : 0 < d) where
     enough (node If n l c b ts) k s h = if_enough ts k s h
     enough (node Sequence n l c b ts) k s h = sum_enough₁ ts k s h
     enough (node MemorylessSequence n l c b []) k s h = h
-    enough (node MemorylessSequence n l c b (t ∷ ts)) k s h = h
+    enough (node MemorylessSequence n l c b (t ◂ ts)) k s h = h
     enough (node MemorylessSelector n l c b []) k s h = h
-    enough (node MemorylessSelector n l c b (t ∷ ts)) k s h = h
+    enough (node MemorylessSelector n l c b (t ◂ ts)) k s h = h
     enough (node While n l c b ts) k s h = cond_enough ts k s h
     enough (node WhileAll n l c b ts) k s h = loop_enough ts k s h
     enough (node WhenAll n l c b ts) k s h = max_enough ts k s h
@@ -150,43 +150,43 @@ module _ (F : Format) (d : ℕ) (pos : 0 < d) where
 
     first_enough : (ts : Forest) (k : ℕ) → Shaped₁ F (shapes ts) → Is (first d ts) k → EnoughFirst d (shapes ts) k
     first_enough [] k s h = h
-    first_enough (t ∷ ts) k s h = enough t k s.0 h
+    first_enough (t ◂ ts) k s h = enough t k s.0 h
 
     cond_enough : (ts : Forest) (k : ℕ) → Shaped₂ F (shapes ts) → Is (first d ts) k → EnoughFirst d (shapes ts) k
     cond_enough [] k s h = h
-    cond_enough (t ∷ ts) k s h = enough t k s.0 h
+    cond_enough (t ◂ ts) k s h = enough t k s.0 h
 
     sum_enough : (ts : Forest) (k : ℕ) → Shapeds F (shapes ts) → Is (sum d ts) k → EnoughSum d (shapes ts) k
     sum_enough [] k s h = tt
-    sum_enough (t ∷ ts) k s h = let x = sum_split (bound d t) (sum d ts) k h in (x.0, x.1, x.2, enough t x.0 s.0 x.3, sum_enough ts x.1 s.1 x.4)
+    sum_enough (t ◂ ts) k s h = let x = sum_split (bound d t) (sum d ts) k h in (x.0, x.1, x.2, enough t x.0 s.0 x.3, sum_enough ts x.1 s.1 x.4)
 
     sum_enough₁ : (ts : Forest) (k : ℕ) → Shaped₁ F (shapes ts) → Is (sum d ts) k → EnoughSum d (shapes ts) k
     sum_enough₁ [] k s h = tt
-    sum_enough₁ (t ∷ ts) k s h = let x = sum_split (bound d t) (sum d ts) k h in (x.0, x.1, x.2, enough t x.0 s.0 x.3, sum_enough ts x.1 s.1 x.4)
+    sum_enough₁ (t ◂ ts) k s h = let x = sum_split (bound d t) (sum d ts) k h in (x.0, x.1, x.2, enough t x.0 s.0 x.3, sum_enough ts x.1 s.1 x.4)
 
     max_enough : (ts : Forest) (k : ℕ) → Shapeds F (shapes ts) → Is (largest d ts) k → EnoughMax d (shapes ts) k
     max_enough [] k s h = h
-    max_enough (t ∷ ts) k s h = let x = max_split (bound d t) (largest d ts) k h in (enough t k s.0 x.0, max_enough ts k s.1 x.1)
+    max_enough (t ◂ ts) k s h = let x = max_split (bound d t) (largest d ts) k h in (enough t k s.0 x.0, max_enough ts k s.1 x.1)
 
     max_enough₁ : (ts : Forest) (k : ℕ) → Shaped₁ F (shapes ts) → Is (largest d ts) k → EnoughMax d (shapes ts) k
     max_enough₁ [] k s h = h
-    max_enough₁ (t ∷ ts) k s h = let x = max_split (bound d t) (largest d ts) k h in (enough t k s.0 x.0, max_enough ts k s.1 x.1)
+    max_enough₁ (t ◂ ts) k s h = let x = max_split (bound d t) (largest d ts) k h in (enough t k s.0 x.0, max_enough ts k s.1 x.1)
 
     branches : (ts : Forest) (k : ℕ) → Shaped₂ F (shapes ts) → Is (largest d ts) k → EnoughMax d (shapes ts) k
     branches [] k s h = h
-    branches (t ∷ ts) k s h = let x = max_split (bound d t) (largest d ts) k h in (enough t k s.0 x.0, max_enough₁ ts k s.1 x.1)
+    branches (t ◂ ts) k s h = let x = max_split (bound d t) (largest d ts) k h in (enough t k s.0 x.0, max_enough₁ ts k s.1 x.1)
 
     min_enough : (ts : Forest) (k : ℕ) → Shapeds F (shapes ts) → Is (smallest d ts) k → EnoughMin d (shapes ts) k
     min_enough [] k s h = h
-    min_enough (t ∷ ts) k s h = elim (min_split (bound d t) (smallest d ts) k h) [ inl g ↦ inl (enough t k s.0 g) | inr g ↦ inr (min_enough ts k s.1 g) ]
+    min_enough (t ◂ ts) k s h = elim (min_split (bound d t) (smallest d ts) k h) [ inl g ↦ inl (enough t k s.0 g) | inr g ↦ inr (min_enough ts k s.1 g) ]
 
     if_enough : (ts : Forest) (k : ℕ) → Shaped₃ F (shapes ts) → Is (first_and_largest d ts) k → EnoughIf d (shapes ts) k
     if_enough [] k s h = h
-    if_enough (t ∷ ts) k s h = let x = sum_split (bound d t) (largest d ts) k h in (x.0, x.1, x.2, enough t x.0 s.0 x.3, branches ts x.1 s.1 x.4)
+    if_enough (t ◂ ts) k s h = let x = sum_split (bound d t) (largest d ts) k h in (x.0, x.1, x.2, enough t x.0 s.0 x.3, branches ts x.1 s.1 x.4)
 
     loop_enough : (ts : Forest) (k : ℕ) → Shaped₂ F (shapes ts) → Is (first_times_sum d ts) k → EnoughLoop d (shapes ts) k
     loop_enough [] k s h = h
-    loop_enough (t ∷ ts) k s h =
+    loop_enough (t ◂ ts) k s h =
         let x = times_split (bound d t) (sum d ts) k h in
         let y : EnoughSum d (shapes ts) x.1 = sum_enough₁ ts x.1 s.1 x.4 in
         (x.0, x.1, x.2, sum_one (shapes ts) x.1 s.1 y, enough t x.0 s.0 x.3, y)

@@ -6,7 +6,7 @@ use Rattle.rules.specs.declared.behavior.Kind.TheVariants.{MemorylessSequence, M
 use Rattle.rules.specs.Tree.{Tree, node, Forest, marked}
 use Rattle.rules.specs.Tree
 use Rattle.rules.specs.Bound.{num}
-use Rattle.laws.specs.Shape.{Shape, shp, Shapes, [], ◌∷◌, shapes}
+use Rattle.laws.specs.Shape.{Shape, shp, Shapes, [], ◌◂◌, shapes}
 
 abbrev pub unless : Bool → Type 0 → Type 0
 unless true X = Unit {0}
@@ -35,31 +35,31 @@ module _ (d : ℕ) where
 
     pub EnoughFirst : Shapes → ℕ → Type 0
     EnoughFirst [] k = ⊥
-    EnoughFirst (s ∷ ss) k = Enough s k
+    EnoughFirst (s ◂ ss) k = Enough s k
 
     pub EnoughEmpty : Shapes → ℕ → Type 0
     EnoughEmpty [] k = 1 ≤ k
-    EnoughEmpty (s ∷ ss) k = ⊥
+    EnoughEmpty (s ◂ ss) k = ⊥
 
     pub EnoughSum : Shapes → ℕ → Type 0
     EnoughSum [] k = Unit {0}
-    EnoughSum (s ∷ ss) k = (a : ℕ) × (b : ℕ) × (a + b ≤ k) × Enough s a × EnoughSum ss b
+    EnoughSum (s ◂ ss) k = (a : ℕ) × (b : ℕ) × (a + b ≤ k) × Enough s a × EnoughSum ss b
 
     pub EnoughMax : Shapes → ℕ → Type 0
     EnoughMax [] k = 1 ≤ k
-    EnoughMax (s ∷ ss) k = Enough s k × EnoughMax ss k
+    EnoughMax (s ◂ ss) k = Enough s k × EnoughMax ss k
 
     pub EnoughMin : Shapes → ℕ → Type 0
     EnoughMin [] k = ⊥
-    EnoughMin (s ∷ ss) k = Enough s k ⊎ EnoughMin ss k
+    EnoughMin (s ◂ ss) k = Enough s k ⊎ EnoughMin ss k
 
     pub EnoughIf : Shapes → ℕ → Type 0
     EnoughIf [] k = ⊥
-    EnoughIf (s ∷ ss) k = (a : ℕ) × (b : ℕ) × (a + b ≤ k) × Enough s a × EnoughMax ss b
+    EnoughIf (s ◂ ss) k = (a : ℕ) × (b : ℕ) × (a + b ≤ k) × Enough s a × EnoughMax ss b
 
     pub EnoughLoop : Shapes → ℕ → Type 0
     EnoughLoop [] k = ⊥
-    EnoughLoop (s ∷ ss) k = (a : ℕ) × (b : ℕ) × (a * b ≤ k) × (1 ≤ b) × Enough s a × EnoughSum ss b
+    EnoughLoop (s ◂ ss) k = (a : ℕ) × (b : ℕ) × (a * b ≤ k) × (1 ≤ b) × Enough s a × EnoughSum ss b
 
   -- the live tree
   abbrev mutual
@@ -84,43 +84,43 @@ module _ (d : ℕ) where
 
     pub StillFirst : Forest → ℕ → Type 0
     StillFirst Tree.[] k = ⊥
-    StillFirst (Tree.◌∷◌ t ts) k = Still t k
+    StillFirst (Tree.◌◂◌ t ts) k = Still t k
 
     -- the child at the place, then the bounds of those behind it
     pub StillSum : Forest → ℕ → ℕ → Type 0
     StillSum Tree.[] p k = ⊥
-    StillSum (Tree.◌∷◌ t ts) zero k = (a : ℕ) × (b : ℕ) × (a + b ≤ k) × Still t a × EnoughSum (shapes ts) b
-    StillSum (Tree.◌∷◌ t ts) (suc p) k = StillSum ts p k
+    StillSum (Tree.◌◂◌ t ts) zero k = (a : ℕ) × (b : ℕ) × (a + b ≤ k) × Still t a × EnoughSum (shapes ts) b
+    StillSum (Tree.◌◂◌ t ts) (suc p) k = StillSum ts p k
 
     pub StillAt : Forest → ℕ → ℕ → Type 0
     StillAt Tree.[] p k = ⊥
-    StillAt (Tree.◌∷◌ t ts) zero k = Still t k
-    StillAt (Tree.◌∷◌ t ts) (suc p) k = StillAt ts p k
+    StillAt (Tree.◌◂◌ t ts) zero k = Still t k
+    StillAt (Tree.◌◂◌ t ts) (suc p) k = StillAt ts p k
 
     pub StillIf : Forest → ℕ → ℕ → Type 0
     StillIf Tree.[] p k = ⊥
-    StillIf (Tree.◌∷◌ t ts) zero k = (a : ℕ) × (b : ℕ) × (a + b ≤ k) × Still t a × EnoughMax (shapes ts) b
-    StillIf (Tree.◌∷◌ t ts) (suc p) k = (a : ℕ) × (a ≤ k) × StillAt ts p a
+    StillIf (Tree.◌◂◌ t ts) zero k = (a : ℕ) × (b : ℕ) × (a + b ≤ k) × Still t a × EnoughMax (shapes ts) b
+    StillIf (Tree.◌◂◌ t ts) (suc p) k = (a : ℕ) × (a ≤ k) × StillAt ts p a
 
     pub StillUnmarked : Forest → ℕ → Type 0
     StillUnmarked Tree.[] k = 1 ≤ k
-    StillUnmarked (Tree.◌∷◌ t ts) k = unless (marked t) (Still t k) × StillUnmarked ts k
+    StillUnmarked (Tree.◌◂◌ t ts) k = unless (marked t) (Still t k) × StillUnmarked ts k
 
     pub StillAll : Forest → ℕ → Type 0
     StillAll Tree.[] k = 1 ≤ k
-    StillAll (Tree.◌∷◌ t ts) k = Still t k × StillAll ts k
+    StillAll (Tree.◌◂◌ t ts) k = Still t k × StillAll ts k
 
     pub StillFrom : Forest → ℕ → ℕ → Type 0
     StillFrom Tree.[] p k = ⊥
-    StillFrom (Tree.◌∷◌ t ts) zero k = Still t k × StillAll ts k
-    StillFrom (Tree.◌∷◌ t ts) (suc p) k = StillFrom ts p k
+    StillFrom (Tree.◌◂◌ t ts) zero k = Still t k × StillAll ts k
+    StillFrom (Tree.◌◂◌ t ts) (suc p) k = StillFrom ts p k
 
     pub StillMin : Forest → ℕ → Type 0
     StillMin Tree.[] k = ⊥
-    StillMin (Tree.◌∷◌ t ts) k = Still t k ⊎ StillMin ts k
+    StillMin (Tree.◌◂◌ t ts) k = Still t k ⊎ StillMin ts k
 
     -- the condition is due; or a body child is in progress, and the condition is looked at when the body is through
     pub StillLoop : Forest → ℕ → ℕ → Type 0
     StillLoop Tree.[] p k = ⊥
-    StillLoop (Tree.◌∷◌ t ts) zero k = (a : ℕ) × (b : ℕ) × (a * b ≤ k) × (1 ≤ b) × Still t a × EnoughSum (shapes ts) b
-    StillLoop (Tree.◌∷◌ t ts) (suc p) k = (a : ℕ) × (b : ℕ) × (c : ℕ) × (a * b + c ≤ k) × (1 ≤ b) × Still t (suc a) × EnoughSum (shapes ts) b × StillSum ts p c
+    StillLoop (Tree.◌◂◌ t ts) zero k = (a : ℕ) × (b : ℕ) × (a * b ≤ k) × (1 ≤ b) × Still t a × EnoughSum (shapes ts) b
+    StillLoop (Tree.◌◂◌ t ts) (suc p) k = (a : ℕ) × (b : ℕ) × (c : ℕ) × (a * b + c ≤ k) × (1 ≤ b) × Still t (suc a) × EnoughSum (shapes ts) b × StillSum ts p c

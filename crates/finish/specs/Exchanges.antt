@@ -9,7 +9,7 @@ use Rattle.std.specs.Float.{Format}
 use Rattle.rules.specs.declared.behavior.Kind.{Kind}
 use Rattle.rules.specs.declared.behavior.Kind.TheVariants.{Wait, WaitForever, Action, Invert, AlwaysSucceed, Timeout, Select, If, Sequence}
 use Rattle.rules.specs.declared.behavior.Kind.TheVariants.{MemorylessSequence, MemorylessSelector, While, WhileAll, WhenAll, WhenAny, After, Race}
-use Rattle.rules.specs.Tree.{Cell, Tree, node, Forest, [], ◌∷◌, size, count, marked}
+use Rattle.rules.specs.Tree.{Cell, Tree, node, Forest, [], ◌◂◌, size, count, marked}
 use Rattle.rules.specs.Exchange.{spot, free, free_in, replaced, replaced_in}
 use Rattle.laws.specs.Tests.{below_or_not}
 use Rattle.laws.specs.ReadBack.{Sound, Sounds}
@@ -42,16 +42,16 @@ in_body_lem q x e = rw (e, and-false (ltb 0 q))
 module _ (F : Format) (u : Tree) where
   at_low : (ts : Forest) (q : ℕ) → ValidAt F ts q → q < count ts
   at_low [] q v = absurd v
-  at_low (t ∷ ts) zero v = omega arith
-  at_low (t ∷ ts) (suc q) v = omega (arith, at_low ts q v)
+  at_low (t ◂ ts) zero v = omega arith
+  at_low (t ◂ ts) (suc q) v = omega (arith, at_low ts q v)
 
   loop_of : (ts : Forest) (q : ℕ) → ValidAt F ts 0 → ValidAt F ts (suc q) → ValidLoop F ts q
   loop_of [] q a b = absurd a
-  loop_of (t ∷ ts) q a b = (a, b)
+  loop_of (t ◂ ts) q a b = (a, b)
 
   of_loop : (ts : Forest) (q : ℕ) → ValidLoop F ts q → ValidAt F ts 0 × ValidAt F ts (suc q)
   of_loop [] q v = absurd v
-  of_loop (t ∷ ts) q v = (v.0, v.1)
+  of_loop (t ◂ ts) q v = (v.0, v.1)
 
   -- what is asked of each tree
   abbrev Keeps : Tree → ℕ → Type 0
@@ -59,7 +59,7 @@ module _ (F : Format) (u : Tree) where
 
   abbrev AllKeep : Forest → Type 0
   AllKeep [] = Unit {0}
-  AllKeep (t ∷ ts) = ((p : ℕ) → Keeps t p) × AllKeep ts
+  AllKeep (t ◂ ts) = ((p : ℕ) → Keeps t p) × AllKeep ts
 
   module _ (k : Kind) (n place : ℕ) where
     -- the child number i + q is in progress, where the trees are the children from number i on
@@ -67,10 +67,10 @@ module _ (F : Format) (u : Tree) where
         → ValidAt F (replaced_in ts p u) q
     unfolding free replaced
     at_keeps [] a i q p s e v f = absurd v
-    at_keeps (t ∷ ts) a i zero p s e v f = below_or_not p (size t)
+    at_keeps (t ◂ ts) a i zero p s e v f = below_or_not p (size t)
         (λ x m. rw x (a.0 p s.0 v (lies_in k n place i t p (rw (add-zero i) at e) (rw x at f))))
         (λ x m. rw x v)
-    at_keeps (t ∷ ts) a i (suc q) p s e v f =
+    at_keeps (t ◂ ts) a i (suc q) p s e v f =
         let z : i + suc q ≡ suc i + q = omega arith in
         below_or_not p (size t)
         (λ x m. rw x v)
@@ -81,17 +81,17 @@ module _ (F : Format) (u : Tree) where
       all_keep : (ts : Forest) → AllKeep ts → (i p : ℕ) → Sounds ts → ValidAll F ts → free_in false k n place i ts p ≡ true → ValidAll F (replaced_in ts p u)
       unfolding free replaced
       all_keep [] a i p s v f = tt
-      all_keep (t ∷ ts) a i p s v f = below_or_not p (size t)
+      all_keep (t ◂ ts) a i p s v f = below_or_not p (size t)
           (λ x m. rw x (a.0 p s.0 v.0 (lies_in k n place i t p (no-spot i) (rw x at f)), v.1))
           (λ x m. rw x (v.0, all_keep ts a.1 (suc i) (p - size t) s.1 v.1 (rw x at f)))
 
       from_keeps : (ts : Forest) → AllKeep ts → (i q p : ℕ) → Sounds ts → ValidFrom F ts q → free_in false k n place i ts p ≡ true → ValidFrom F (replaced_in ts p u) q
       unfolding free replaced
       from_keeps [] a i q p s v f = absurd v
-      from_keeps (t ∷ ts) a i zero p s v f = below_or_not p (size t)
+      from_keeps (t ◂ ts) a i zero p s v f = below_or_not p (size t)
           (λ x m. rw x (a.0 p s.0 v.0 (lies_in k n place i t p (no-spot i) (rw x at f)), v.1))
           (λ x m. rw x (v.0, all_keep ts a.1 (suc i) (p - size t) s.1 v.1 (rw x at f)))
-      from_keeps (t ∷ ts) a i (suc q) p s v f = below_or_not p (size t)
+      from_keeps (t ◂ ts) a i (suc q) p s v f = below_or_not p (size t)
           (λ x m. rw x v)
           (λ x m. rw x (from_keeps ts a.1 (suc i) q (p - size t) s.1 v (rw x at f)))
 
@@ -102,7 +102,7 @@ module _ (F : Format) (u : Tree) where
       marks_keep : (ts : Forest) → AllKeep ts → (i p : ℕ) → Sounds ts → ValidMarks F ts → free_in false k n place i ts p ≡ true → ValidMarks F (replaced_in ts p u)
       unfolding free replaced
       marks_keep [] a i p s v f = tt
-      marks_keep (t ∷ ts) a i p s v f = below_or_not p (size t)
+      marks_keep (t ◂ ts) a i p s v f = below_or_not p (size t)
           (λ x m.
           let g = lies_in k n place i t p (no-spot i) (rw x at f) in
           let here = unless_keeps (marked t) (Valid F t) (Valid F (replaced t p u)) (λ w. a.0 p s.0 w g) v.0 in
@@ -112,15 +112,15 @@ module _ (F : Format) (u : Tree) where
       some_open_lem : (ts : Forest) (i p : ℕ) → free_in false k n place i ts p ≡ true → some_open (replaced_in ts p u) ≡ some_open ts
       unfolding free replaced
       some_open_lem [] i p f = refl
-      some_open_lem (t ∷ ts) i p f = below_or_not p (size t)
+      some_open_lem (t ◂ ts) i p f = below_or_not p (size t)
           (λ x m. rw (x, marked_stays t p u (lies_in k n place i t p (no-spot i) (rw x at f))))
           (λ x m. rw (x, some_open_lem ts (suc i) (p - size t) (rw x at f)))
 
       open_stays : (ts : Forest) (p : ℕ) → free_in false k n place 0 ts p ≡ true → open_or_none (replaced_in ts p u) ≡ open_or_none ts
       unfolding free replaced
       open_stays [] p f = refl
-      open_stays (t ∷ ts) p f =
-          let same = some_open_lem (t ∷ ts) 0 p f in
+      open_stays (t ◂ ts) p f =
+          let same = some_open_lem (t ◂ ts) 0 p f in
           below_or_not p (size t) (λ x m. rw x (rw x at same)) (λ x m. rw x (rw x at same))
 
   by_kind : (k : Kind) (n : ℕ) (l : Float) (c : Cell) (b : ℕ) (ts : Forest) → AllKeep ts → (p : ℕ) → Sound (node k n l c b ts) → Valid F (node k n l c b ts)
@@ -173,7 +173,7 @@ module _ (F : Format) (u : Tree) where
 
     all_trees : (ts : Forest) → AllKeep ts
     all_trees [] = tt
-    all_trees (t ∷ ts) = (λ p s v f. keeps t p s v f, all_trees ts)
+    all_trees (t ◂ ts) = (λ p s v f. keeps t p s v f, all_trees ts)
 
   pub exchange_valid : (t : Tree) (p : ℕ) → Sound t → Valid F t → free false t p ≡ true → Valid F (replaced t p u)
   exchange_valid t p s v f = keeps t p s v f

@@ -4,7 +4,7 @@ use Rattle.std.proofs.Common.{arith}
 use Rattle.std.specs.Float.{Format}
 use Rattle.rules.specs.declared.behavior.Kind.TheVariants.{Wait, WaitForever, Action, Invert, AlwaysSucceed, Timeout, Select, If, Sequence}
 use Rattle.rules.specs.declared.behavior.Kind.TheVariants.{MemorylessSequence, MemorylessSelector, While, WhileAll, WhenAll, WhenAny, After, Race}
-use Rattle.rules.specs.Tree.{zero_time, Tree, node, Forest, [], ◌∷◌, fresh, fresh_all, marked}
+use Rattle.rules.specs.Tree.{zero_time, Tree, node, Forest, [], ◌◂◌, fresh, fresh_all, marked}
 use Rattle.rules.specs.Bound.{num}
 use Rattle.floats.specs.Times.{zero_num, zero_W}
 use Rattle.laws.specs.Shape.{shape, shapes, fresh_unmarked}
@@ -22,12 +22,12 @@ module _ (F : Format) where
 
   marks_of : (ts : Forest) → ValidAll F ts → ValidMarks F ts
   marks_of [] v = tt
-  marks_of (t ∷ ts) v = (use_all (marked t) v.0, marks_of ts v.1)
+  marks_of (t ◂ ts) v = (use_all (marked t) v.0, marks_of ts v.1)
 
   open_fresh : (ts : Forest) → T (open_or_none (fresh_all ts))
   unfolding fresh
   open_fresh [] = tt
-  open_fresh (t ∷ ts) = rw (fresh_unmarked t) tt
+  open_fresh (t ◂ ts) = rw (fresh_unmarked t) tt
 
   mutual
     unfolding fresh
@@ -53,20 +53,20 @@ module _ (F : Format) where
 
     pub fresh_first : (ts : Forest) → Shaped₁ F (shapes ts) → ValidAt F (fresh_all ts) 0
     fresh_first [] s = s
-    fresh_first (t ∷ ts) s = fresh_valid t s.0
+    fresh_first (t ◂ ts) s = fresh_valid t s.0
 
     fresh_third : (ts : Forest) → Shaped₃ F (shapes ts) → ValidAt F (fresh_all ts) 0
     fresh_third [] s = s
-    fresh_third (t ∷ ts) s = fresh_valid t s.0
+    fresh_third (t ◂ ts) s = fresh_valid t s.0
 
     fresh_loop : (ts : Forest) → Shaped₂ F (shapes ts) → ValidLoop F (fresh_all ts) 0
     fresh_loop [] s = s
-    fresh_loop (t ∷ ts) s = (fresh_valid t s.0, fresh_first ts s.1)
+    fresh_loop (t ◂ ts) s = (fresh_valid t s.0, fresh_first ts s.1)
 
     pub fresh_all_lem : (ts : Forest) → Shapeds F (shapes ts) → ValidAll F (fresh_all ts)
     fresh_all_lem [] s = tt
-    fresh_all_lem (t ∷ ts) s = (fresh_valid t s.0, fresh_all_lem ts s.1)
+    fresh_all_lem (t ◂ ts) s = (fresh_valid t s.0, fresh_all_lem ts s.1)
 
     fresh_from : (ts : Forest) → Shaped₁ F (shapes ts) → ValidFrom F (fresh_all ts) 0
     fresh_from [] s = s
-    fresh_from (t ∷ ts) s = (fresh_valid t s.0, fresh_all_lem ts s.1)
+    fresh_from (t ◂ ts) s = (fresh_valid t s.0, fresh_all_lem ts s.1)

@@ -38,7 +38,7 @@ abbrev pub limits : List Float
 limits = two ∷ zero_time ∷ []
 
 abbrev pub tree : Tree
-tree = node Timeout 1 two new_cell 0 (Tree.◌∷◌ (node Action 0 zero_time new_cell 0 Tree.[]) Tree.[])
+tree = node Timeout 1 two new_cell 0 (Tree.◌◂◌ (node Action 0 zero_time new_cell 0 Tree.[]) Tree.[])
 
 abbrev pub zeros : Run
 zeros = run (zero_time ∷ zero_time ∷ []) (0 ∷ 0 ∷ []) (0 ∷ 0 ∷ []) (0 ∷ 0 ∷ [])

@@ -6,7 +6,7 @@ use Rattle.rules.specs.declared.status.Status.{Status}
 use Rattle.rules.specs.declared.status.Status.TheVariants.{Running, Success, Failure}
 use Rattle.rules.specs.declared.event.Event.{Event}
 use Rattle.rules.specs.Bound.{num}
-use Rattle.rules.specs.Tree.{Tree, Forest, [], ◌∷◌, count}
+use Rattle.rules.specs.Tree.{Tree, Forest, [], ◌◂◌, count}
 use Rattle.rules.specs.Outcome.{dt, Ticker}
 use Rattle.rules.specs.Loops.{put, fresh_at, child_at}
 use Rattle.laws.specs.Shape.{shapes, fresh_at_shapes, count_shape}
@@ -22,13 +22,13 @@ use Rattle.finish.specs.Sequences.{seq_down}
 module _ (F : Format) (d : ℕ) where
   pub within : (ts : Forest) (p : ℕ) → ValidAt F ts p → p < count ts
   within [] p v = absurd v
-  within (t ∷ ts) zero v = omega arith
-  within (t ∷ ts) (suc p) v = omega (arith, within ts p v)
+  within (t ◂ ts) zero v = omega arith
+  within (t ◂ ts) (suc p) v = omega (arith, within ts p v)
 
   fresh_at_valid : (ts : Forest) (p : ℕ) → Shapeds F (shapes ts) → p < count ts → ValidAt F (fresh_at p ts) p
   fresh_at_valid [] p s h = not-suc-le-zero h
-  fresh_at_valid (t ∷ ts) zero s h = fresh_valid F t s.0
-  fresh_at_valid (t ∷ ts) (suc p) s h = fresh_at_valid ts p s.1 (omega arith)
+  fresh_at_valid (t ◂ ts) zero s h = fresh_valid F t s.0
+  fresh_at_valid (t ◂ ts) (suc p) s h = fresh_at_valid ts p s.1 (omega arith)
 
   -- after a success at p, going on at q
   pub moved_valid : (ts : Forest) (p q : ℕ) (t' : Tree) → Shapeds F (shapes ts) → shapes (put p t' ts) ≡ shapes ts → q < count ts → ValidAt F (fresh_at q (fresh_at p (put p t' ts))) q
@@ -55,12 +55,12 @@ module _ (F : Format) (d : ℕ) where
     pub child_at_lem : (e : Event) (ts : Forest) (n : ℕ) (p : R.Worlds) → Shapeds F (shapes ts) → ValidAt F ts n → WEvent F e
         → Both R 0 p (λ s r t' q. PutQ e n ts s r t') (λ w. child_at child n e ts w) (λ w. child_at child n e ts w)
     child_at_lem e [] n p s v ev = absurd v
-    child_at_lem e (t ∷ ts) zero p s v ev = weak R (g t e p s.0 v ev) elim [
+    child_at_lem e (t ◂ ts) zero p s v ev = weak R (g t e p s.0 v ev) elim [
       | Running ↦ λ r t' p' q. (join q.0.0 refl, (q.1.0, λ full j x. seq_down F d t t' ts j (q.1.1 full) x))
       | Success ↦ λ r t' p' q. (join q.0.0 refl, q.1)
       | Failure ↦ λ r t' p' q. (join q.0.0 refl, q.1)
     ]
-    child_at_lem e (t ∷ ts) (suc n) p s v ev = weak R (child_at_lem e ts n p s.1 v ev) elim [
+    child_at_lem e (t ◂ ts) (suc n) p s v ev = weak R (child_at_lem e ts n p s.1 v ev) elim [
       | Running ↦ λ r t' p' q. (join refl q.0, q.1)
       | Success ↦ λ r t' p' q. (join refl q.0, q.1)
       | Failure ↦ λ r t' p' q. (join refl q.0, q.1)

@@ -2,7 +2,7 @@
 use Rattle.std.specs.Float.{Format}
 use Rattle.rules.specs.declared.behavior.Kind.TheVariants.{Wait, WaitForever, Action, Invert, AlwaysSucceed, Timeout, Select, If, Sequence}
 use Rattle.rules.specs.declared.behavior.Kind.TheVariants.{MemorylessSequence, MemorylessSelector, While, WhileAll, WhenAll, WhenAny, After, Race}
-use Rattle.laws.specs.Shape.{Shape, shp, Shapes, [], ◌∷◌}
+use Rattle.laws.specs.Shape.{Shape, shp, Shapes, [], ◌◂◌}
 use Rattle.floats.specs.Times.{W}
 
 module _ (F : Format) where
@@ -29,17 +29,17 @@ module _ (F : Format) where
 
     pub Shapeds : Shapes → Type 0
     Shapeds [] = Unit {0}
-    Shapeds (s ∷ ss) = Shaped s × Shapeds ss
+    Shapeds (s ◂ ss) = Shaped s × Shapeds ss
 
     -- at least 1, 2, 3 children
     pub Shaped₁ : Shapes → Type 0
     Shaped₁ [] = ⊥
-    Shaped₁ (s ∷ ss) = Shaped s × Shapeds ss
+    Shaped₁ (s ◂ ss) = Shaped s × Shapeds ss
 
     pub Shaped₂ : Shapes → Type 0
     Shaped₂ [] = ⊥
-    Shaped₂ (s ∷ ss) = Shaped s × Shaped₁ ss
+    Shaped₂ (s ◂ ss) = Shaped s × Shaped₁ ss
 
     pub Shaped₃ : Shapes → Type 0
     Shaped₃ [] = ⊥
-    Shaped₃ (s ∷ ss) = Shaped s × Shaped₂ ss
+    Shaped₃ (s ◂ ss) = Shaped s × Shaped₂ ss

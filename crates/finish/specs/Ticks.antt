@@ -10,7 +10,7 @@ use Rattle.rules.specs.declared.status.Status.{Status}
 use Rattle.rules.specs.declared.status.Status.TheVariants.{Running, Success, Failure}
 use Rattle.rules.specs.declared.event.Event.{Event}
 use Rattle.rules.specs.declared.event.Event.TheVariants.{Update, Other}
-use Rattle.rules.specs.Tree.{Cell, with_place, Tree, node, Forest, [], ◌∷◌}
+use Rattle.rules.specs.Tree.{Cell, with_place, Tree, node, Forest, [], ◌◂◌}
 use Rattle.rules.specs.Outcome.{dt, World, world, Out, done, asks, short, Ticker, ◌▸◌, exchanging}
 use Rattle.rules.specs.State.{rule, tick}
 use Rattle.rules.specs.Bound.{num}
@@ -37,9 +37,9 @@ use Rattle.finish.specs.Ifs.{if_good}
 module _ (F : Format) (d : ℕ) where
   shaped_all : (ss : Shapes) → Shaped₁ F ss → Shapeds F ss
   shaped_all Shape.[] h = absurd h
-  shaped_all (Shape.◌∷◌ s ss) h = h
+  shaped_all (Shape.◌◂◌ s ss) h = h
 
-  loop_turn : (e : Event) (c : Tree) (ts : Forest) (p j : ℕ) → d ≤ num (dt e) → StillLoop d (c ∷ ts) p (suc j) → Turn F d e c ts p j
+  loop_turn : (e : Event) (c : Tree) (ts : Forest) (p j : ℕ) → d ≤ num (dt e) → StillLoop d (c ◂ ts) p (suc j) → Turn F d e c ts p j
   loop_turn e c ts zero j full x = pick x.0 x.1 x.2 x.3 x.4 x.5
     where
       pick : (a b : ℕ) → a * b ≤ suc j → 1 ≤ b → Still d c a → EnoughSum d (shapes ts) b → Turn F d e c ts 0 j
@@ -59,13 +59,13 @@ module _ (F : Format) (d : ℕ) where
     unfolding rule_with
     rule_good m Action n l c b ts y p s v ev = acts n l c b ts (Update y) p
     rule_good m Invert n l c b [] y p s v ev = absurd s
-    rule_good m Invert n l c b (t ∷ ts) y p s v ev = after R (g t (Update y) p s.0 v ev) elim [
+    rule_good m Invert n l c b (t ◂ ts) y p s v ev = after R (g t (Update y) p s.0 v ev) elim [
       | Running ↦ λ r t' p' q. stay R q.1
       | Success ↦ λ r t' p' q. stay R q.1
       | Failure ↦ λ r t' p' q. stay R q.1
     ]
     rule_good m AlwaysSucceed n l c b [] y p s v ev = absurd s
-    rule_good m AlwaysSucceed n l c b (t ∷ ts) y p s v ev = after R (g t (Update y) p s.0 v ev) elim [
+    rule_good m AlwaysSucceed n l c b (t ◂ ts) y p s v ev = after R (g t (Update y) p s.0 v ev) elim [
       | Running ↦ λ r t' p' q. stay R q.1
       | Success ↦ λ r t' p' q. stay R q.1
       | Failure ↦ λ r t' p' q. stay R q.1
@@ -73,7 +73,7 @@ module _ (F : Format) (d : ℕ) where
     rule_good m Wait n l c b ts y p s v ev = wait_good F d R child g n l c b ts (Update y) p s v.0 v.1 ev
     rule_good m WaitForever n l c b ts y p s v ev = stay R (tt, λ full j z. absurd z)
     rule_good m Timeout n l c b [] y p s v ev = absurd s.1
-    rule_good m Timeout n l c b (t ∷ ts) y p s v ev = timeout_good F d R child g n l c b t ts (Update y) p s.0 v.0 v.1 s.1.0 v.2 ev
+    rule_good m Timeout n l c b (t ◂ ts) y p s v ev = timeout_good F d R child g n l c b t ts (Update y) p s.0 v.0 v.1 s.1.0 v.2 ev
     rule_good m If n l c b ts y p s v ev = claim_map R (λ z. (with_place z.0 c, z.1)) (λ z k dn. (k, dn)) (if_good F d R unasked child g c.place ts y p s v ev)
     rule_good m Sequence n l c b ts y p s v ev =
         claim_map R (λ z. (with_place z.0 c, z.1)) (λ z k dn. (k.1, dn)) (seq_good F d R child g (Update y) ts c.place p (shaped_all (shapes ts) s) v ev)
@@ -84,14 +84,14 @@ module _ (F : Format) (d : ℕ) where
     rule_good m MemorylessSelector n l c b ts y p s v ev = claim_map R (λ us. (c, us)) (λ us k dn. (k, dn))
         (exchange_holds R (mem_good F d R (exchanging child) (exchanging_good R d child g) y ts p s ev))
     rule_good m While n l c b [] y p s v ev = absurd s
-    rule_good m While n l c b (t ∷ ts) y p s v ev = after R (g t (Update y) p s.0 v.0 ev) elim [
-      | Running ↦ λ r t' p' q. claim_map R (λ z. (with_place z.0 c, t' ∷ z.1))
+    rule_good m While n l c b (t ◂ ts) y p s v ev = after R (g t (Update y) p s.0 v.0 ev) elim [
+      | Running ↦ λ r t' p' q. claim_map R (λ z. (with_place z.0 c, t' ◂ z.1))
           (λ z k dn. ((q.1.0, k), λ full j x. q.1.1 full j x)) (body_good F d R unasked child g m y ts c.place p' (shaped_all (shapes ts) s.1) v.1 ev)
       | Success ↦ λ r t' p' q. stay R q.1
       | Failure ↦ λ r t' p' q. stay R q.1
     ]
     rule_good m WhileAll n l c b [] y p s v ev = absurd s
-    rule_good m WhileAll n l c b (t ∷ ts) y p s v ev = claim_map R (λ z. (with_place z.0 c, z.1)) (λ z k dn. (k, λ full j x. dn full j (loop_turn (Update y) t ts c.place j full x)))
+    rule_good m WhileAll n l c b (t ◂ ts) y p s v ev = claim_map R (λ z. (with_place z.0 c, z.1)) (λ z k dn. (k, λ full j x. dn full j (loop_turn (Update y) t ts c.place j full x)))
         (loop_good F d R unasked child g m y y t ts c.place p s.0 (shaped_all (shapes ts) s.1) v ev ev)
     rule_good m WhenAll n l c b ts y p s v ev = claim_map R (λ us. (c, us)) (λ us k dn. (k, dn)) (when_good F d R child g (Update y) ts p s v.0 v.1 ev)
     rule_good m WhenAny n l c b ts y p s v ev = claim_map R (λ us. (c, us)) (λ us k dn. (k, dn))

@@ -3,7 +3,7 @@ use Rattle.std.specs.Prelude.{Bool, true, false, not, ◌||◌, ℕ, zero, suc, 
 use Rattle.std.specs.Float.{Format}
 use Rattle.rules.specs.declared.behavior.Kind.TheVariants.{Wait, WaitForever, Action, Invert, AlwaysSucceed, Timeout, Select, If, Sequence}
 use Rattle.rules.specs.declared.behavior.Kind.TheVariants.{MemorylessSequence, MemorylessSelector, While, WhileAll, WhenAll, WhenAny, After, Race}
-use Rattle.rules.specs.Tree.{Tree, node, Forest, [], ◌∷◌, marked}
+use Rattle.rules.specs.Tree.{Tree, node, Forest, [], ◌◂◌, marked}
 use Rattle.rules.specs.Bound.{num}
 use Rattle.floats.specs.Times.{W}
 use Rattle.finish.specs.Enough.{unless}
@@ -11,11 +11,11 @@ use Rattle.finish.specs.Enough.{unless}
 -- one at least has no mark; or there is none
 abbrev pub some_open : Forest → Bool
 some_open [] = false
-some_open (t ∷ ts) = not (marked t) || some_open ts
+some_open (t ◂ ts) = not (marked t) || some_open ts
 
 abbrev pub open_or_none : Forest → Bool
 open_or_none [] = true
-open_or_none (t ∷ ts) = some_open (t ∷ ts)
+open_or_none (t ◂ ts) = some_open (t ◂ ts)
 
 -- the body child in progress, by WhileAll's place: while the condition is due, the first
 abbrev pub in_body : ℕ → ℕ
@@ -46,22 +46,22 @@ module _ (F : Format) where
 
     pub ValidAt : Forest → ℕ → Type 0
     ValidAt [] p = ⊥
-    ValidAt (t ∷ ts) zero = Valid t
-    ValidAt (t ∷ ts) (suc p) = ValidAt ts p
+    ValidAt (t ◂ ts) zero = Valid t
+    ValidAt (t ◂ ts) (suc p) = ValidAt ts p
 
     pub ValidLoop : Forest → ℕ → Type 0
     ValidLoop [] p = ⊥
-    ValidLoop (t ∷ ts) p = Valid t × ValidAt ts p
+    ValidLoop (t ◂ ts) p = Valid t × ValidAt ts p
 
     pub ValidAll : Forest → Type 0
     ValidAll [] = Unit {0}
-    ValidAll (t ∷ ts) = Valid t × ValidAll ts
+    ValidAll (t ◂ ts) = Valid t × ValidAll ts
 
     pub ValidFrom : Forest → ℕ → Type 0
     ValidFrom [] p = ⊥
-    ValidFrom (t ∷ ts) zero = Valid t × ValidAll ts
-    ValidFrom (t ∷ ts) (suc p) = ValidFrom ts p
+    ValidFrom (t ◂ ts) zero = Valid t × ValidAll ts
+    ValidFrom (t ◂ ts) (suc p) = ValidFrom ts p
 
     pub ValidMarks : Forest → Type 0
     ValidMarks [] = Unit {0}
-    ValidMarks (t ∷ ts) = unless (marked t) (Valid t) × ValidMarks ts
+    ValidMarks (t ◂ ts) = unless (marked t) (Valid t) × ValidMarks ts

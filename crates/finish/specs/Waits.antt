@@ -8,7 +8,7 @@ use Rattle.rules.specs.declared.behavior.Kind.TheVariants.{Wait, Timeout}
 use Rattle.rules.specs.declared.status.Status.TheVariants.{Running, Success, Failure}
 use Rattle.rules.specs.declared.event.Event.{Event}
 use Rattle.rules.specs.declared.event.Event.TheVariants.{Update, Other}
-use Rattle.rules.specs.Tree.{Cell, Tree, Forest, ◌∷◌}
+use Rattle.rules.specs.Tree.{Cell, Tree, Forest, ◌◂◌}
 use Rattle.rules.specs.Outcome.{World, Out, Ticker}
 use Rattle.rules.specs.State.{rule}
 use Rattle.rules.specs.Bound.{num}
@@ -43,7 +43,7 @@ module _ (F : Format) (d : ℕ) where
     wait_good n l c b ts Other p wl wx h ev = absurd ev
 
     pub timeout_good : (n : ℕ) (l : Float) (c : Cell) (b : ℕ) (t : Tree) (ts : Forest) (e : Event) (p : R.Worlds) → W F l → W F c.time → num c.time ≤ num l → Shaped F (shape t) → Valid F t
-        → WEvent F e → Holds R (NodeC F d Timeout n l c b (t ∷ ts) e) p (λ w. rule F child Timeout n l c e (t ∷ ts) w)
+        → WEvent F e → Holds R (NodeC F d Timeout n l c b (t ◂ ts) e) p (λ w. rule F child Timeout n l c e (t ◂ ts) w)
     unfolding rule
     timeout_good n l c b t ts Other p wl wx h s v ev = absurd ev
     timeout_good n l c b t ts (Update y) p wl wx h s v ev = after R (g t (Update y) p s v ev) elim [

@@ -8,7 +8,7 @@ use Rattle.std.specs.Float.{Format}
 use Rattle.rules.specs.declared.status.Status.TheVariants.{Running, Success, Failure}
 use Rattle.rules.specs.declared.event.Event.{Event}
 use Rattle.rules.specs.declared.event.Event.TheVariants.{Update}
-use Rattle.rules.specs.Tree.{Tree, Forest, [], ◌∷◌, count}
+use Rattle.rules.specs.Tree.{Tree, Forest, [], ◌◂◌, count}
 use Rattle.rules.specs.Outcome.{dt, World, Out, Ticker}
 use Rattle.rules.specs.Loops.{budget, put, fresh_at, next, moved, while_body, while_all}
 use Rattle.rules.specs.Bound.{num}
@@ -32,28 +32,28 @@ module _ (F : Format) (d : ℕ) where
   abbrev EnoughFrom : Shapes → ℕ → ℕ → Type 0
   EnoughFrom ss zero k = EnoughSum d ss k
   EnoughFrom Shape.[] (suc p) k = Unit {0}
-  EnoughFrom (Shape.◌∷◌ s ss) (suc p) k = EnoughFrom ss p k
+  EnoughFrom (Shape.◌◂◌ s ss) (suc p) k = EnoughFrom ss p k
 
   from_next : (ss : Shapes) (p k : ℕ) → EnoughFrom ss p k → (m : ℕ) × (m ≤ k) × EnoughFrom ss (suc p) m
   from_next Shape.[] p k h = (k, omega arith, tt)
-  from_next (Shape.◌∷◌ s ss) zero k h = (h.1, omega arith, h.4)
-  from_next (Shape.◌∷◌ s ss) (suc p) k h = from_next ss p k h
+  from_next (Shape.◌◂◌ s ss) zero k h = (h.1, omega arith, h.4)
+  from_next (Shape.◌◂◌ s ss) (suc p) k h = from_next ss p k h
 
   -- the child at p is fresh, and ends or goes on
   from_valid : (ts : Forest) (p k : ℕ) → ValidAt F ts p → EnoughFrom (shapes ts) p k → StillSum d ts p k
   from_valid [] p k v h = absurd v
-  from_valid (t ∷ ts) zero k v h = valid_sum F d (t ∷ ts) 0 k v h
-  from_valid (t ∷ ts) (suc p) k v h = from_valid ts p k v h
+  from_valid (t ◂ ts) zero k v h = valid_sum F d (t ◂ ts) 0 k v h
+  from_valid (t ◂ ts) (suc p) k v h = from_valid ts p k v h
 
   -- the child at p ends
   still_next : (ts : Forest) (p k : ℕ) → StillSum d ts p (suc k) → (m : ℕ) × (m ≤ k) × EnoughFrom (shapes ts) (suc p) m
   still_next [] p k h = absurd h
-  still_next (t ∷ ts) zero k h = pick h.0 h.1 h.2 h.3 h.4
+  still_next (t ◂ ts) zero k h = pick h.0 h.1 h.2 h.3 h.4
     where
-      pick : (a b : ℕ) → a + b ≤ suc k → Still d t a → EnoughSum d (shapes ts) b → (m : ℕ) × (m ≤ k) × EnoughFrom (shapes (t ∷ ts)) 1 m
+      pick : (a b : ℕ) → a + b ≤ suc k → Still d t a → EnoughSum d (shapes ts) b → (m : ℕ) × (m ≤ k) × EnoughFrom (shapes (t ◂ ts)) 1 m
       pick zero b x y z = absurd (still_pos F d t y)
       pick (suc a) b x y z = (b, omega arith, z)
-  still_next (t ∷ ts) (suc p) k h = still_next ts p k h
+  still_next (t ◂ ts) (suc p) k h = still_next ts p k h
 
   -- what is known at a turn of the loop in a full tick, for the event e that the body gets
   abbrev pub Turn : Event → Tree → Forest → ℕ → ℕ → Type 0
@@ -107,7 +107,7 @@ module _ (F : Format) (d : ℕ) where
 
     loop_next : (budget : ℕ) (y z r : Float) (c t' : Tree) (ts : Forest) (p : ℕ) (w : R.Worlds) → Shapeds F (shapes ts) → Valid F c → p < count ts → shapes (put p t' ts) ≡ shapes ts
         → (b : Bool) → ltb (suc p) (count ts) ≡ b
-        → ((i : ℕ) (us : Forest) → Shapeds F (shapes us) → ValidLoop F (c ∷ us) (in_body i)
+        → ((i : ℕ) (us : Forest) → Shapeds F (shapes us) → ValidLoop F (c ◂ us) (in_body i)
         → Holds R (LoopC (Update y) (Update r) c us i) w (λ v. while_all child budget (Update y) i (Update r) c us v))
         → Holds R (LoopC (Update y) (Update z) c ts (suc p)) w (λ v. while_all child budget (Update y) (cond b (suc (suc p)) 0) (Update r) c (fresh_at (cond b (suc p) 0) (fresh_at p (put p t' ts))) v)
     loop_next budget y z r c t' ts p w ss v inside sh true e rec =
@@ -125,7 +125,7 @@ module _ (F : Format) (d : ℕ) where
         (λ full j x. let a = after_body (Update z) c ts p j x in let h : a.0 * a.1 + a.2 ≤ j = a.3 in (a.0, a.1, omega arith, a.4, a.5, rw ush a.6))
         (rec 0 us (rw ush ss) (v, moved_valid F d ts p 0 t' ss sh n))
 
-    pub loop_good : (budget : ℕ) (y z : Float) (c : Tree) (ts : Forest) (p : ℕ) (w : R.Worlds) → Shaped F (shape c) → Shapeds F (shapes ts) → ValidLoop F (c ∷ ts) (in_body p) → W F y → W F z
+    pub loop_good : (budget : ℕ) (y z : Float) (c : Tree) (ts : Forest) (p : ℕ) (w : R.Worlds) → Shaped F (shape c) → Shapeds F (shapes ts) → ValidLoop F (c ◂ ts) (in_body p) → W F y → W F z
         → Holds R (LoopC (Update y) (Update z) c ts p) w (λ v. while_all child budget (Update y) p (Update z) c ts v)
     unfolding while_all
     loop_good zero y z c ts p w s ss v ey ez = cut R unasked

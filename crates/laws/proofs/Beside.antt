@@ -24,7 +24,7 @@ Fits d s = Right s × (depth_of s ≤ d)
 
 fits_each : (d : ℕ) (ss : Shapes) → Rights ss → depths_of ss ≤ d → Each (Fits d) ss
 fits_each d Shape.[] r h = tt
-fits_each d (Shape.◌∷◌ s ss) r h = ((r.0, max_left (depth_of s) (depths_of ss) d h), fits_each d ss r.1 (max_right (depth_of s) (depths_of ss) d h))
+fits_each d (Shape.◌◂◌ s ss) r h = ((r.0, max_left (depth_of s) (depths_of ss) d h), fits_each d ss r.1 (max_right (depth_of s) (depths_of ss) d h))
 
 -- ---- the two ticks side by side, from accepted cells: as long as both go on, they do the same, and the rules' own is short where the other ends in `asks n x`
 module _ (n : ℕ) (x : Float) (F : Format) where

@@ -26,7 +26,7 @@ use Rattle.laws.specs.Fuel.{no_loop, NoLoopsIn, Plain}
 
 plain_each : (h : ℕ) (ss : Shapes) → Rights ss → depths_of ss ≤ h → NoLoopsIn ss → Each (Plain h) ss
 plain_each h Shape.[] r d n = tt
-plain_each h (Shape.◌∷◌ s ss) r d n = ((r.0, max_left (depth_of s) (depths_of ss) h d, n.0), plain_each h ss r.1 (max_right (depth_of s) (depths_of ss) h d) n.1)
+plain_each h (Shape.◌◂◌ s ss) r d n = ((r.0, max_left (depth_of s) (depths_of ss) h d, n.0), plain_each h ss r.1 (max_right (depth_of s) (depths_of ss) h d) n.1)
 
 -- places are looked at, and times are not
 abbrev placing : (F : Format) → Terms F

@@ -4,7 +4,7 @@ use Rattle.std.proofs.Common.{subst, arith}
 use Rattle.std.specs.Float.{Format}
 use Rattle.std.specs.Float.Ieee.Fits.{and_l, and_r}
 use Rattle.rules.specs.declared.answer.Answer.TheVariants.{OutOfFuel}
-use Rattle.rules.specs.Tree.{Tree, node, Forest, [], ◌∷◌, size}
+use Rattle.rules.specs.Tree.{Tree, node, Forest, [], ◌◂◌, size}
 use Rattle.rules.specs.Outcome.{world, Out, done, asks, short}
 use Rattle.rules.specs.Table.{most_deep, good, table}
 use Rattle.rules.specs.Call.{Given, Left, answers, cleaned_event, walked}
@@ -25,7 +25,7 @@ mutual
 
   no_loops_in : (ts : Forest) → T (loopless_all ts) → NoLoopsIn (shapes ts)
   no_loops_in [] w = tt
-  no_loops_in (t ∷ ts) w = (no_loops t (and_l (loopless t) (loopless_all ts) w), no_loops_in ts (and_r (loopless t) (loopless_all ts) w))
+  no_loops_in (t ◂ ts) w = (no_loops t (and_l (loopless t) (loopless_all ts) w), no_loops_in ts (and_r (loopless t) (loopless_all ts) w))
 
 -- ---- the call
 walked_not_out : (g : Given) (t : Tree) (o : Out Tree) → (o ≡ short → ⊥) → (walked g t o).answer ≡ OutOfFuel → ⊥

@@ -19,7 +19,7 @@ use Rattle.laws.specs.LiveTicks.{EWorld, living, living_acts, LiveAfter}
 
 rights_each : (ss : Shapes) → Rights ss → Each Right ss
 rights_each Shape.[] h = tt
-rights_each (Shape.◌∷◌ s ss) h = (h.0, rights_each ss h.1)
+rights_each (Shape.◌◂◌ s ss) h = (h.0, rights_each ss h.1)
 
 -- ---- the rules' own ticks, of any depth
 abbrev walking : (F : Format) → Pairing F

@@ -12,7 +12,7 @@ use Rattle.rules.specs.declared.status.Status.TheVariants.{Running, Success, Fai
 use Rattle.rules.specs.declared.event.Event.{Event}
 use Rattle.rules.specs.declared.event.Event.TheVariants.{Update, Other}
 use Rattle.rules.specs.Kinds.{fewest, marks_children}
-use Rattle.rules.specs.Tree.{Cell, Forest, [], ◌∷◌, node, count}
+use Rattle.rules.specs.Tree.{Cell, Forest, [], ◌◂◌, node, count}
 use Rattle.rules.specs.Outcome.{dt, World, Out, Ticker, ◌▸◌, exchanged, exchanging, always_succeed}
 use Rattle.rules.specs.State.{at_place, in_cell, only, rule}
 use Rattle.rules.specs.Table.{limit_allowed}
@@ -46,7 +46,7 @@ module _ {F : Format} (R : Pairing F) where
         → Known R ((1 ≤ count ts) × LiveCellBy R.terms.time k n c × Livelies R ts) → Time R (dt e) → marks_children k ≡ false
         → Both R (sizes_of (shapes ts)) p (KeptNext R k n c ts) (λ w. only child ch c e ts w) (λ w. only child' ch c e ts w)
     only_pair k ch n c e [] p d v ev plain = cut R (from R v (λ h. omega arith))
-    only_pair k ch n c e (t ∷ ts) p d v ev plain = then R (visit R D child child' g t e p d.0 (from R v (λ h. h.2.0)) ev) λ s r t' q x.
+    only_pair k ch n c e (t ◂ ts) p d v ev plain = then R (visit R D child child' g t e p d.0 (from R v (λ h. h.2.0)) ev) λ s r t' q x.
         stay R (refl, join x.0 refl, from_both R x.1 v (λ a b. (b.1, rw plain (a.0, b.2.1))), x.2)
 
     wait_pair : (n : ℕ) (l : Float) (c : Cell) (e : Event) (ts : Forest) (p : R.Worlds) → Known R (T (limit_allowed Wait l) × NextOf R Wait n (c, ts)) → Time R (dt e)
@@ -65,7 +65,7 @@ module _ {F : Format} (R : Pairing F) where
         → Both R (sizes_of (shapes ts)) p (KeptNext R Timeout n c ts) (λ w. rule F child Timeout n l c e ts w) (λ w. rule F child' Timeout n l c e ts w)
     unfolding rule
     timeout_pair n l c e [] p d v ev = cut R (from R v (λ h. omega arith))
-    timeout_pair n l c e (t ∷ ts) p d v ev = then R (visit R D child child' g t e p d.0 (from R v (λ h. h.2.1.0)) ev) elim [
+    timeout_pair n l c e (t ◂ ts) p d v ev = then R (visit R D child child' g t e p d.0 (from R v (λ h. h.2.1.0)) ev) elim [
       | Running ↦ λ r t' q x.
           let now : Time R (add F c.time (dt e)) = R.terms.sum c.time (dt e) (from R v (λ h. h.2.0.1)) ev in
           let next = from_both R x.1 v (λ a b. ((b.2.0.0, now, b.2.0.2), (a.0, b.2.1.1))) in
@@ -84,9 +84,9 @@ module _ {F : Format} (R : Pairing F) where
         → Begins R While n l c ts p b → Time R (dt e)
         → Both R (sizes_of (shapes ts)) p (KeptNext R While n c ts) (λ w. while_with b child c e ts w) (λ w. while_with b child' c e ts w)
     while_pair b n l c e [] p free d v ev = cut R (from R v (λ h. omega (arith, fewest_of While n l [] h.0)))
-    while_pair b n l c e (t ∷ ts) p free d v ev = then R (visit R D child child' g t e p d.0 (from R v (λ h. h.1.1.0)) ev) elim [
+    while_pair b n l c e (t ◂ ts) p free d v ev = then R (visit R D child child' g t e p d.0 (from R v (λ h. h.1.1.0)) ev) elim [
       | Running ↦ λ r t' q x. up R 0 (free 0 (sizes_of (shapes ts))) (after R (body_pair R D child child' g free b (n - 2) c.place e ts q d.1
-          (from_both R x.1 v (λ a b. (omega arith, body_of n (count ts) (b.0.1 ∙ sym (count_of_lem (t ∷ ts))) (fewest_of While n l (t ∷ ts) b.0), b.1.0.2, b.1.1.1))) ev)
+          (from_both R x.1 v (λ a b. (omega arith, body_of n (count ts) (b.0.1 ∙ sym (count_of_lem (t ◂ ts))) (fewest_of While n l (t ◂ ts) b.0), b.1.0.2, b.1.1.1))) ev)
           λ s' r' z q' y.
           stay R (refl, join x.0 y.0, from_both R x.1 (R.terms.both y.1 v) (λ a b. ((b.1.1.0.0, b.1.1.0.1, b.0.0), (a.0, b.0.1))), y.2))
       | Success ↦ λ r t' q x. stay R (refl, join x.0 refl, from_both R x.1 v (λ a b. (b.1.0, (a.0, b.1.1.1))), x.2)
@@ -97,9 +97,9 @@ module _ {F : Format} (R : Pairing F) where
         → Begins R WhileAll n l c ts p b → Time R (dt e)
         → Both R (sizes_of (shapes ts)) p (KeptNext R WhileAll n c ts) (λ w. while_all_with b child c e ts w) (λ w. while_all_with b child' c e ts w)
     while_all_pair b n l c e [] p free d v ev = cut R (from R v (λ h. omega (arith, fewest_of WhileAll n l [] h.0)))
-    while_all_pair b n l c e (t ∷ ts) p free d v ev =
-        let m : Known R (count ts ≡ suc (n - 2)) = from R v (λ h. body_of n (count ts) (h.0.1 ∙ sym (count_of_lem (t ∷ ts))) (fewest_of WhileAll n l (t ∷ ts) h.0)) in
-        up R 0 (free 0 (sizes_of (shapes (t ∷ ts)))) (place_next WhileAll n (suc (n - 2)) c (t ∷ ts)
+    while_all_pair b n l c e (t ◂ ts) p free d v ev =
+        let m : Known R (count ts ≡ suc (n - 2)) = from R v (λ h. body_of n (count ts) (h.0.1 ∙ sym (count_of_lem (t ◂ ts))) (fewest_of WhileAll n l (t ◂ ts) h.0)) in
+        up R 0 (free 0 (sizes_of (shapes (t ◂ ts)))) (place_next WhileAll n (suc (n - 2)) c (t ◂ ts)
         (from_both R m v (λ a b. (b.1.0, omega (arith, a, b.0.1, count_of_lem ts))))
         (loop_pair R D child child' g free b (n - 2) e c.place e t ts p d.0 d.1 (from_both R m v (λ a b. (b.2, a, omega arith, b.1.1))) ev ev))
 

@@ -12,7 +12,7 @@ use Rattle.rules.specs.declared.status.Status.TheVariants.{Running, Success, Fai
 use Rattle.rules.specs.declared.event.Event.{Event}
 use Rattle.rules.specs.declared.event.Event.TheVariants.{Update, Other}
 use Rattle.rules.specs.Kinds.{is}
-use Rattle.rules.specs.Tree.{Cell, with_place, Tree, Forest, [], ◌∷◌, count}
+use Rattle.rules.specs.Tree.{Cell, with_place, Tree, Forest, [], ◌◂◌, count}
 use Rattle.rules.specs.Outcome.{rest, World, world, Out, done, asks, short, Ticker, ◌▸◌}
 use Rattle.rules.specs.Loops.{next, moved, child_at, while_body, while_all}
 use Rattle.rules.specs.State.{at_place, rule}
@@ -33,8 +33,8 @@ Spends F child = (t : Tree) (e : Event) (f : ℕ) (ans : Answers) → Less F f (
 module _ (F : Format) (child : Ticker) (g : Spends F child) where
   pub child_spends : (e : Event) (ts : Forest) (n f : ℕ) (ans : Answers) → Less F f (child_at child n e ts (world f ans))
   child_spends e [] n f ans = tt
-  child_spends e (t ∷ ts) zero f ans = g t e f ans
-  child_spends e (t ∷ ts) (suc n) f ans = child_spends e ts n f ans
+  child_spends e (t ◂ ts) zero f ans = g t e f ans
+  child_spends e (t ◂ ts) (suc n) f ans = child_spends e ts n f ans
 
   pub body_budget : (b b' n : ℕ) (e : Event) (ts : Forest) (f : ℕ) (ans : Answers) → f < b → f < b' → while_body child b n e ts (world f ans) ≡ while_body child b' n e ts (world f ans)
   unfolding while_body
@@ -65,8 +65,8 @@ module _ (F : Format) (child : Ticker) (g : Spends F child) where
 
   while_budget : (b b' : ℕ) (c : Cell) (e : Event) (ts : Forest) (f : ℕ) (ans : Answers) → f < b → f < b' → while_with b child c e ts (world f ans) ≡ while_with b' child c e ts (world f ans)
   while_budget b b' c e [] f ans h h' = refl
-  while_budget b b' c e (t ∷ ts) f ans h h' = then_less F f (child t e (world f ans)) _ _ (g t e f ans) elim [
-    | Running ↦ λ r t' f' ans' l. ap (λ (o : Out (ℕ × Forest)). o ▸ λ s'' r'' y w''. done s'' r'' (with_place y.0 c, t' ∷ y.1) w'')
+  while_budget b b' c e (t ◂ ts) f ans h h' = then_less F f (child t e (world f ans)) _ _ (g t e f ans) elim [
+    | Running ↦ λ r t' f' ans' l. ap (λ (o : Out (ℕ × Forest)). o ▸ λ s'' r'' y w''. done s'' r'' (with_place y.0 c, t' ◂ y.1) w'')
         (body_budget b b' c.place e ts f' ans' (omega arith) (omega arith))
     | Success ↦ λ r t' f' ans' l. refl
     | Failure ↦ λ r t' f' ans' l. refl
@@ -74,7 +74,7 @@ module _ (F : Format) (child : Ticker) (g : Spends F child) where
 
   while_all_budget : (b b' : ℕ) (c : Cell) (e : Event) (ts : Forest) (f : ℕ) (ans : Answers) → f < b → f < b' → while_all_with b child c e ts (world f ans) ≡ while_all_with b' child c e ts (world f ans)
   while_all_budget b b' c e [] f ans h h' = refl
-  while_all_budget b b' c e (t ∷ ts) f ans h h' = ap (λ (o : Out (ℕ × Forest)). at_place c o) (loop_budget b b' e c.place e t ts f ans h h')
+  while_all_budget b b' c e (t ◂ ts) f ans h h' = ap (λ (o : Out (ℕ × Forest)). at_place c o) (loop_budget b b' e c.place e t ts f ans h h')
 
   -- a rule with any budget above the fuel
   with_budget : (b b' : ℕ) (k : Kind) (n : ℕ) (l : Float) (c : Cell) (e : Event) (ts : Forest) (f : ℕ) (ans : Answers) → f < b → f < b'

@@ -6,7 +6,7 @@ use Rattle.std.proofs.Common.{subst, ◌∙◌, leb-true, ltb-true}
 use Rattle.std.proofs.Math.Bool.{false, and-eq-true_iff}
 use Rattle.rules.specs.declared.exchanged.Exchanged.{Exchanged as Answer}
 use Rattle.rules.specs.declared.exchanged.Exchanged.TheVariants.{Done, Finished, BadTable, BadBranch, TooShort, BadCell, NoNode, StateHeld, TooLarge, ShortRoom}
-use Rattle.rules.specs.Tree.{Cell, Tree, node, Forest, [], ◌∷◌, size, depth}
+use Rattle.rules.specs.Tree.{Cell, Tree, node, Forest, [], ◌◂◌, size, depth}
 use Rattle.rules.specs.Table.{Table, good, bad, table}
 use Rattle.rules.specs.Cells.{Found, faulty, none, bad_cell, column, columns}
 use Rattle.rules.specs.Call.{Run, run, run_length, onto_run, Given}
@@ -28,7 +28,7 @@ module _ {A : Type 0} (f : Cell → A) where
 
     listeds_column : (ts : Forest) (behind : List A) → listed_all (λ k n l c. f c) ts behind ≡ columns (λ c b. f c) ts behind
     listeds_column [] behind = refl
-    listeds_column (t ∷ ts) behind = listed_column t (listed_all (λ k n l c. f c) ts behind) ∙ ap (column (λ c b. f c) t) (listeds_column ts behind)
+    listeds_column (t ◂ ts) behind = listed_column t (listed_all (λ k n l c. f c) ts behind) ∙ ap (column (λ c b. f c) t) (listeds_column ts behind)
 
 abbrev pub run_in : Room → Run
 run_in to = run to.times to.places to.marks to.sinces

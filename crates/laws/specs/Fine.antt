@@ -2,7 +2,7 @@
 use Rattle.std.specs.Prelude.{◌≡◌, refl, Bool, true, false, cond, ◌||◌, ℕ, suc, ◌+◌, T}
 use Rattle.std.proofs.Common.{sym, ap, ◌∙◌, add-zero, arith}
 use Rattle.rules.specs.Kinds.{marks_children}
-use Rattle.rules.specs.Tree.{Tree, node, Forest, [], ◌∷◌, size, sizes}
+use Rattle.rules.specs.Tree.{Tree, node, Forest, [], ◌◂◌, size, sizes}
 use Rattle.rules.specs.Cells.{cell_allowed, ended_in, Found, faulty, none, bad_cell, bad_cells}
 
 abbrev mutual
@@ -11,7 +11,7 @@ abbrev mutual
 
   pub Fines : Bool → Bool → Forest → Type 0
   Fines ended mayEnd [] = Unit {0}
-  Fines ended mayEnd (t ∷ ts) = Fine ended mayEnd t × Fines ended mayEnd ts
+  Fines ended mayEnd (t ◂ ts) = Fine ended mayEnd t × Fines ended mayEnd ts
 
 abbrev pub IfNone : Found → Type 0 → Type 0
 IfNone (faulty p) X = Unit {0}
@@ -41,7 +41,7 @@ mutual
 
   fines_if : (ended mayEnd : Bool) (at : ℕ) (ts : Forest) → IfNone (bad_cells ended mayEnd at ts) (Fines ended mayEnd ts)
   fines_if ended mayEnd at [] = tt
-  fines_if ended mayEnd at (t ∷ ts) =
+  fines_if ended mayEnd at (t ◂ ts) =
       both_if (bad_cell ended mayEnd at t) (λ at'. bad_cells ended mayEnd at' ts) (Fine ended mayEnd t) (Fines ended mayEnd ts) (fine_if ended mayEnd at t) (λ at'. fines_if ended mayEnd at' ts)
 
 pub fine_of : (ended mayEnd : Bool) (at at' : ℕ) (t : Tree) → bad_cell ended mayEnd at t ≡ none at' → Fine ended mayEnd t
@@ -72,6 +72,6 @@ mutual
 
   nones_of : (ended mayEnd : Bool) (at : ℕ) (ts : Forest) → Fines ended mayEnd ts → bad_cells ended mayEnd at ts ≡ none (at + sizes ts)
   nones_of ended mayEnd at [] h = ap none (sym (add-zero at))
-  nones_of ended mayEnd at (t ∷ ts) h =
+  nones_of ended mayEnd at (t ◂ ts) h =
       found (bad_cell ended mayEnd at t) (at + size t) (λ at'. bad_cells ended mayEnd at' ts) (none_of ended mayEnd at t h.0) ∙ nones_of ended mayEnd (at + size t) ts h.1 ∙ ap none
       (sums at (size t) (sizes ts))

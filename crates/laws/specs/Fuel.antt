@@ -18,7 +18,7 @@ abbrev mutual
 
   pub NoLoopsIn : Shapes → Type 0
   NoLoopsIn Shape.[] = Unit {0}
-  NoLoopsIn (Shape.◌∷◌ s ss) = NoLoops s × NoLoopsIn ss
+  NoLoopsIn (Shape.◌◂◌ s ss) = NoLoops s × NoLoopsIn ss
 
 -- a tree that a table holds, at most h deep and with no loop
 abbrev pub Plain : ℕ → Shape → Type 0

@@ -3,7 +3,7 @@ use Rattle.std.specs.Prelude.{◌≡◌, refl, List, ◌++◌, ℕ, zero, suc, �
 use Rattle.std.proofs.Common.{sym, ap, ◌∙◌, append_assoc, zero-add, suc-add, arith, length-append, drop_at, take_at}
 use Rattle.std.proofs.Math.Seq.{take-append-add, drop-append-add}
 use Rattle.rules.specs.declared.behavior.Kind.{Kind}
-use Rattle.rules.specs.Tree.{Cell, Tree, node, Forest, [], ◌∷◌, size, sizes}
+use Rattle.rules.specs.Tree.{Cell, Tree, node, Forest, [], ◌◂◌, size, sizes}
 use Rattle.rules.specs.Exchange.{replaced, replaced_in, size_at, size_in, listed, listed_all}
 use Rattle.laws.specs.Tests.{below_or_not}
 
@@ -16,7 +16,7 @@ module _ {A : Type 0} (field : Kind → ℕ → Float → Cell → A) where
 
     listeds_behind : (ts : Forest) (behind : List A) → listed_all field ts behind ≡ listed_all field ts List.[] ++ behind
     listeds_behind [] behind = refl
-    listeds_behind (t ∷ ts) behind =
+    listeds_behind (t ◂ ts) behind =
         rw (listed_behind t (listed_all field ts behind), listeds_behind ts behind, listed_behind t (listed_all field ts List.[]), append_assoc)
 
   mutual
@@ -27,7 +27,7 @@ module _ {A : Type 0} (field : Kind → ℕ → Float → Cell → A) where
 
     listeds_length : (ts : Forest) → length (listed_all field ts List.[]) ≡ sizes ts
     listeds_length [] = refl
-    listeds_length (t ∷ ts) = rw (listed_behind t (listed_all field ts List.[]), length-append, listed_length t, listeds_length ts)
+    listeds_length (t ◂ ts) = rw (listed_behind t (listed_all field ts List.[]), length-append, listed_length t, listeds_length ts)
 
   -- a tree's column is its first elements
   pub take_listed : (t : Tree) (behind : List A) → take (size t) (listed field t behind) ≡ listed field t List.[]
@@ -50,7 +50,7 @@ module _ {A : Type 0} (field : Kind → ℕ → Float → Cell → A) where
 
       listeds_replaced : (ts : Forest) (p : ℕ) → p < sizes ts → (behind : List A) → Spliced (listed_all field (replaced_in ts p u) behind) (listed_all field ts behind) p (size_in ts p)
       listeds_replaced [] p h behind = absurd (omega arith)
-      listeds_replaced (t ∷ ts) p h behind = below_or_not p (size t)
+      listeds_replaced (t ◂ ts) p h behind = below_or_not p (size t)
           (λ e m. rw e (listed_replaced t p m (listed_all field ts behind)))
           (λ e m.
           let x = listed field t List.[] in

@@ -4,7 +4,7 @@ use Rattle.std.proofs.Common.{sym, ap, ◌∙◌, subst, arith, eqb→eq, leb→
 use Rattle.std.specs.Float.Ieee.Fits.{and_i, and_l, and_r}
 use Rattle.rules.specs.declared.behavior.Kind.{Kind}
 use Rattle.rules.specs.Kinds.{timed, marks_children, children}
-use Rattle.rules.specs.Tree.{zero_time, Cell, Tree, node, Forest, [], ◌∷◌, fresh, fresh_all, marked, mark}
+use Rattle.rules.specs.Tree.{zero_time, Cell, Tree, node, Forest, [], ◌◂◌, fresh, fresh_all, marked, mark}
 use Rattle.rules.specs.Table.{zero_bits, count_allowed, limit_allowed}
 use Rattle.rules.specs.Cells.{elapsed, last_place, cell_allowed, ended_in}
 use Rattle.laws.specs.Shape.{Shape, shp, Shapes, shape, shapes, count_of, count_of_lem, fresh_unmarked}
@@ -32,12 +32,12 @@ module _ (time : Float → Bool) where
 
     pub LivesBy : Forest → Type 0
     LivesBy [] = Unit {0}
-    LivesBy (t ∷ ts) = LiveBy t × LivesBy ts
+    LivesBy (t ◂ ts) = LiveBy t × LivesBy ts
 
     -- the children of WhenAll and WhenAny
     pub MarksBy : Forest → Type 0
     MarksBy [] = Unit {0}
-    MarksBy (t ∷ ts) = choose (marked t) (Ended t) (LiveBy t) × MarksBy ts
+    MarksBy (t ◂ ts) = choose (marked t) (Ended t) (LiveBy t) × MarksBy ts
 
   pub live_unmarked : (t : Tree) → LiveBy t → marked t ≡ false
   live_unmarked (node k n l c b ts) h = ap (λ (z : ℕ). eqb z 1) h.0.0
@@ -77,11 +77,11 @@ module _ (time : Float → Bool) (zero : T (time zero_time)) where
 
     pub fresh_lives_by : (ts : Forest) → LivesBy time (fresh_all ts)
     fresh_lives_by [] = tt
-    fresh_lives_by (t ∷ ts) = (fresh_live_by t, fresh_lives_by ts)
+    fresh_lives_by (t ◂ ts) = (fresh_live_by t, fresh_lives_by ts)
 
     fresh_marks : (ts : Forest) → MarksBy time (fresh_all ts)
     fresh_marks [] = tt
-    fresh_marks (t ∷ ts) = (rw (fresh_unmarked t) (fresh_live_by t), fresh_marks ts)
+    fresh_marks (t ◂ ts) = (rw (fresh_unmarked t) (fresh_live_by t), fresh_marks ts)
 
 pub fresh_live : (t : Tree) → Live (fresh t)
 fresh_live = fresh_live_by elapsed tt
@@ -94,7 +94,7 @@ mutual
 
   fines_fresh : (mayEnd : Bool) (ts : Forest) → Fines true mayEnd (fresh_all ts)
   fines_fresh mayEnd [] = tt
-  fines_fresh mayEnd (t ∷ ts) = (fine_fresh mayEnd t, fines_fresh mayEnd ts)
+  fines_fresh mayEnd (t ◂ ts) = (fine_fresh mayEnd t, fines_fresh mayEnd ts)
 
 pub fresh_ended : (t : Tree) → Ended (mark (fresh t))
 unfolding fresh cell_allowed
@@ -114,11 +114,11 @@ mutual
 
   any_times : (ts : Forest) → Lives ts → LivesBy (λ x. true) ts
   any_times [] h = tt
-  any_times (t ∷ ts) h = (any_time t h.0, any_times ts h.1)
+  any_times (t ◂ ts) h = (any_time t h.0, any_times ts h.1)
 
   any_marks : (ts : Forest) → Marks ts → MarksBy (λ x. true) ts
   any_marks [] h = tt
-  any_marks (t ∷ ts) h = (choose_map (marked t) (Ended t) (Ended t) (Live t) (LiveBy (λ x. true) t) (λ u. u) (λ u. any_time t u) h.0, any_marks ts h.1)
+  any_marks (t ◂ ts) h = (choose_map (marked t) (Ended t) (Ended t) (Live t) (LiveBy (λ x. true) t) (λ u. u) (λ u. any_time t u) h.0, any_marks ts h.1)
 
 -- ---- the cell check
 in_use_lem : (mayEnd : Bool) (k : Kind) (n : ℕ) (c : Cell) → LiveCell k n c → T (cell_allowed false mayEnd k n c)
@@ -137,11 +137,11 @@ mutual
 
   lives_fine : (ts : Forest) → Lives ts → Fines false false ts
   lives_fine [] h = tt
-  lives_fine (t ∷ ts) h = (live_fine false t h.0, lives_fine ts h.1)
+  lives_fine (t ◂ ts) h = (live_fine false t h.0, lives_fine ts h.1)
 
   marks_fine : (ts : Forest) → Marks ts → Fines false true ts
   marks_fine [] h = tt
-  marks_fine (t ∷ ts) h = (choose_fines (marked t) (Ended t) (Live t) (λ (z : Bool). Fine false true t) (λ u. u) (λ u. live_fine true t u) h.0, marks_fine ts h.1)
+  marks_fine (t ◂ ts) h = (choose_fines (marked t) (Ended t) (Live t) (λ (z : Bool). Fine false true t) (λ u. u) (λ u. live_fine true t u) h.0, marks_fine ts h.1)
 
 -- ---- and back: of cells that the check accepts
 -- a mark is 0 or 1
@@ -195,11 +195,11 @@ mutual
 
   fine_lives : (ts : Forest) → Fines false false ts → Lives ts
   fine_lives [] h = tt
-  fine_lives (t ∷ ts) h = (child_live t h.0 (λ u. fine_live false t h.0 u) (marked t) refl, fine_lives ts h.1)
+  fine_lives (t ◂ ts) h = (child_live t h.0 (λ u. fine_live false t h.0 u) (marked t) refl, fine_lives ts h.1)
 
   fine_marks : (ts : Forest) → Fines false true ts → Marks ts
   fine_marks [] h = tt
-  fine_marks (t ∷ ts) h = (child_mark t h.0 (λ u. fine_live true t h.0 u) (marked t) refl, fine_marks ts h.1)
+  fine_marks (t ◂ ts) h = (child_mark t h.0 (λ u. fine_live true t h.0 u) (marked t) refl, fine_marks ts h.1)
 
 -- ---- the board does not matter
 mutual
@@ -210,7 +210,7 @@ mutual
 
   fines_clear : (ended mayEnd : Bool) (ts : Forest) → Fines ended mayEnd ts → Fines ended mayEnd (clear_all ts)
   fines_clear ended mayEnd [] h = tt
-  fines_clear ended mayEnd (t ∷ ts) h = (fine_clear ended mayEnd t h.0, fines_clear ended mayEnd ts h.1)
+  fines_clear ended mayEnd (t ◂ ts) h = (fine_clear ended mayEnd t h.0, fines_clear ended mayEnd ts h.1)
 
 pub live_clear : (t : Tree) → Live t → Live (clear t)
 live_clear t h = fine_live false (clear t) (fine_clear false false t (live_fine false t h)) (clear_marked t ∙ live_unmarked elapsed t h)
@@ -226,7 +226,7 @@ abbrev mutual
 
   pub Rights : Shapes → Type 0
   Rights Shape.[] = Unit {0}
-  Rights (Shape.◌∷◌ s ss) = Right s × Rights ss
+  Rights (Shape.◌◂◌ s ss) = Right s × Rights ss
 
 mutual
   pub tabled_right : (t : Tree) → Tabled t → Right (shape t)
@@ -234,4 +234,4 @@ mutual
 
   tableds_right : (ts : Forest) → Tableds ts → Rights (shapes ts)
   tableds_right [] h = tt
-  tableds_right (t ∷ ts) h = (tabled_right t h.0, tableds_right ts h.1)
+  tableds_right (t ◂ ts) h = (tabled_right t h.0, tableds_right ts h.1)

@@ -2,7 +2,7 @@
 use Rattle.std.specs.Prelude.{◌≡◌, refl, List, ℕ, ◌+◌, take, drop, Float}
 use Rattle.std.proofs.Common.{ap, ◌∙◌, zero-add, suc-add, add-zero, add_assoc}
 use Rattle.std.proofs.Math.Seq.{take-nil}
-use Rattle.rules.specs.Tree.{Cell, Tree, node, Forest, [], ◌∷◌, size, sizes, marked}
+use Rattle.rules.specs.Tree.{Cell, Tree, node, Forest, [], ◌◂◌, size, sizes, marked}
 use Rattle.rules.specs.Cells.{cell_of, cells, with_cells, with_cells_all, column, columns, time_of, place_of, mark_of}
 use Rattle.rules.specs.Call.{Run, onto_run}
 use Rattle.laws.specs.Shape.{Shape, shp, Shapes, shape, shapes}
@@ -18,7 +18,7 @@ unfoldable mutual
 
   pub clear_all : Forest → Forest
   clear_all [] = []
-  clear_all (t ∷ ts) = clear t ∷ clear_all ts
+  clear_all (t ◂ ts) = clear t ◂ clear_all ts
 
 mutual
   unfolding clear
@@ -28,7 +28,7 @@ mutual
 
   pub clears_shape : (ts : Forest) → shapes (clear_all ts) ≡ shapes ts
   clears_shape [] = refl
-  clears_shape (t ∷ ts) = λ i. Shape.◌∷◌ (clear_shape t i) (clears_shape ts i)
+  clears_shape (t ◂ ts) = λ i. Shape.◌◂◌ (clear_shape t i) (clears_shape ts i)
 
 pub clear_marked : (t : Tree) → marked (clear t) ≡ marked t
 unfolding clear
@@ -47,7 +47,7 @@ mutual
 
   one_columns : (ts : Forest) (xs : List Float) (ps ms : List ℕ) → cells (columns time_of ts xs) (columns place_of ts ps) (columns mark_of ts ms) ≡ columns lent_cell ts (cells xs ps ms)
   one_columns [] xs ps ms = refl
-  one_columns (t ∷ ts) xs ps ms = one_column t (columns time_of ts xs) (columns place_of ts ps) (columns mark_of ts ms) ∙ ap (λ (z : List Cell). column lent_cell t z) (one_columns ts xs ps ms)
+  one_columns (t ◂ ts) xs ps ms = one_column t (columns time_of ts xs) (columns place_of ts ps) (columns mark_of ts ms) ∙ ap (λ (z : List Cell). column lent_cell t z) (one_columns ts xs ps ms)
 
 -- ---- a tree of that shape
 abbrev mutual
@@ -56,9 +56,9 @@ abbrev mutual
 
   Ofs : Forest → Shapes → Type 0
   Ofs [] Shape.[] = Unit {0}
-  Ofs [] (Shape.◌∷◌ s ss) = ⊥
-  Ofs (t ∷ ts) Shape.[] = ⊥
-  Ofs (t ∷ ts) (Shape.◌∷◌ s ss) = Of t s × Ofs ts ss
+  Ofs [] (Shape.◌◂◌ s ss) = ⊥
+  Ofs (t ◂ ts) Shape.[] = ⊥
+  Ofs (t ◂ ts) (Shape.◌◂◌ s ss) = Of t s × Ofs ts ss
 
 mutual
   own : (t : Tree) → Of t (shape t)
@@ -66,7 +66,7 @@ mutual
 
   owns : (ts : Forest) → Ofs ts (shapes ts)
   owns [] = tt
-  owns (t ∷ ts) = (own t, owns ts)
+  owns (t ◂ ts) = (own t, owns ts)
 
 mutual
   unfolding with_cells column clear
@@ -76,9 +76,9 @@ mutual
 
   reads_back : (ts us : Forest) (behind : List Cell) → Ofs ts (shapes us) → with_cells_all ts (columns lent_cell us behind) ≡ (clear_all us, behind)
   reads_back [] [] behind o = refl
-  reads_back [] (u ∷ us) behind o = absurd o
-  reads_back (t ∷ ts) [] behind o = absurd o
-  reads_back (t ∷ ts) (u ∷ us) behind o = rw (read_back t u (columns lent_cell us behind) o.0, reads_back ts us behind o.1)
+  reads_back [] (u ◂ us) behind o = absurd o
+  reads_back (t ◂ ts) [] behind o = absurd o
+  reads_back (t ◂ ts) (u ◂ us) behind o = rw (read_back t u (columns lent_cell us behind) o.0, reads_back ts us behind o.1)
 
 -- what was written is found again, as it is between two ticks
 pub held_onto : (since : List ℕ) (t u : Tree) (r : Run) → shape u ≡ shape t → held t (onto_run since u r) ≡ clear u
@@ -99,7 +99,7 @@ mutual
 
   with_shapes : (ts : Forest) (cs : List Cell) → shapes (with_cells_all ts cs).0 ≡ shapes ts
   with_shapes [] cs = refl
-  with_shapes (t ∷ ts) cs = λ i. Shape.◌∷◌ (with_shape t cs i) (with_shapes ts (with_cells t cs).1 i)
+  with_shapes (t ◂ ts) cs = λ i. Shape.◌◂◌ (with_shape t cs i) (with_shapes ts (with_cells t cs).1 i)
 
 pub held_shape : (t : Tree) (r : Run) → shape (held t r) ≡ shape t
 held_shape t r = with_shape t (cells r.times r.places r.marks)
@@ -117,7 +117,7 @@ mutual
 
   firsts_with : (ts : Forest) (m : ℕ) (cs : List Cell) → with_cells_all ts (take (sizes ts + m) cs) ≡ ((with_cells_all ts cs).0, take m (with_cells_all ts cs).1)
   firsts_with [] m cs = rw (zero-add m)
-  firsts_with (t ∷ ts) m cs = rw (add_assoc (size t) (sizes ts) m, first_with t (sizes ts + m) cs, firsts_with ts m (with_cells t cs).1)
+  firsts_with (t ◂ ts) m cs = rw (add_assoc (size t) (sizes ts) m, first_with t (sizes ts + m) cs, firsts_with ts m (with_cells t cs).1)
 
 pub first_held : (t : Tree) (r : Run) → (with_cells t (first_cells (size t) r)).0 ≡ held t r
 first_held t r = rw (add-zero (size t)) at (ap (λ (z : Tree × List Cell). z.0) (first_with t 0 (cells r.times r.places r.marks)))

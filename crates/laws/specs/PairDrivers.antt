@@ -11,7 +11,7 @@ use Rattle.std.specs.Float.Ieee.{lt}
 use Rattle.rules.specs.declared.status.Status.TheVariants.{Running, Success, Failure}
 use Rattle.rules.specs.declared.event.Event.{Event}
 use Rattle.rules.specs.declared.event.Event.TheVariants.{Update, Other}
-use Rattle.rules.specs.Tree.{zero_time, Tree, Forest, [], ◌∷◌, fresh, fresh_all, marked, count}
+use Rattle.rules.specs.Tree.{zero_time, Tree, Forest, [], ◌◂◌, fresh, fresh_all, marked, count}
 use Rattle.rules.specs.Outcome.{World, dt, rest, Out, Ticker, exchanging, largest, smaller}
 use Rattle.rules.specs.Sequence.{sequence_from, sequence_at, memoryless}
 use Rattle.rules.specs.WhenAll.{when_all_from, when_all, race_from, after_from, after_at}
@@ -27,7 +27,7 @@ Same t t' = (shape t' ≡ shape t) × (marked t' ≡ marked t)
 -- D of each child
 abbrev pub Each : (Shape → Type 0) → Shapes → Type 0
 Each D Shape.[] = Unit {0}
-Each D (Shape.◌∷◌ s ss) = D s × Each D ss
+Each D (Shape.◌◂◌ s ss) = D s × Each D ss
 
 -- every tree
 abbrev pub Any : Shape → Type 0
@@ -35,10 +35,10 @@ Any s = Unit {0}
 
 pub any_each : (ss : Shapes) → Each Any ss
 any_each Shape.[] = tt
-any_each (Shape.◌∷◌ s ss) = (tt, any_each ss)
+any_each (Shape.◌◂◌ s ss) = (tt, any_each ss)
 
-pub join : {s s' : Shape} {ss ss' : Shapes} → s ≡ s' → ss ≡ ss' → Shape.◌∷◌ s ss ≡ Shape.◌∷◌ s' ss'
-join e es = λ i. Shape.◌∷◌ (e i) (es i)
+pub join : {s s' : Shape} {ss ss' : Shapes} → s ≡ s' → ss ≡ ss' → Shape.◌◂◌ s ss ≡ Shape.◌◂◌ s' ss'
+join e es = λ i. Shape.◌◂◌ (e i) (es i)
 
 module _ {F : Format} (R : Pairing F) where
   -- a tree that may be ticked, with times as they are asked
@@ -119,15 +119,15 @@ module _ {F : Format} (R : Pairing F) where
     visit_fresh t e p d ev = rw (fresh_shape t) at (visit (fresh t) e p (rw (fresh_shape t) d) (fresh_lively t) ev)
 
     -- the child before these was passed over
-    skip : {A : Type 0} {p : R.Worlds} {P : Of R A} {o o' : Out A} (t : Tree) (ts : Forest) → Sim R (sizes_of (shapes ts)) p P o o' → Sim R (sizes_of (shapes (t ∷ ts))) p P o o'
-    skip t ts h = up R (sizes_of (shapes ts)) (R.upto (sizes_of (shapes ts)) (sizes_of (shapes (t ∷ ts))) (omega arith)) h
+    skip : {A : Type 0} {p : R.Worlds} {P : Of R A} {o o' : Out A} (t : Tree) (ts : Forest) → Sim R (sizes_of (shapes ts)) p P o o' → Sim R (sizes_of (shapes (t ◂ ts))) p P o o'
+    skip t ts h = up R (sizes_of (shapes ts)) (R.upto (sizes_of (shapes ts)) (sizes_of (shapes (t ◂ ts))) (omega arith)) h
 
     -- ---- Race
     pub race_pair : (e : Event) (ts : Forest) (p : R.Worlds) → Each D (shapes ts) → Known R (Livelies ts) → Time R (dt e)
         → Both R (sizes_of (shapes ts)) p (Kept ts) (λ w. race_from child e ts w) (λ w. race_from child' e ts w)
     unfolding race_from
     race_pair e [] p d v ev = stay R (refl, v, zero_time_lem)
-    race_pair e (t ∷ ts) p d v ev = then R (visit t e p d.0 (head v) ev) elim [
+    race_pair e (t ◂ ts) p d v ev = then R (visit t e p d.0 (head v) ev) elim [
       | Running ↦ λ r t' q x. after R (race_pair e ts q d.1 (tail v) ev) λ s' r' us q' y. stay R (join x.0 y.0, both (head x.1) y.1, y.2)
       | Success ↦ λ r t' q x. stay R (join x.0 refl, both (head x.1) (tail v), x.2)
       | Failure ↦ λ r t' q x. stay R (join x.0 refl, both (head x.1) (tail v), x.2)
@@ -135,7 +135,7 @@ module _ {F : Format} (R : Pairing F) where
 
     -- ---- Sequence
     seq_from : (e : Event) (t : Tree) (ts : Forest) (p : R.Worlds) → D (shape t) → Each D (shapes ts) → Known R (Lively t) → Known R (Livelies ts) → Time R (dt e)
-        → Both R (sizes_of (shapes (t ∷ ts))) p (KeptAt (count (t ∷ ts)) (t ∷ ts)) (λ w. sequence_from child e t ts w) (λ w. sequence_from child' e t ts w)
+        → Both R (sizes_of (shapes (t ◂ ts))) p (KeptAt (count (t ◂ ts)) (t ◂ ts)) (λ w. sequence_from child e t ts w) (λ w. sequence_from child' e t ts w)
     unfolding sequence_from
     seq_from e t [] p d ds v vs ev = then R (visit t e p d v ev) elim [
       | Running ↦ λ r t' q x. stay R (join x.0 refl, both (know (omega arith)) (both (head x.1) vs), zero_time_lem)
@@ -143,7 +143,7 @@ module _ {F : Format} (R : Pairing F) where
           (stay R (join x.0 refl, both (know (omega arith)) (both (head x.1) vs), x.2))
       | Failure ↦ λ r t' q x. stay R (join x.0 refl, both (know (omega arith)) (both (head x.1) vs), x.2)
     ]
-    seq_from e t (u ∷ us) p d ds v vs ev = then R (visit t e p d v ev) elim [
+    seq_from e t (u ◂ us) p d ds v vs ev = then R (visit t e p d v ev) elim [
       | Running ↦ λ r t' q x. stay R (join x.0 refl, both (know (omega arith)) (both (head x.1) vs), zero_time_lem)
       | Success ↦ λ r t' q x. by_event e
           (λ y. after R (rw (fresh_shape u) at (seq_from (Update r) (fresh u) us q (rw (fresh_shape u) ds.0) ds.1 (fresh_lively u) (tail vs) x.2))
@@ -156,8 +156,8 @@ module _ {F : Format} (R : Pairing F) where
         → Both R (sizes_of (shapes ts)) p (KeptAt (count ts) ts) (λ w. sequence_at child n e ts w) (λ w. sequence_at child' n e ts w)
     unfolding sequence_at
     seq_pair e [] n p d v ev = stay R (refl, v, zero_time_lem)
-    seq_pair e (t ∷ ts) zero p d v ev = seq_from e t ts p d.0 d.1 (head (tail v)) (tail (tail v)) ev
-    seq_pair e (t ∷ ts) (suc n) p d v ev = skip t ts (after R (seq_pair e ts n p d.1 (from R v (λ h. (le_of_suc-le-suc h.0, h.1.1))) ev)
+    seq_pair e (t ◂ ts) zero p d v ev = seq_from e t ts p d.0 d.1 (head (tail v)) (tail (tail v)) ev
+    seq_pair e (t ◂ ts) (suc n) p d v ev = skip t ts (after R (seq_pair e ts n p d.1 (from R v (λ h. (le_of_suc-le-suc h.0, h.1.1))) ev)
         λ s r z q y. stay R (join refl y.0, from_both R (head (tail v)) y.1 (λ a b. (omega arith, (a, b.1))), y.2))
 
     -- ---- Memoryless
@@ -165,16 +165,16 @@ module _ {F : Format} (R : Pairing F) where
         → Both R (sizes_of (shapes ts)) p (Kept ts) (λ w. memoryless child e ts w) (λ w. memoryless child' e ts w)
     unfolding memoryless
     mem_pair e [] p d ev = stay R (refl, know tt, ev)
-    mem_pair e (t ∷ []) p d ev = then R (visit_fresh t e p d.0 ev) elim [
+    mem_pair e (t ◂ []) p d ev = then R (visit_fresh t e p d.0 ev) elim [
       | Running ↦ λ r t' q x. stay R (join x.0 refl, both (head x.1) (know tt), zero_time_lem)
       | Success ↦ λ r t' q x. stay R (join x.0 refl, both (head x.1) (know tt), rest_time r e x.2)
       | Failure ↦ λ r t' q x. stay R (join x.0 refl, both (head x.1) (know tt), x.2)
     ]
-    mem_pair e (t ∷ u ∷ us) p d ev = then R (visit_fresh t e p d.0 ev) elim [
-      | Running ↦ λ r t' q x. stay R (join x.0 (fresh_shapes (u ∷ us)), both (head x.1) (fresh_livelies (u ∷ us)), zero_time_lem)
-      | Success ↦ λ r t' q x. after R (mem_pair (rest r e) (u ∷ us) q d.1 (rest_time r e x.2))
+    mem_pair e (t ◂ u ◂ us) p d ev = then R (visit_fresh t e p d.0 ev) elim [
+      | Running ↦ λ r t' q x. stay R (join x.0 (fresh_shapes (u ◂ us)), both (head x.1) (fresh_livelies (u ◂ us)), zero_time_lem)
+      | Success ↦ λ r t' q x. after R (mem_pair (rest r e) (u ◂ us) q d.1 (rest_time r e x.2))
           λ s' r' vs q' y. stay R (join (fresh_shape t' ∙ x.0) y.0, both (fresh_lively t') y.1, y.2)
-      | Failure ↦ λ r t' q x. stay R (join x.0 (fresh_shapes (u ∷ us)), both (head x.1) (fresh_livelies (u ∷ us)), x.2)
+      | Failure ↦ λ r t' q x. stay R (join x.0 (fresh_shapes (u ◂ us)), both (head x.1) (fresh_livelies (u ◂ us)), x.2)
     ]
 
     -- ---- WhenAll
@@ -187,7 +187,7 @@ module _ {F : Format} (R : Pairing F) where
     unfolding when_all_from
     all_from e true least [] p d v ev el = stay R (refl, v, el)
     all_from e false least [] p d v ev el = stay R (refl, v, zero_time_lem)
-    all_from e all least (t ∷ ts) p d v ev el = either R (marked t)
+    all_from e all least (t ◂ ts) p d v ev el = either R (marked t)
         (λ m. skip t ts (after R (all_from e all least ts p d.1 (tail v) ev el) λ s r us q y. stay R (join refl y.0, both (head v) y.1, y.2)))
         (λ m. then R (visit t e p d.0 (from R v (λ h. rw m at h.0)) ev) elim [
           | Running ↦ λ r t' q x. after R (all_from e false least ts q d.1 (tail v) ev el)
@@ -201,7 +201,7 @@ module _ {F : Format} (R : Pairing F) where
         → Both R (sizes_of (shapes ts)) p (KeptMarks ts) (λ w. when_all child (largest F) e ts w) (λ w. when_all child' (largest F) e ts w)
     unfolding when_all
     all_pair e [] p d v ev = stay R (refl, v, ev)
-    all_pair e (t ∷ ts) p d v ev = all_from e true (largest F) (t ∷ ts) p d v ev R.terms.most
+    all_pair e (t ◂ ts) p d v ev = all_from e true (largest F) (t ◂ ts) p d v ev R.terms.most
 
     -- ---- After
     after_from_lem : (e : Event) (nx : Bool) (least : Float) (ts : Forest) (p : R.Worlds) → Each D (shapes ts) → Known R (Livelies ts) → Time R (dt e) → Time R least
@@ -209,7 +209,7 @@ module _ {F : Format} (R : Pairing F) where
     unfolding after_from
     after_from_lem e true least [] p d v ev el = stay R (refl, both (know (omega arith)) v, el)
     after_from_lem e false least [] p d v ev el = stay R (refl, both (know (omega arith)) v, zero_time_lem)
-    after_from_lem e nx least (t ∷ ts) p d v ev el = then R (visit t e p d.0 (head v) ev) elim [
+    after_from_lem e nx least (t ◂ ts) p d v ev el = then R (visit t e p d.0 (head v) ev) elim [
       | Running ↦ λ r t' q x. after R (after_from_lem e false zero_time ts q d.1 (tail v) ev zero_time_lem)
           λ s' r' z q' y. stay R (join x.0 y.0, both (know (omega arith)) (both (head x.1) (tail y.1)), y.2)
       | Failure ↦ λ r t' q x. stay R (join x.0 refl, both (know (omega arith)) (both (head x.1) (tail v)), x.2)
@@ -224,5 +224,5 @@ module _ {F : Format} (R : Pairing F) where
     unfolding after_at
     after_pair e ts zero p d v ev = after_from_lem e true (largest F) ts p d (tail v) ev R.terms.most
     after_pair e [] (suc n) p d v ev = stay R (refl, v, zero_time_lem)
-    after_pair e (t ∷ ts) (suc n) p d v ev = skip t ts (after R (after_pair e ts n p d.1 (from R v (λ h. (le_of_suc-le-suc h.0, h.1.1))) ev)
+    after_pair e (t ◂ ts) (suc n) p d v ev = skip t ts (after R (after_pair e ts n p d.1 (from R v (λ h. (le_of_suc-le-suc h.0, h.1.1))) ev)
         λ s r z q y. stay R (join refl y.0, from_both R (head (tail v)) y.1 (λ a b. (omega arith, (a, b.1))), y.2))

@@ -9,7 +9,7 @@ use Rattle.std.specs.Float.{Format}
 use Rattle.rules.specs.declared.status.Status.TheVariants.{Running, Success, Failure}
 use Rattle.rules.specs.declared.event.Event.{Event}
 use Rattle.rules.specs.declared.event.Event.TheVariants.{Update}
-use Rattle.rules.specs.Tree.{Tree, Forest, [], ◌∷◌, count}
+use Rattle.rules.specs.Tree.{Tree, Forest, [], ◌◂◌, count}
 use Rattle.rules.specs.Outcome.{dt, rest, Ticker}
 use Rattle.rules.specs.Loops.{put, fresh_at, next, moved, child_at, while_body, while_all}
 use Rattle.rules.specs.State.{if_at}
@@ -30,8 +30,8 @@ next_due n c false f = omega arith
 module _ {F : Format} (R : Pairing F) where
   fresh_at_livelies : (ts : Forest) (n : ℕ) → Livelies R ts → Livelies R (fresh_at n ts)
   fresh_at_livelies [] n v = tt
-  fresh_at_livelies (t ∷ ts) zero v = (fresh_live_by R.terms.time R.terms.none_passed t, v.1)
-  fresh_at_livelies (t ∷ ts) (suc n) v = (v.0, fresh_at_livelies ts n v.1)
+  fresh_at_livelies (t ◂ ts) zero v = (fresh_live_by R.terms.time R.terms.none_passed t, v.1)
+  fresh_at_livelies (t ◂ ts) (suc n) v = (v.0, fresh_at_livelies ts n v.1)
 
   moved_livelies : (ts : Forest) (n q : ℕ) (t' : Tree) → Livelies R (put n t' ts) → Livelies R (fresh_at q (fresh_at n (put n t' ts)))
   moved_livelies ts n q t' v = fresh_at_livelies (fresh_at n (put n t' ts)) q (fresh_at_livelies (put n t' ts) n v)
@@ -46,10 +46,10 @@ module _ {F : Format} (R : Pairing F) where
       child_pair : (e : Event) (ts : Forest) (n : ℕ) (p : R.Worlds) → Each D (shapes ts) → Known R ((n < count ts) × Livelies R ts) → Time R (dt e)
           → Both R 0 p (KeptPut p n ts) (λ w. child_at child n e ts w) (λ w. child_at child' n e ts w)
       child_pair e [] n p d v ev = cut R (from R v (λ h. omega arith))
-      child_pair e (t ∷ ts) zero p d v ev =
+      child_pair e (t ◂ ts) zero p d v ev =
           up R (size_of (shape t)) (free (size_of (shape t)) 0) (weak R (visit R D child child' g t e p d.0 (from R v (λ h. h.1.0)) ev)
           λ s r t' q x. (join x.0 refl, from_both R x.1 v (λ a b. ((a.0, b.1.1), a.1)), x.2))
-      child_pair e (t ∷ ts) (suc n) p d v ev = weak R (child_pair e ts n p d.1 (from R v (λ h. (le_of_suc-le-suc h.0, h.1.1))) ev)
+      child_pair e (t ◂ ts) (suc n) p d v ev = weak R (child_pair e ts n p d.1 (from R v (λ h. (le_of_suc-le-suc h.0, h.1.1))) ev)
           λ s r t' q x. (join refl x.0, from_both R x.1 v (λ a b. ((b.1.0, a.0), a.1)), x.2)
 
       -- ---- While's body, with a place up to m
@@ -78,8 +78,8 @@ module _ {F : Format} (R : Pairing F) where
 
       -- ---- WhileAll
       pub loop_pair : (b m : ℕ) (whole : Event) (n : ℕ) (e : Event) (c : Tree) (ts : Forest) (p : R.Worlds) → D (shape c) → Each D (shapes ts)
-          → Known R ((R.fuel p < b) × (count ts ≡ suc m) × (n ≤ suc m) × Livelies R (c ∷ ts)) → Time R (dt whole) → Time R (dt e)
-          → Both R 0 p (KeptAt R (suc m) (c ∷ ts)) (λ w. while_all child b whole n e c ts w) (λ w. while_all child' b whole n e c ts w)
+          → Known R ((R.fuel p < b) × (count ts ≡ suc m) × (n ≤ suc m) × Livelies R (c ◂ ts)) → Time R (dt whole) → Time R (dt e)
+          → Both R 0 p (KeptAt R (suc m) (c ◂ ts)) (λ w. while_all child b whole n e c ts w) (λ w. while_all child' b whole n e c ts w)
       unfolding while_all
       loop_pair zero m whole n e c ts p dc d v ew ev = cut R (from R v (λ h. omega arith))
       loop_pair (suc b) m whole zero e c ts p dc d v ew ev =
@@ -111,11 +111,11 @@ module _ {F : Format} (R : Pairing F) where
     pub if_pair : (e : Event) (ts : Forest) (n : ℕ) (p : R.Worlds) → Each D (shapes ts) → Known R ((n ≤ 2) × (3 ≤ count ts) × Livelies R ts) → Time R (dt e)
         → Both R (sizes_of (shapes ts)) p (KeptAt R 2 ts) (λ w. if_at child n e ts w) (λ w. if_at child' n e ts w)
     if_pair e [] n p d v ev = cut R (from R v (λ h. omega arith))
-    if_pair e (c ∷ []) n p d v ev = cut R (from R v (λ h. omega arith))
-    if_pair e (c ∷ a ∷ []) n p d v ev = cut R (from R v (λ h. omega arith))
-    if_pair e (c ∷ a ∷ b ∷ ts) zero p d v ev = then R (visit R D child child' g c e p d.0 (from R v (λ h. h.2.0)) ev) elim [
+    if_pair e (c ◂ []) n p d v ev = cut R (from R v (λ h. omega arith))
+    if_pair e (c ◂ a ◂ []) n p d v ev = cut R (from R v (λ h. omega arith))
+    if_pair e (c ◂ a ◂ b ◂ ts) zero p d v ev = then R (visit R D child child' g c e p d.0 (from R v (λ h. h.2.0)) ev) elim [
       | Running ↦ λ r c' q x. stay R (join x.0 refl, from_both R x.1 v (λ a b. (omega arith, (a.0, b.2.1))), x.2)
-      | Success ↦ λ r c' q x. up R (size_of (shape a)) (R.upto (size_of (shape a)) (sizes_of (shapes (a ∷ b ∷ ts))) (omega arith))
+      | Success ↦ λ r c' q x. up R (size_of (shape a)) (R.upto (size_of (shape a)) (sizes_of (shapes (a ◂ b ◂ ts))) (omega arith))
           (after R (visit_fresh R D child child' g a (rest r e) q d.1.0 (rest_time R r e x.2))
           λ s' r' a' q' y. stay R (
             join (fresh_shape c' ∙ x.0) (join y.0 refl),
@@ -123,17 +123,17 @@ module _ {F : Format} (R : Pairing F) where
                 (λ a b. (omega arith, (a, (b.0.0, b.1.2.1.1)))),
             y.2,
           ))
-      | Failure ↦ λ r c' q x. up R (size_of (shape b)) (R.upto (size_of (shape b)) (sizes_of (shapes (a ∷ b ∷ ts))) (omega arith))
+      | Failure ↦ λ r c' q x. up R (size_of (shape b)) (R.upto (size_of (shape b)) (sizes_of (shapes (a ◂ b ◂ ts))) (omega arith))
           (after R (visit_fresh R D child child' g b (rest r e) q d.1.1.0 (rest_time R r e x.2)) λ s' r' b' q' y. stay R (
             join (fresh_shape c' ∙ x.0) (join refl (join y.0 refl)),
             from_both R (fresh_lively R c') (R.terms.both y.1 v) (λ a b. (omega arith, (a, (b.1.2.1.0, (b.0.0, b.1.2.1.1.1))))),
             y.2,
           ))
     ]
-    if_pair e (c ∷ a ∷ b ∷ ts) (suc zero) p d v ev = up R (size_of (shape a)) (R.upto (size_of (shape a)) (sizes_of (shapes (c ∷ a ∷ b ∷ ts))) (omega arith))
+    if_pair e (c ◂ a ◂ b ◂ ts) (suc zero) p d v ev = up R (size_of (shape a)) (R.upto (size_of (shape a)) (sizes_of (shapes (c ◂ a ◂ b ◂ ts))) (omega arith))
         (after R (visit R D child child' g a e p d.1.0 (from R v (λ h. h.2.1.0)) ev) λ s r a' q y.
         stay R (join refl (join y.0 refl), from_both R y.1 v (λ a b. (omega arith, (b.2.0, (a.0, b.2.1.1)))), y.2))
-    if_pair e (c ∷ a ∷ b ∷ ts) (suc (suc zero)) p d v ev = up R (size_of (shape b)) (R.upto (size_of (shape b)) (sizes_of (shapes (c ∷ a ∷ b ∷ ts))) (omega arith))
+    if_pair e (c ◂ a ◂ b ◂ ts) (suc (suc zero)) p d v ev = up R (size_of (shape b)) (R.upto (size_of (shape b)) (sizes_of (shapes (c ◂ a ◂ b ◂ ts))) (omega arith))
         (after R (visit R D child child' g b e p d.1.1.0 (from R v (λ h. h.2.1.1.0)) ev) λ s r b' q y.
         stay R (join refl (join refl (join y.0 refl)), from_both R y.1 v (λ a b. (omega arith, (b.2.0, (b.2.1.0, (a.0, b.2.1.1.1))))), y.2))
-    if_pair e (c ∷ a ∷ b ∷ ts) (suc (suc (suc n))) p d v ev = cut R (from R v (λ h. omega arith))
+    if_pair e (c ◂ a ◂ b ◂ ts) (suc (suc (suc n))) p d v ev = cut R (from R v (λ h. omega arith))

@@ -11,7 +11,7 @@ use Rattle.rules.specs.declared.status.Status.TheVariants.{Running, Success, Fai
 use Rattle.rules.specs.declared.event.Event.{Event}
 use Rattle.rules.specs.Kinds.{code, kind_of, children, marks_children, is}
 use Rattle.rules.specs.Codes.{kind_code}
-use Rattle.rules.specs.Tree.{Cell, with_place, Forest, [], ◌∷◌, Tree, node}
+use Rattle.rules.specs.Tree.{Cell, with_place, Forest, [], ◌◂◌, Tree, node}
 use Rattle.rules.specs.Outcome.{World, world, Out, done, short, Ticker, ◌▸◌, exchanged, exchange, byte}
 use Rattle.rules.specs.Loops.{while_body, while_all}
 use Rattle.rules.specs.State.{Next, at_place, rule}
@@ -23,15 +23,15 @@ use Rattle.laws.specs.PairDrivers.{Livelies, Marked}
 
 abbrev pub while_with : ℕ → Ticker → Cell → Event → Forest → World → Out Next
 while_with b child c e [] w = short
-while_with b child c₀ e (c ∷ ts) w = child c e w ▸ λ s r c' w'. elim s [
-  | Running ↦ while_body child b c₀.place e ts w' ▸ λ s'' r'' y w''. done s'' r'' (with_place y.0 c₀, c' ∷ y.1) w''
-  | Success ↦ done Success r (c₀, c' ∷ ts) w'
-  | Failure ↦ done Failure r (c₀, c' ∷ ts) w'
+while_with b child c₀ e (c ◂ ts) w = child c e w ▸ λ s r c' w'. elim s [
+  | Running ↦ while_body child b c₀.place e ts w' ▸ λ s'' r'' y w''. done s'' r'' (with_place y.0 c₀, c' ◂ y.1) w''
+  | Success ↦ done Success r (c₀, c' ◂ ts) w'
+  | Failure ↦ done Failure r (c₀, c' ◂ ts) w'
 ]
 
 abbrev pub while_all_with : ℕ → Ticker → Cell → Event → Forest → World → Out Next
 while_all_with b child c e [] w = short
-while_all_with b child c₀ e (c ∷ ts) w = at_place c₀ (while_all child b e c₀.place e c ts w)
+while_all_with b child c₀ e (c ◂ ts) w = at_place c₀ (while_all child b e c₀.place e c ts w)
 
 unfoldable pub rule_with : ℕ → Format → Ticker → Kind → ℕ → Float → Cell → Event → Forest → World → Out Next
 unfolding rule
@@ -46,13 +46,13 @@ module _ (F : Format) (child : Ticker) where
       → rule F child While n l c e ts (world f ans) ≡ while_with (suc f) child c e ts (world f ans)
   unfolding rule
   while_with_lem n l c e [] f ans = refl
-  while_with_lem n l c e (t ∷ ts) f ans = refl
+  while_with_lem n l c e (t ◂ ts) f ans = refl
 
   while_all_with_lem : (n : ℕ) (l : Float) (c : Cell) (e : Event) (ts : Forest) (f : ℕ) (ans : List (Status × Float))
       → rule F child WhileAll n l c e ts (world f ans) ≡ while_all_with (suc f) child c e ts (world f ans)
   unfolding rule
   while_all_with_lem n l c e [] f ans = refl
-  while_all_with_lem n l c e (t ∷ ts) f ans = refl
+  while_all_with_lem n l c e (t ◂ ts) f ans = refl
 
   pub rule_with_lem : (k : Kind) (n : ℕ) (l : Float) (c : Cell) (e : Event) (ts : Forest) (f : ℕ) (ans : List (Status × Float))
       → rule F child k n l c e ts (world f ans) ≡ rule_with (suc f) F child k n l c e ts (world f ans)

@@ -9,7 +9,7 @@ use Rattle.rules.specs.declared.behavior.Kind.TheVariants.{Wait, WaitForever, Ac
 use Rattle.rules.specs.declared.behavior.Kind.TheVariants.{MemorylessSequence, MemorylessSelector, While, WhileAll, WhenAll, WhenAny, After, Race}
 use Rattle.rules.specs.Kinds.{code, kind_of, children}
 use Rattle.rules.specs.Codes.{kind_code}
-use Rattle.rules.specs.Tree.{Cell, Tree, node, Forest, [], ◌∷◌, fresh, fresh_all, size, sizes, depth, depths, count}
+use Rattle.rules.specs.Tree.{Cell, Tree, node, Forest, [], ◌◂◌, fresh, fresh_all, size, sizes, depth, depths, count}
 use Rattle.rules.specs.Table.{most_nodes, most_deep, cleaned, Row, row, rows, count_allowed, limit_allowed, row_allowed}
 use Rattle.rules.specs.Table.{Read, got, fault, ◌and_then◌, read_children, read_tree, Table, good, bad, whole, table}
 use Rattle.rules.specs.Exchange.{listed, listed_all, code_in, number_in, limit_in}
@@ -43,7 +43,7 @@ abbrev mutual
 
   pub Sounds : Forest → Type 0
   Sounds [] = Unit {0}
-  Sounds (t ∷ ts) = Sound t × Sounds ts
+  Sounds (t ◂ ts) = Sound t × Sounds ts
 
 is_true : (b : Bool) → T b → b ≡ true
 is_true true h = refl
@@ -69,7 +69,7 @@ mutual
   read_trees : (ts : Forest) (deep at : ℕ) (behind : List Row) → Sounds ts → depths ts ≤ deep → at + sizes ts ≤ 256 →
       read_children (read_tree deep) (count ts) at (listed_all row_in ts behind) ≡ got (clear_all (fresh_all ts)) (at + sizes ts) behind
   read_trees [] deep at behind s d few = rw (add-zero at)
-  read_trees (t ∷ ts) deep at behind s d few =
+  read_trees (t ◂ ts) deep at behind s d few =
       let z : at + size t + sizes ts ≡ at + (size t + sizes ts) = omega arith in
       rw (read_tree_lem t deep at (listed_all row_in ts behind) s.0 (omega arith) (omega arith), read_trees ts deep (at + size t) behind s.1 (omega arith) (omega arith), z)
 
@@ -81,7 +81,7 @@ mutual
 
   rows_listeds : (ts : Forest) (ks ns : List ℕ) (ls : List Float) → Sounds ts → rows (listed_all code_in ts ks) (listed_all number_in ts ns) (listed_all limit_in ts ls) ≡ listed_all row_in ts (rows ks ns ls)
   rows_listeds [] ks ns ls s = refl
-  rows_listeds (t ∷ ts) ks ns ls s =
+  rows_listeds (t ◂ ts) ks ns ls s =
       rows_listed t (listed_all code_in ts ks) (listed_all number_in ts ns) (listed_all limit_in ts ls) s.0 ∙ ap (listed row_in t) (rows_listeds ts ks ns ls s.1)
 
 -- the first elements of the slices that a tree is written to are its table

@@ -3,7 +3,7 @@ use Rattle.std.specs.Prelude.{◌≡◌, refl, Bool, true, false, cond, ◌&&◌
 use Rattle.std.proofs.Common.{sym, ap, ◌∙◌, arith, le-leb}
 use Rattle.rules.specs.declared.behavior.Kind.{Kind}
 use Rattle.rules.specs.Kinds.{timed, marks_children}
-use Rattle.rules.specs.Tree.{Cell, new_cell, Tree, node, Forest, [], ◌∷◌, size, count}
+use Rattle.rules.specs.Tree.{Cell, new_cell, Tree, node, Forest, [], ◌◂◌, size, count}
 use Rattle.rules.specs.Cells.{cells, with_cells, with_cells_all, last_place, cell_allowed, ended_in}
 use Rattle.rules.specs.Exchange.{replaced, replaced_in}
 use Rattle.laws.specs.Memory.{clear, clear_all}
@@ -16,7 +16,7 @@ use Rattle.laws.specs.ReadBack.{Sound, Sounds}
 count_replaced : (ts : Forest) (p : ℕ) (u : Tree) → count (replaced_in ts p u) ≡ count ts
 unfolding replaced
 count_replaced [] p u = refl
-count_replaced (t ∷ ts) p u = below_or_not p (size t) (λ e m. rw e) (λ e m. rw e (ap (λ (z : ℕ). suc z) (count_replaced ts (p - size t) u)))
+count_replaced (t ◂ ts) p u = below_or_not p (size t) (λ e m. rw e) (λ e m. rw e (ap (λ (z : ℕ). suc z) (count_replaced ts (p - size t) u)))
 
 module _ (u : Tree) (s : Sound u) where
   mutual
@@ -28,14 +28,14 @@ module _ (u : Tree) (s : Sound u) where
 
     sounds_replaced : (ts : Forest) (p : ℕ) → Sounds ts → Sounds (replaced_in ts p u)
     sounds_replaced [] p h = tt
-    sounds_replaced (t ∷ ts) p h = below_or_not p (size t)
+    sounds_replaced (t ◂ ts) p h = below_or_not p (size t)
         (λ e m. rw e (sound_replaced t p h.0, h.1))
         (λ e m. rw e (h.0, sounds_replaced ts (p - size t) h.1))
 
 count_with : (ts : Forest) (cs : List Cell) → count (with_cells_all ts cs).0 ≡ count ts
 unfolding with_cells
 count_with [] cs = refl
-count_with (t ∷ ts) cs = ap (λ (z : ℕ). suc z) (count_with ts (with_cells t cs).1)
+count_with (t ◂ ts) cs = ap (λ (z : ℕ). suc z) (count_with ts (with_cells t cs).1)
 
 mutual
   unfolding with_cells
@@ -46,7 +46,7 @@ mutual
 
   sounds_with : (ts : Forest) (cs : List Cell) → Sounds ts → Sounds (with_cells_all ts cs).0
   sounds_with [] cs h = tt
-  sounds_with (t ∷ ts) cs h = (sound_with t cs h.0, sounds_with ts (with_cells t cs).1 h.1)
+  sounds_with (t ◂ ts) cs h = (sound_with t cs h.0, sounds_with ts (with_cells t cs).1 h.1)
 
 -- ---- a tree between two ticks: its board is clear, and no tick has made it fresh
 abbrev mutual
@@ -55,7 +55,7 @@ abbrev mutual
 
   pub Blanks : Forest → Type 0
   Blanks [] = Unit {0}
-  Blanks (t ∷ ts) = Blank t × Blanks ts
+  Blanks (t ◂ ts) = Blank t × Blanks ts
 
 mutual
   unfolding clear
@@ -66,7 +66,7 @@ mutual
 
   blanks_clear : (ts : Forest) → Blanks ts → clear_all ts ≡ ts
   blanks_clear [] h = refl
-  blanks_clear (t ∷ ts) h = λ i. blank_clear t h.0 i ∷ blanks_clear ts h.1 i
+  blanks_clear (t ◂ ts) h = λ i. blank_clear t h.0 i ◂ blanks_clear ts h.1 i
 
 mutual
   pub tabled_blank : (t : Tree) → Tabled t → Blank t
@@ -74,7 +74,7 @@ mutual
 
   tableds_blank : (ts : Forest) → Tableds ts → Blanks ts
   tableds_blank [] h = tt
-  tableds_blank (t ∷ ts) h = (tabled_blank t h.0, tableds_blank ts h.1)
+  tableds_blank (t ◂ ts) h = (tabled_blank t h.0, tableds_blank ts h.1)
 
 -- cells as they are lent
 abbrev Lent : List Cell → Type 0
@@ -97,7 +97,7 @@ mutual
 
   blanks_with : (ts : Forest) (cs : List Cell) → Lent cs → Blanks ts → Blanks (with_cells_all ts cs).0 × Lent (with_cells_all ts cs).1
   blanks_with [] cs e h = (tt, e)
-  blanks_with (t ∷ ts) cs e h =
+  blanks_with (t ◂ ts) cs e h =
       let r = blank_with t cs e h.0 in
       let rs = blanks_with ts (with_cells t cs).1 r.1 h.1 in
       ((r.0, rs.0), rs.1)
@@ -112,7 +112,7 @@ module _ (u : Tree) (s : Blank u) where
 
     blanks_replaced : (ts : Forest) (p : ℕ) → Blanks ts → Blanks (replaced_in ts p u)
     blanks_replaced [] p h = tt
-    blanks_replaced (t ∷ ts) p h = below_or_not p (size t)
+    blanks_replaced (t ◂ ts) p h = below_or_not p (size t)
         (λ e m. rw e (blank_replaced t p h.0, h.1))
         (λ e m. rw e (h.0, blanks_replaced ts (p - size t) h.1))
 
@@ -132,7 +132,7 @@ mutual
 
   fresh_fines : (ts : Forest) → Tableds ts → (ended mayEnd : Bool) → Fines ended mayEnd ts
   fresh_fines [] h ended mayEnd = tt
-  fresh_fines (t ∷ ts) h ended mayEnd = (fresh_fine t h.0 ended mayEnd, fresh_fines ts h.1 ended mayEnd)
+  fresh_fines (t ◂ ts) h ended mayEnd = (fresh_fine t h.0 ended mayEnd, fresh_fines ts h.1 ended mayEnd)
 
 module _ (u : Tree) (s : Tabled u) where
   mutual
@@ -144,6 +144,6 @@ module _ (u : Tree) (s : Tabled u) where
 
     fines_replaced : (ts : Forest) (p : ℕ) (ended mayEnd : Bool) → Fines ended mayEnd ts → Fines ended mayEnd (replaced_in ts p u)
     fines_replaced [] p ended mayEnd h = tt
-    fines_replaced (t ∷ ts) p ended mayEnd h = below_or_not p (size t)
+    fines_replaced (t ◂ ts) p ended mayEnd h = below_or_not p (size t)
         (λ e m. rw e (fine_replaced t p ended mayEnd h.0, h.1))
         (λ e m. rw e (h.0, fines_replaced ts (p - size t) ended mayEnd h.1))

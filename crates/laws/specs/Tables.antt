@@ -5,7 +5,7 @@ use Prim.Native.Nat.{ℕ, zero, suc, ◌≤◌, max}
 use native.Mathlib.Omega.{arith}
 use Rattle.std.specs.Float.Ieee.Fits.{and_l, and_r}
 use Rattle.rules.specs.Kinds.{kind_of, children, fewest, most, timed, marks_children}
-use Rattle.rules.specs.Tree.{fresh_cell, new_cell, Tree, node, Forest, [], ◌∷◌, fresh, fresh_all, depth, depths, count}
+use Rattle.rules.specs.Tree.{fresh_cell, new_cell, Tree, node, Forest, [], ◌◂◌, fresh, fresh_all, depth, depths, count}
 use Rattle.rules.specs.Table.{most_nodes, most_deep, Row, row, rows, count_allowed, limit_allowed, row_allowed, Read, got, fault, ◌and_then◌, read_children, read_tree, Table, good, bad, whole, table}
 use Rattle.rules.specs.Cells.{last_place, cell_allowed, Found, faulty, none, bad_cell, bad_cells}
 use Rattle.laws.specs.Memory.{clear, clear_all}
@@ -17,7 +17,7 @@ abbrev mutual
 
   pub Tableds : Forest → Type 0
   Tableds [] = Unit {0}
-  Tableds (t ∷ ts) = Tabled t × Tableds ts
+  Tableds (t ◂ ts) = Tabled t × Tableds ts
 
 -- what holds of all that was read
 abbrev Got : {A : Type 0} → (A → Type 0) → Read A → Type 0
@@ -93,7 +93,7 @@ mutual
 
   tableds_fresh : (ts : Forest) → Tableds ts → clear_all (fresh_all ts) ≡ ts
   tableds_fresh [] h = refl
-  tableds_fresh (t ∷ ts) h = λ i. tabled_fresh t h.0 i ∷ tableds_fresh ts h.1 i
+  tableds_fresh (t ◂ ts) h = λ i. tabled_fresh t h.0 i ◂ tableds_fresh ts h.1 i
 
 -- ---- no cell of a tree made fresh is bad
 fresh_allowed : (mayEnd : Bool) (k : Kind) (n : ℕ) → cell_allowed false mayEnd k n fresh_cell ≡ true
@@ -115,7 +115,7 @@ mutual
 
   freshs_fine : (ts : Forest) (mayEnd : Bool) (at : ℕ) → (q : ℕ) × (bad_cells false mayEnd at (fresh_all ts) ≡ none q)
   freshs_fine [] mayEnd at = (at, refl)
-  freshs_fine (t ∷ ts) mayEnd at =
+  freshs_fine (t ◂ ts) mayEnd at =
       let f = fresh_fine t mayEnd at in
       fine_then (bad_cell false mayEnd at (fresh t)) f.0 (λ (z : ℕ). bad_cells false mayEnd z (fresh_all ts)) f.1 (freshs_fine ts mayEnd f.0)
 

@@ -6,7 +6,7 @@ use Rattle.rules.specs.declared.behavior.Kind.TheVariants.{MemorylessSequence, M
 use Rattle.rules.specs.declared.behavior.Kind.{Kind}
 use Rattle.rules.specs.Kinds.{code, is, timed}
 use Rattle.rules.specs.Bound.{Lim, whole_time, within, sum_l, max_l, min_l, times_l, own_ticks, bound, sum, largest, smallest}
-use Rattle.rules.specs.Tree.{Cell, Tree, node, Forest, [], ◌∷◌}
+use Rattle.rules.specs.Tree.{Cell, Tree, node, Forest, [], ◌◂◌}
 use Rattle.limits.specs.declared.node.Join.{Join}
 use Rattle.limits.specs.declared.node.Join.TheVariants.{Sum, Largest, Smallest, Product}
 use Rattle.limits.specs.declared.ticks.Ticks.{Ticks}
@@ -18,11 +18,11 @@ use Rattle.limits.proofs.Laws.{clip_join}
 -- ---- children counted together
 joined_as : (j : Join) (d : ℕ) (all : Forest → Lim)
     → none_l j ≡ all []
-    → ((t : Tree) (ts : Forest) → join_l j (bound d t) (all ts) ≡ all (t ∷ ts))
+    → ((t : Tree) (ts : Forest) → join_l j (bound d t) (all ts) ≡ all (t ◂ ts))
     → (ts : Forest) → joined j d ts ≡ all ts
 unfolding joined
 joined_as j d all none one [] = none
-joined_as j d all none one (t ∷ ts) = ap (join_l j (bound d t)) (joined_as j d all none one ts) ∙ one t ts
+joined_as j d all none one (t ◂ ts) = ap (join_l j (bound d t)) (joined_as j d all none one ts) ∙ one t ts
 
 joined_sum : (d : ℕ) (ts : Forest) → joined Sum d ts ≡ sum d ts
 unfolding bound
@@ -38,7 +38,7 @@ joined_smallest d = joined_as Smallest d (smallest d) refl (λ t ts. refl)
 
 -- a node with children counts the first and the others together
 abbrev pub Counts : Kind → Join → Type 0
-Counts k j = (d n : ℕ) (l : Float) (c : Cell) (b : ℕ) (t : Tree) (ts : Forest) → join_l j (bound d t) (joined (join_of k) d ts) ≡ bound d (node k n l c b (t ∷ ts))
+Counts k j = (d n : ℕ) (l : Float) (c : Cell) (b : ℕ) (t : Tree) (ts : Forest) → join_l j (bound d t) (joined (join_of k) d ts) ≡ bound d (node k n l c b (t ◂ ts))
 
 pub counts :
     Counts Select Sum × Counts If Sum × Counts Sequence Sum × Counts WhileAll Product ×

@@ -5,7 +5,7 @@ use Rattle.rules.specs.declared.behavior.Kind.{Kind}
 use Rattle.rules.specs.declared.behavior.Kind.TheVariants.{Wait, WaitForever, Action, Invert, AlwaysSucceed, Timeout, Select, If, Sequence}
 use Rattle.rules.specs.declared.behavior.Kind.TheVariants.{MemorylessSequence, MemorylessSelector, While, WhileAll, WhenAll, WhenAny, After, Race}
 use Rattle.rules.specs.Kinds.{is, timed, fewest, most}
-use Rattle.rules.specs.Tree.{Cell, Tree, node, Forest, [], ◌∷◌}
+use Rattle.rules.specs.Tree.{Cell, Tree, node, Forest, [], ◌◂◌}
 use Rattle.rules.specs.Bound.{Lim, never, within, sum_l, max_l, min_l, times_l, whole_time, own_ticks, bound}
 use Rattle.limits.specs.declared.node.Join.{Join}
 use Rattle.limits.specs.declared.node.Join.TheVariants.{Sum, Largest, Smallest, Product}
@@ -48,7 +48,7 @@ join_l Product = times_l
 unfoldable pub joined : Join → ℕ → Forest → Lim
 unfolding bound
 joined j d [] = none_l j
-joined j d (t ∷ ts) = join_l j (bound d t) (joined j d ts)
+joined j d (t ◂ ts) = join_l j (bound d t) (joined j d ts)
 
 -- r is the bound of every node without children that is allowed so
 abbrev pub Alone : Kind → Ticks → Ticks → Type 0
@@ -62,7 +62,7 @@ Together k own first rest r =
     → (timed k ≡ true → own ≡ clipped (within (own_ticks d l)))
     → first ≡ clipped (bound d t)
     → rest ≡ clipped (joined (join_of k) d ts)
-    → r ≡ clipped (bound d (node k n l c b (t ∷ ts)))
+    → r ≡ clipped (bound d (node k n l c b (t ◂ ts)))
 
 -- the row of a tree that has a bound
 abbrev pub row_bounded : Format → Kind → ℕ → Float → Bool

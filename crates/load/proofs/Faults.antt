@@ -11,7 +11,7 @@ use lib.ListN.{length, get_or, set, drop}
 use lib.Seq.{get_or-set_same, get_or-set_other, drop-drop}
 use Rattle.rules.specs.declared.behavior.Kind.{Kind}
 use Rattle.rules.specs.Kinds.{marks_children}
-use Rattle.rules.specs.Tree.{Cell, Tree, node, Forest, [], ◌∷◌, size, sizes}
+use Rattle.rules.specs.Tree.{Cell, Tree, node, Forest, [], ◌◂◌, size, sizes}
 use Rattle.rules.specs.Cells.{cells, with_cells, with_cells_all, cell_allowed, ended_in, Found, faulty, none, bad_cell, bad_cells}
 use Rattle.tables.proofs.Scan.{Frame, frame, onto, made}
 use Rattle.cells.proofs.Held.{cell_at, drop_cells}
@@ -50,7 +50,7 @@ module _ (times : List Float) (places marks : List ℕ) where
 
     pub pass_all : Bool → Bool → ℕ → Forest → ℕ → ℕ
     pass_all e m q [] s = s
-    pass_all e m q (t ∷ ts) s = pass_all e m (q + size t) ts (pass e m q t s)
+    pass_all e m q (t ◂ ts) s = pass_all e m (q + size t) ts (pass e m q t s)
 
   mutual
     unfolding pass
@@ -62,7 +62,7 @@ module _ (times : List Float) (places marks : List ℕ) where
 
     all_stay : (ts : Forest) (e m : Bool) (q s : ℕ) → s < 256 → pass_all e m q ts s ≡ s
     all_stay [] e m q s h = refl
-    all_stay (t ∷ ts) e m q s h = ap (pass_all e m (q + size t) ts) (pass_stays t e m q s h) ∙ all_stay ts e m (q + size t) s h
+    all_stay (t ◂ ts) e m q s h = ap (pass_all e m (q + size t) ts) (pass_stays t e m q s h) ∙ all_stay ts e m (q + size t) s h
 
   -- ---- it is the rules' smallest bad cell
   join : (f : Found) (rest : ℕ → Found) (then : ℕ → ℕ) (s stop end : ℕ)
@@ -97,7 +97,7 @@ module _ (times : List Float) (places marks : List ℕ) where
     all_is : (ts : Forest) (e m : Bool) (q : ℕ) → q + sizes ts ≤ length run → q + sizes ts ≤ 256
         → Agrees (pass_all e m q ts 256) (bad_cells e m q (with_cells_all ts (drop q run)).0) (q + sizes ts)
     all_is [] e m q long low = (refl, sym (add-zero q))
-    all_is (t ∷ ts) e m q long low =
+    all_is (t ◂ ts) e m q long low =
         let first = pass_is t e m q (omega arith) (omega arith) in
         let rest = all_is ts e m (q + size t) (omega arith) (omega arith) in
         let cut : (with_cells t (drop q run)).1 ≡ drop (q + size t) run = drop_with t (drop q run) ∙ drop-drop (size t) q run in
@@ -119,16 +119,16 @@ module _ (times : List Float) (places marks : List ℕ) where
   sizes_onto : (kids ts : Forest) → sizes (onto kids ts) ≡ sizes (onto kids []) + sizes ts
   unfolding size
   sizes_onto [] ts = omega arith
-  sizes_onto (t ∷ kids) ts = omega (arith, sizes_onto kids (t ∷ ts), sizes_onto kids (t ∷ []))
+  sizes_onto (t ◂ kids) ts = omega (arith, sizes_onto kids (t ◂ ts), sizes_onto kids (t ◂ []))
 
   pass_onto : (kids ts : Forest) (e m : Bool) (q s : ℕ)
       → pass_all e m q (onto kids ts) s ≡ pass_all e m (q + sizes (onto kids [])) ts (pass_all e m q (onto kids []) s)
   unfolding pass size
   pass_onto [] ts e m q s = rw (add-zero q)
-  pass_onto (t ∷ kids) ts e m q s =
-      let all = pass_onto kids (t ∷ ts) e m q s in
-      let one = pass_onto kids (t ∷ []) e m q s in
-      let place : q + sizes (onto kids []) + size t ≡ q + sizes (onto kids (t ∷ [])) = omega (arith, sizes_onto kids (t ∷ [])) in
+  pass_onto (t ◂ kids) ts e m q s =
+      let all = pass_onto kids (t ◂ ts) e m q s in
+      let one = pass_onto kids (t ◂ []) e m q s in
+      let place : q + sizes (onto kids []) + size t ≡ q + sizes (onto kids (t ◂ [])) = omega (arith, sizes_onto kids (t ◂ [])) in
       all ∙ rw (one, place)
 
   -- ---- what the frames say of the next child's cell: whether it is below an ended child, and whether it may be marked
@@ -216,24 +216,24 @@ module _ (times : List Float) (places marks : List ℕ) where
     module _ (p : ℕ) (k : Kind) (n : ℕ) (l : Float) (kids : Forest) (m : ℕ) (σ : List Frame) (t : Tree) (q : ℕ)
         (h : Done under may ended mayEnd s t q (List.◌∷◌ (frame p k n l kids m) σ)) where
       -- the children up to t
-      upto : s ≡ pass_all (ended_of σ || ended_in (cell p)) (marks_children k) (suc p) (onto kids (t ∷ []))
+      upto : s ≡ pass_all (ended_of σ || ended_in (cell p)) (marks_children k) (suc p) (onto kids (t ◂ []))
           (first_of h.cells_are.0 (cell_allowed (ended_of σ) (may_of σ) k n (cell p)) p)
       unfolding pass
       upto =
           let c = h.cells_are in
           let first = first_of c.0 (cell_allowed (ended_of σ) (may_of σ) k n (cell p)) p in
-          let all = pass_onto kids (t ∷ []) (ended_of σ || ended_in (cell p)) (marks_children k) (suc p) first in
+          let all = pass_onto kids (t ◂ []) (ended_of σ || ended_in (cell p)) (marks_children k) (suc p) first in
           h.passes ∙ rw (c.1.1.1, ← c.1.1.0) (sym all)
 
-      pub next_known : (at m' : ℕ) → at ≡ q + size t → Known under may ended mayEnd s at (List.◌∷◌ (frame p k n l (t ∷ kids) m') σ)
+      pub next_known : (at m' : ℕ) → at ≡ q + size t → Known under may ended mayEnd s at (List.◌∷◌ (frame p k n l (t ◂ kids) m') σ)
       unfolding size
       next_known at m' e =
           let c = h.cells_are in
-          let place : suc p + sizes (onto kids (t ∷ [])) ≡ at = omega (arith, e, c.1.1.0, sizes_onto kids (t ∷ [])) in
+          let place : suc p + sizes (onto kids (t ◂ [])) ≡ at = omega (arith, e, c.1.1.0, sizes_onto kids (t ◂ [])) in
           record { cells_are = (c.0, (c.1.0, (place, upto))); flags = h.flags; is_ended = h.is_ended; is_may = h.is_may }
 
       pub close_done : (open' : ℕ) → open' - 1 ≡ length σ
-          → Done under may (get_or under (open' - 1) false) (get_or may (open' - 1) false) s (made k n l (onto kids (t ∷ []))) p σ
+          → Done under may (get_or under (open' - 1) false) (get_or may (open' - 1) false) s (made k n l (onto kids (t ◂ []))) p σ
       unfolding pass
       close_done open' top =
           let c = h.cells_are in

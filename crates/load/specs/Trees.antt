@@ -14,7 +14,7 @@ use Rattle.rules.specs.declared.behavior.Kind.TheVariants.{Select, If, Sequence,
 use Rattle.rules.specs.declared.behavior.Kind.TheVariants.{While, WhileAll, WhenAll, WhenAny, After, Race}
 use Rattle.rules.specs.Kinds.{code, kind_of, fewest, most, children, timed}
 use Rattle.rules.specs.Codes.{code_kind}
-use Rattle.rules.specs.Tree.{Cell, fresh_cell, new_cell, Tree, node, Forest, [], ◌∷◌, size, sizes, count}
+use Rattle.rules.specs.Tree.{Cell, fresh_cell, new_cell, Tree, node, Forest, [], ◌◂◌, size, sizes, count}
 use Rattle.rules.specs.Table.{zero_bits, count_allowed, limit_allowed, row_allowed}
 use Rattle.rules.specs.Cells.{cells, with_cells, with_cells_all, elapsed, last_place, cell_allowed, Found, faulty, none, bad_cell, bad_cells}
 use Rattle.rules.specs.Cells as in_cell
@@ -97,7 +97,7 @@ none_twice (none at) rest m h = (at, (refl, h))
 count_with : (ts : Forest) (cs : List Cell) → count (with_cells_all ts cs).0 ≡ count ts
 unfolding with_cells
 count_with [] cs = refl
-count_with (t ∷ ts) cs = ap (λ (z : ℕ). suc z) (count_with ts (with_cells t cs).1)
+count_with (t ◂ ts) cs = ap (λ (z : ℕ). suc z) (count_with ts (with_cells t cs).1)
 
 mutual
   unfolding with_cells size
@@ -108,7 +108,7 @@ mutual
 
   sizes_with : (ts : Forest) (cs : List Cell) → sizes (with_cells_all ts cs).0 ≡ sizes ts
   sizes_with [] cs = refl
-  sizes_with (t ∷ ts) cs = λ i. size_with t cs i + sizes_with ts (with_cells t cs).1 i
+  sizes_with (t ◂ ts) cs = λ i. size_with t cs i + sizes_with ts (with_cells t cs).1 i
 
 mutual
   unfolding with_cells size
@@ -119,7 +119,7 @@ mutual
 
   drops_with : (ts : Forest) (cs : List Cell) → (with_cells_all ts cs).1 ≡ drop (sizes ts) cs
   drops_with [] cs = refl
-  drops_with (t ∷ ts) cs = drops_with ts (with_cells t cs).1 ∙ ap (λ (l : List Cell). drop (sizes ts) l) (drop_with t cs) ∙ drop-drop (sizes ts) (size t) cs
+  drops_with (t ◂ ts) cs = drops_with ts (with_cells t cs).1 ∙ ap (λ (l : List Cell). drop (sizes ts) l) (drop_with t cs) ∙ drop-drop (sizes ts) (size t) cs
 
 long_cells : (n : ℕ) (xs : List Float) (ps ms : List ℕ) → n ≤ length xs → n ≤ length ps → n ≤ length ms → n ≤ length (cells xs ps ms)
 unfolding cells
@@ -169,7 +169,7 @@ module _ (kinds ns : List ℕ) (limits : List Float) (ends : List ℕ) where
 
     ats_end : (q : ℕ) (ts : Forest) (stop : ℕ) → Ats kinds ns limits ends q ts stop → stop ≡ q + sizes ts
     ats_end q [] stop v = omega (arith, v)
-    ats_end q (t ∷ ts) stop v = omega (arith, at_end q t v.0, ats_end (get_or ends q 0) ts stop v.1)
+    ats_end q (t ◂ ts) stop v = omega (arith, at_end q t v.0, ats_end (get_or ends q 0) ts stop v.1)
 
   mutual
     unfolding with_cells
@@ -180,7 +180,7 @@ module _ (kinds ns : List ℕ) (limits : List Float) (ends : List ℕ) where
 
     ats_with : (q : ℕ) (ts : Forest) (cs : List Cell) (stop : ℕ) → Ats kinds ns limits ends q ts stop → Ats kinds ns limits ends q (with_cells_all ts cs).0 stop
     ats_with q [] cs stop v = v
-    ats_with q (t ∷ ts) cs stop v = (at_with q t cs v.0, ats_with (get_or ends q 0) ts (with_cells t cs).1 stop v.1)
+    ats_with q (t ◂ ts) cs stop v = (at_with q t cs v.0, ats_with (get_or ends q 0) ts (with_cells t cs).1 stop v.1)
 
   module _ (q : ℕ) (k : Kind) (n : ℕ) (l : Float) (many : ℕ) (r : Row kinds ns limits q k n l many) where
     row_code : get_or kinds q 0 ≡ code k
@@ -205,7 +205,7 @@ module _ (kinds ns : List ℕ) (limits : List Float) (ends : List ℕ) where
 
     ats_hold : (q : ℕ) (ts : Forest) (stop : ℕ) → Ats kinds ns limits ends q ts stop → HoldsAll ns limits q ts
     ats_hold q [] stop v = tt
-    ats_hold q (t ∷ ts) stop v = (at_holds q t v.0, rw (at_end q t v.0) at (ats_hold (get_or ends q 0) ts stop v.1))
+    ats_hold q (t ◂ ts) stop v = (at_holds q t v.0, rw (at_end q t v.0) at (ats_hold (get_or ends q 0) ts stop v.1))
 
   mutual
     unfolding bad_cell Fits
@@ -219,7 +219,7 @@ module _ (kinds ns : List ℕ) (limits : List Float) (ends : List ℕ) where
 
     ats_fit : (q : ℕ) (ts : Forest) (stop : ℕ) (ended mayEnd : Bool) (at m : ℕ) → Ats kinds ns limits ends q ts stop → bad_cells ended mayEnd at ts ≡ none m → FitsAll ts
     ats_fit q [] stop ended mayEnd at m v h = tt
-    ats_fit q (t ∷ ts) stop ended mayEnd at m v h =
+    ats_fit q (t ◂ ts) stop ended mayEnd at m v h =
         let s = none_twice (bad_cell ended mayEnd at t) (λ (at : ℕ). bad_cells ended mayEnd at ts) m h in
         (at_fits q t ended mayEnd at s.0 v.0 s.1.0, ats_fit (get_or ends q 0) ts stop ended mayEnd s.0 m v.1 s.1.1)
 
@@ -295,7 +295,7 @@ module _ (anew : Bool) (kinds ends places marks : List ℕ) where
           → q + sizes ts ≤ length run
           → words_all (with_cells_all ts cs).0 post ≡ words_from q (sizes ts) ++ post
       words_all_with q [] cs stop post v e h = refl
-      words_all_with q (t ∷ ts) cs stop post v e h =
+      words_all_with q (t ◂ ts) cs stop post v e h =
           let end = at_end kinds ns limits ends q t v.0 in
           let dropped = drop_with t cs ∙ ap (λ (l : List Cell). drop (size t) l) e ∙ drop-drop (size t) q run in
           let rest : (with_cells t cs).1 ≡ drop (get_or ends q 0) run = dropped ∙ ap (λ (z : ℕ). drop z run) (sym end) in

@@ -12,7 +12,7 @@ use borrow.Author.Tests.{lt-ltb, le-ltb, le-leb, lt-leb}
 use Rattle.rules.specs.declared.status.Status.TheVariants.{Running, Success, Failure}
 use Rattle.rules.specs.declared.event.Event.{Event}
 use Rattle.rules.specs.declared.event.Event.TheVariants.{Update, Other}
-use Rattle.rules.specs.Tree.{zero_time, Tree, node, Forest, [], ◌∷◌, fresh, fresh_all, mark, sizes, count}
+use Rattle.rules.specs.Tree.{zero_time, Tree, node, Forest, [], ◌◂◌, fresh, fresh_all, mark, sizes, count}
 use Rattle.rules.specs.Outcome.{event_of, World, Out, done, Ticker, waiting, smaller}
 use Rattle.rules.specs.Sequence.{keep, pass, sequence_from, sequence_at, memoryless}
 use Rattle.rules.specs.WhenAll.{when_all_from, when_all, race_from, after_from, after_at}
@@ -55,26 +55,26 @@ unmarked (suc (suc m)) l = absurd (let z : suc (suc m) < 2 = l in omega arith)
 -- what a driver leaves behind the tree t, with t before it
 module _ {G : Given} {d : ℕ} (fr : Frame G d) (t : Tree) (v : First fr t) (f f' : ℕ) (l : f' ≤ f) where
   keep_link : (o : Out Forest) (o' : flat.Out) → Sim (suc f') (trees (over fr t v)) o o' → Sim (suc f) (trees fr) (keep t o) o'
-  keep_link o o' e = sim_keep (trees (over fr t v)) (suc f') (trees fr) (suc f) o o' (λ ts. t ∷ ts) e (omega arith) λ ts f u vs. ((v, vs), over_words_lem fr t v ts f u, over_times fr t v ts)
+  keep_link o o' e = sim_keep (trees (over fr t v)) (suc f') (trees fr) (suc f) o o' (λ ts. t ◂ ts) e (omega arith) λ ts f u vs. ((v, vs), over_words_lem fr t v ts f u, over_times fr t v ts)
 
   pass_link : (p i : ℕ) (o : Out (ℕ × Forest)) (o' : flat.Out) → Sim (suc f') (kids p (i + 1) (over fr t v)) o o' → Sim (suc f) (kids p i fr) (pass t o) o'
-  pass_link p i o o' e = sim_keep (kids p (i + 1) (over fr t v)) (suc f') (kids p i fr) (suc f) o o' (λ y. (suc y.0, t ∷ y.1)) e (omega arith)
+  pass_link p i o o' e = sim_keep (kids p (i + 1) (over fr t v)) (suc f') (kids p i fr) (suc f) o o' (λ y. (suc y.0, t ◂ y.1)) e (omega arith)
       λ y f u vy. (((v, vy.0), omega (arith, vy.1)), rw (over_words_lem fr t v y.1 f u, shift i y.0), over_times fr t v y.1)
 
 -- the last child has succeeded: the place goes up on an update
-up_link : {G : Given} {d : ℕ} (p i : ℕ) (fr : Frame G d) (t : Tree) (x r : Float) (f f' u' : ℕ) → All fr (t ∷ []) → Spent G f f' u' → (b : Bool)
-    → Sim (suc f) (kids p i fr) (elim (event_of b x) [ Update _ ↦ done Success r (1, t ∷ []) (world_at G f' u') | Other ↦ done Success r (0, t ∷ []) (world_at G f' u') ])
-    (out seen.Success r (set_place (words_in fr (t ∷ []) f' u') p (up_on b i)) (times_in fr (t ∷ [])))
+up_link : {G : Given} {d : ℕ} (p i : ℕ) (fr : Frame G d) (t : Tree) (x r : Float) (f f' u' : ℕ) → All fr (t ◂ []) → Spent G f f' u' → (b : Bool)
+    → Sim (suc f) (kids p i fr) (elim (event_of b x) [ Update _ ↦ done Success r (1, t ◂ []) (world_at G f' u') | Other ↦ done Success r (0, t ◂ []) (world_at G f' u') ])
+    (out seen.Success r (set_place (words_in fr (t ◂ []) f' u') p (up_on b i)) (times_in fr (t ◂ [])))
 up_link p i fr t x r f f' u' vs e true = went u' (still e) (vs, omega arith) refl refl
 up_link p i fr t x r f f' u' vs e false = went u' (still e) (vs, omega arith) (rw (add-zero i)) refl
 
 module _ (G : Given) (d : ℕ) (child : Ticker) (v : Visitor) (g : Ticks G d child v) where
   -- ---- Sequence, from the child i, which is first in the frame
   seq_link : (us : Forest) (fr : Frame G d) (x : Float) (t : Tree) (p i k f u : ℕ)
-      → All fr (t ∷ us)
+      → All fr (t ◂ us)
       → u + f ≤ G.fuel
       → count us < k
-      → Sim (suc f) (kids p i fr) (sequence_from child (event G x) t us (world_at G f u)) (on fr (t ∷ us) f u (sequence_go v p fr.stop k fr.q i x))
+      → Sim (suc f) (kids p i fr) (sequence_from child (event G x) t us (world_at G f u)) (on fr (t ◂ us) f u (sequence_go v p fr.stop k fr.q i x))
   unfolding sequence_from sequence_go run fresh
   seq_link us fr x t p i zero f u vs e n = absurd (not-suc-le-zero n)
   seq_link [] fr x t p i (suc k) f u vs e n = sim_visit G d child v g (kids p i fr) fr t [] x f u _ _ vs e elim [
@@ -83,26 +83,26 @@ module _ (G : Given) (d : ℕ) (child : Ticker) (v : Visitor) (g : Ticks G d chi
     | Success ↦ λ r t' f' u' v' e'. rw (
       end_at fr [] f' u' t' v',
       le-leb fr.stop (G.ends fr.q) (omega (arith, vs.1)),
-      updates_in (nodes_in fr (t' ∷ [])) (full_length fr (t' ∷ []) (v', vs.1)) G.update f' u',
+      updates_in (nodes_in fr (t' ◂ [])) (full_length fr (t' ◂ []) (v', vs.1)) G.update f' u',
     )
         (up_link p i fr t' x r f f' u' (v', vs.1) e' G.update)
   ]
-  seq_link (w ∷ us) fr x t p i (suc k) f u vs e n = sim_visit G d child v g (kids p i fr) fr t (w ∷ us) x f u _ _ vs e elim [
+  seq_link (w ◂ us) fr x t p i (suc k) f u vs e n = sim_visit G d child v g (kids p i fr) fr t (w ◂ us) x f u _ _ vs e elim [
     | Running ↦ λ r t' f' u' v' e'. went u' (still e') ((v', vs.1), omega arith) (rw (add-zero i)) refl
     | Failure ↦ λ r t' f' u' v' e'. went u' (still e') ((v', vs.1), omega arith) (rw (add-zero i)) refl
     | Success ↦ λ r t' f' u' v' e'.
         let vt : First fr (fresh t') = at_fresh G fr.q t' d v' in
         let vw : First (over fr (fresh t') vt) (fresh w) = at_fresh G (G.ends fr.q) w d vs.1.0 in
         rw (
-          end_at fr (w ∷ us) f' u' t' v',
+          end_at fr (w ◂ us) f' u' t' v',
           end_next fr us f' u' t' w (v', vs.1),
           lt-leb fr.stop (G.ends fr.q) (ats_less G (G.ends fr.q) w us fr.stop d vs.1),
-          updates_in (nodes_in fr (t' ∷ w ∷ us)) (full_length fr (t' ∷ w ∷ us) (v', vs.1)) G.update f' u',
-          fresh_words_lem fr (t' ∷ w ∷ []) us (G.ends (G.ends fr.q)) (v', (vs.1.0, refl)) f' u',
-          fresh_times_lem fr (t' ∷ w ∷ []) us (G.ends (G.ends fr.q)) (v', (vs.1.0, refl)),
+          updates_in (nodes_in fr (t' ◂ w ◂ us)) (full_length fr (t' ◂ w ◂ us) (v', vs.1)) G.update f' u',
+          fresh_words_lem fr (t' ◂ w ◂ []) us (G.ends (G.ends fr.q)) (v', (vs.1.0, refl)) f' u',
+          fresh_times_lem fr (t' ◂ w ◂ []) us (G.ends (G.ends fr.q)) (v', (vs.1.0, refl)),
         )
         (sim_event (kids p i fr) (suc f) x _ _ _ _
-        (λ up. rw (up r, ← over_words_lem fr (fresh t') vt (fresh w ∷ us) f' u', ← over_times fr (fresh t') vt (fresh w ∷ us))
+        (λ up. rw (up r, ← over_words_lem fr (fresh t') vt (fresh w ◂ us) f' u', ← over_times fr (fresh t') vt (fresh w ◂ us))
         (pass_link fr (fresh t') vt f f' (omega (arith, e'.burnt)) p i (sequence_from child (event G r) (fresh w) us (world_at G f' u')) _
         (seq_link us (over fr (fresh t') vt) r (fresh w) p (i + 1) k f' u' (vw, vs.1.1) e'.few (omega arith))))
         (went u' (still e') ((vt, (vw, vs.1.1)), omega arith) refl refl))
@@ -117,16 +117,16 @@ module _ (G : Given) (d : ℕ) (child : Ticker) (v : Visitor) (g : Ticks G d chi
       → Sim (suc f) (kids p j fr) (sequence_at child i (event G x) ts (world_at G f u)) (on fr ts f u (sequence_go v p fr.stop k (spot G i fr.q) (j + i) x))
   unfolding sequence_at run
   at_link [] i fr x p j k f u vs e l n = absurd (not-suc-le-zero l)
-  at_link (t ∷ ts) zero fr x p j k f u vs e l n = rw (add-zero j) (seq_link ts fr x t p j k f u vs e n)
-  at_link (t ∷ ts) (suc i) fr x p j k f u vs e l n = rw (← shift j i, ← over_words_lem fr t vs.0 ts f u, ← over_times fr t vs.0 ts)
+  at_link (t ◂ ts) zero fr x p j k f u vs e l n = rw (add-zero j) (seq_link ts fr x t p j k f u vs e n)
+  at_link (t ◂ ts) (suc i) fr x p j k f u vs e l n = rw (← shift j i, ← over_words_lem fr t vs.0 ts f u, ← over_times fr t vs.0 ts)
       (pass_link fr t vs.0 f f (omega arith) p j (sequence_at child i (event G x) ts (world_at G f u)) _
       (at_link ts i (over fr t vs.0) x p (j + 1) k f u vs.1 e (le_of_suc-le-suc l) (omega arith)))
 
   over_link : (ts : Forest) (p : ℕ) (e : Event) (w : World) → count ts ≤ p → sequence_at child p e ts w ≡ waiting (p, ts) w
   unfolding sequence_at
   over_link [] p e w h = refl
-  over_link (t ∷ ts) zero e w h = absurd (not-suc-le-zero h)
-  over_link (t ∷ ts) (suc p) e w h = rw (over_link ts p e w (le_of_suc-le-suc h))
+  over_link (t ◂ ts) zero e w h = absurd (not-suc-le-zero h)
+  over_link (t ◂ ts) (suc p) e w h = rw (over_link ts p e w (le_of_suc-le-suc h))
 
   pub sequence_link : (fr : Frame G d) (ts : Forest) (x : Float) (p i f u : ℕ)
       → All fr ts
@@ -146,10 +146,10 @@ module _ (G : Given) (d : ℕ) (child : Ticker) (v : Visitor) (g : Ticks G d chi
 
   -- ---- Memoryless, over children that are fresh
   mem_link : (us : Forest) (fr : Frame G d) (x : Float) (t : Tree) (k f u : ℕ)
-      → All fr (t ∷ us)
+      → All fr (t ◂ us)
       → u + f ≤ G.fuel
       → count us < k
-      → Sim (suc f) (trees fr) (memoryless child (event G x) (t ∷ us) (world_at G f u)) (on fr (fresh_all (t ∷ us)) f u (memoryless_go v fr.stop k fr.q x))
+      → Sim (suc f) (trees fr) (memoryless child (event G x) (t ◂ us) (world_at G f u)) (on fr (fresh_all (t ◂ us)) f u (memoryless_go v fr.stop k fr.q x))
   unfolding memoryless memoryless_go run fresh
   mem_link us fr x t zero f u vs e n = absurd (not-suc-le-zero n)
   mem_link [] fr x t (suc k) f u vs e n = sim_visit G d child v g (trees fr) fr (fresh t) [] x f u _ _ (at_fresh G fr.q t d vs.0, vs.1) e elim [
@@ -158,14 +158,14 @@ module _ (G : Given) (d : ℕ) (child : Ticker) (v : Visitor) (g : Ticks G d chi
     | Success ↦ λ r t' f' u' v' e'. rw (
       end_at fr [] f u (fresh t) (at_fresh G fr.q t d vs.0),
       le-leb fr.stop (G.ends fr.q) (omega (arith, vs.1)),
-      passed_in (nodes_in fr (t' ∷ [])) (full_length fr (t' ∷ []) (v', vs.1)) G.update f' u' r,
+      passed_in (nodes_in fr (t' ◂ [])) (full_length fr (t' ◂ []) (v', vs.1)) G.update f' u' r,
       rest_event G x r,
     )
         (went u' (still e') (v', vs.1) refl refl)
   ]
-  mem_link (w ∷ us) fr x t (suc k) f u vs e n =
-      let ws : Forest = fresh_all (w ∷ us) in
-      let vw = ats_fresh G (G.ends fr.q) (w ∷ us) fr.stop d vs.1 in
+  mem_link (w ◂ us) fr x t (suc k) f u vs e n =
+      let ws : Forest = fresh_all (w ◂ us) in
+      let vw = ats_fresh G (G.ends fr.q) (w ◂ us) fr.stop d vs.1 in
       sim_visit G d child v g (trees fr) fr (fresh t) ws x f u _ _ (at_fresh G fr.q t d vs.0, vw) e elim [
         | Running ↦ λ r t' f' u' v' e'. went u' (still e') (v', vw) refl refl
         | Failure ↦ λ r t' f' u' v' e'. went u' (still e') (v', vw) refl refl
@@ -174,13 +174,13 @@ module _ (G : Given) (d : ℕ) (child : Ticker) (v : Visitor) (g : Ticks G d chi
             rw (
               end_at fr ws f u (fresh t) (at_fresh G fr.q t d vs.0),
               lt-leb fr.stop (G.ends fr.q) (ats_less G (G.ends fr.q) w us fr.stop d vs.1),
-              fresh_words_lem fr (t' ∷ []) ws (G.ends fr.q) (v', refl) f' u',
-              fresh_times_lem fr (t' ∷ []) ws (G.ends fr.q) (v', refl),
+              fresh_words_lem fr (t' ◂ []) ws (G.ends fr.q) (v', refl) f' u',
+              fresh_times_lem fr (t' ◂ []) ws (G.ends fr.q) (v', refl),
               rest_event G x r,
               ← over_words_lem fr (fresh t') vt ws f' u',
               ← over_times fr (fresh t') vt ws,
             )
-            (keep_link fr (fresh t') vt f f' (omega (arith, e'.burnt)) (memoryless child (event G r) (w ∷ us) (world_at G f' u')) _
+            (keep_link fr (fresh t') vt f f' (omega (arith, e'.burnt)) (memoryless child (event G r) (w ◂ us) (world_at G f' u')) _
             (mem_link us (over fr (fresh t') vt) r w k f' u' vs.1 e'.few (le_of_suc-le-suc n)))
       ]
 
@@ -193,12 +193,12 @@ module _ (G : Given) (d : ℕ) (child : Ticker) (v : Visitor) (g : Ticks G d chi
   unfolding memoryless flat.memoryless run
   memoryless_link fr [] x p i f u vs e z n = rw (z.ends, z.first, le-leb fr.stop fr.q (omega (arith, vs)), passed_in (nodes_in fr []) (full_length fr [] vs) G.update f u x)
       (went u (unspent f u e) vs refl refl)
-  memoryless_link fr (t ∷ us) x p i f u vs e z n = rw (
+  memoryless_link fr (t ◂ us) x p i f u vs e z n = rw (
     z.ends,
     z.first,
     lt-leb fr.stop fr.q (ats_less G fr.q t us fr.stop d vs),
-    fresh_words_lem fr (t ∷ us) [] fr.stop vs f u,
-    fresh_times_lem fr (t ∷ us) [] fr.stop vs,
+    fresh_words_lem fr (t ◂ us) [] fr.stop vs f u,
+    fresh_times_lem fr (t ◂ us) [] fr.stop vs,
   )
       (mem_link us fr x t 256 f u vs e n)
 
@@ -213,8 +213,8 @@ module _ (G : Given) (d : ℕ) (child : Ticker) (v : Visitor) (g : Ticks G d chi
   when_link [] fr x false least zero f u vs e n = went u (unspent f u e) vs refl refl
   when_link [] fr x true least (suc k) f u vs e n = rw (le-ltb fr.q fr.stop (omega (arith, vs))) (went u (unspent f u e) vs refl refl)
   when_link [] fr x false least (suc k) f u vs e n = rw (le-ltb fr.q fr.stop (omega (arith, vs))) (went u (unspent f u e) vs refl refl)
-  when_link (t ∷ ts) fr x all least zero f u vs e n = absurd (not-suc-le-zero n)
-  when_link (node kd m l c bd us ∷ ts) fr x all least (suc k) f u vs e n =
+  when_link (t ◂ ts) fr x all least zero f u vs e n = absurd (not-suc-le-zero n)
+  when_link (node kd m l c bd us ◂ ts) fr x all least (suc k) f u vs e n =
       let t : Tree = node kd m l c bd us in
       let small : c.mark < 2 = at_mark_small G fr.q kd m l c bd us d vs.0 in
       rw (lt-ltb fr.q fr.stop (ats_less G fr.q t ts fr.stop d vs), word_in fr ts f u t, mark_pack (sizes us) kd c.place c.mark c.anew bd small, unmarked c.mark small)
@@ -232,8 +232,8 @@ module _ (G : Given) (d : ℕ) (child : Ticker) (v : Visitor) (g : Ticks G d chi
             let v'' : First fr t'' = at_mark G fr.q (fresh t') d (at_fresh G fr.q t' d v') in
             rw (
               end_at fr ts f u t vs.0,
-              fresh_words_lem fr (t' ∷ []) ts (G.ends fr.q) (v', refl) f' u',
-              fresh_times_lem fr (t' ∷ []) ts (G.ends fr.q) (v', refl),
+              fresh_words_lem fr (t' ◂ []) ts (G.ends fr.q) (v', refl) f' u',
+              fresh_times_lem fr (t' ◂ []) ts (G.ends fr.q) (v', refl),
               marked_words fr ts f' u' (fresh t'),
               marked_times fr ts (fresh t'),
               ← over_words_lem fr t'' v'' ts f' u',
@@ -252,7 +252,7 @@ module _ (G : Given) (d : ℕ) (child : Ticker) (v : Visitor) (g : Ticks G d chi
   unfolding when_all flat.when_all
   when_all_link fr [] top x p i f u vs e z n = rw (z.ends, z.first, le-leb fr.stop fr.q (omega (arith, vs)), passed_in (nodes_in fr []) (full_length fr [] vs) G.update f u x)
       (went u (unspent f u e) vs refl refl)
-  when_all_link fr (t ∷ ts) top x p i f u vs e z n = rw (z.ends, z.first, lt-leb fr.stop fr.q (ats_less G fr.q t ts fr.stop d vs)) (when_link (t ∷ ts) fr x true top 256 f u vs e n)
+  when_all_link fr (t ◂ ts) top x p i f u vs e z n = rw (z.ends, z.first, lt-leb fr.stop fr.q (ats_less G fr.q t ts fr.stop d vs)) (when_link (t ◂ ts) fr x true top 256 f u vs e n)
 
   -- ---- Race
   race_go_link : (ts : Forest) (fr : Frame G d) (x : Float) (k f u : ℕ)
@@ -263,8 +263,8 @@ module _ (G : Given) (d : ℕ) (child : Ticker) (v : Visitor) (g : Ticks G d chi
   unfolding race_from race_go run
   race_go_link [] fr x zero f u vs e n = went u (unspent f u e) vs refl refl
   race_go_link [] fr x (suc k) f u vs e n = rw (le-ltb fr.q fr.stop (omega (arith, vs))) (went u (unspent f u e) vs refl refl)
-  race_go_link (t ∷ ts) fr x zero f u vs e n = absurd (not-suc-le-zero n)
-  race_go_link (t ∷ ts) fr x (suc k) f u vs e n = rw (lt-ltb fr.q fr.stop (ats_less G fr.q t ts fr.stop d vs))
+  race_go_link (t ◂ ts) fr x zero f u vs e n = absurd (not-suc-le-zero n)
+  race_go_link (t ◂ ts) fr x (suc k) f u vs e n = rw (lt-ltb fr.q fr.stop (ats_less G fr.q t ts fr.stop d vs))
       (sim_visit G d child v g (trees fr) fr t ts x f u _ _ vs e elim [
         | Running ↦ λ r t' f' u' v' e'. rw (end_at fr ts f u t vs.0, ← over_words_lem fr t' v' ts f' u', ← over_times fr t' v' ts)
             (keep_link fr t' v' f f' (omega (arith, e'.burnt)) (race_from child (event G x) ts (world_at G f' u')) _ (race_go_link ts (over fr t' v') x k f' u' vs.1 e'.few (le_of_suc-le-suc n)))
@@ -290,11 +290,11 @@ module _ (G : Given) (d : ℕ) (child : Ticker) (v : Visitor) (g : Ticks G d chi
   unfolding after_from after_go after_over run
   late_link [] fr x least p i zero f u vs e n = went u (unspent f u e) vs refl refl
   late_link [] fr x least p i (suc k) f u vs e n = rw (le-ltb fr.q fr.stop (omega (arith, vs))) (went u (unspent f u e) vs refl refl)
-  late_link (t ∷ ts) fr x least p i zero f u vs e n = absurd (not-suc-le-zero n)
-  late_link (t ∷ ts) fr x least p i (suc k) f u vs e n = rw (lt-ltb fr.q fr.stop (ats_less G fr.q t ts fr.stop d vs))
+  late_link (t ◂ ts) fr x least p i zero f u vs e n = absurd (not-suc-le-zero n)
+  late_link (t ◂ ts) fr x least p i (suc k) f u vs e n = rw (lt-ltb fr.q fr.stop (ats_less G fr.q t ts fr.stop d vs))
       (sim_visit G d child v g (held p i fr) fr t ts x f u _ _ vs e elim [
         | Running ↦ λ r t' f' u' v' e'. rw (end_at fr ts f u t vs.0, ← over_words_lem fr t' v' ts f' u', ← over_times fr t' v' ts)
-            (sim_keep (held p i (over fr t' v')) (suc f') (held p i fr) (suc f) (after_from child (event G x) false zero_time ts (world_at G f' u')) _ (λ y. (0, t' ∷ y.1))
+            (sim_keep (held p i (over fr t' v')) (suc f') (held p i fr) (suc f) (after_from child (event G x) false zero_time ts (world_at G f' u')) _ (λ y. (0, t' ◂ y.1))
             (late_link ts (over fr t' v') x zero_time p i k f' u' vs.1 e'.few (le_of_suc-le-suc n))
             (omega (arith, e'.burnt))
             λ y f'' u'' vy. ((v', vy), rw (over_words_lem fr t' v' y.1 f'' u''), over_times fr t' v' y.1))
@@ -310,11 +310,11 @@ module _ (G : Given) (d : ℕ) (child : Ticker) (v : Visitor) (g : Ticks G d chi
   unfolding after_from after_go after_over run
   after_go_link [] fr x least p i zero f u vs e n = went u (unspent f u e) (vs, omega arith) (rw (add-zero i)) refl
   after_go_link [] fr x least p i (suc k) f u vs e n = rw (le-ltb fr.q fr.stop (omega (arith, vs))) (went u (unspent f u e) (vs, omega arith) (rw (add-zero i)) refl)
-  after_go_link (t ∷ ts) fr x least p i zero f u vs e n = absurd (not-suc-le-zero n)
-  after_go_link (t ∷ ts) fr x least p i (suc k) f u vs e n = rw (lt-ltb fr.q fr.stop (ats_less G fr.q t ts fr.stop d vs))
+  after_go_link (t ◂ ts) fr x least p i zero f u vs e n = absurd (not-suc-le-zero n)
+  after_go_link (t ◂ ts) fr x least p i (suc k) f u vs e n = rw (lt-ltb fr.q fr.stop (ats_less G fr.q t ts fr.stop d vs))
       (sim_visit G d child v g (kids p i fr) fr t ts x f u _ _ vs e elim [
         | Running ↦ λ r t' f' u' v' e'. rw (end_at fr ts f u t vs.0, ← over_words_lem fr t' v' ts f' u', ← over_times fr t' v' ts)
-            (sim_keep (held p i (over fr t' v')) (suc f') (kids p i fr) (suc f) (after_from child (event G x) false zero_time ts (world_at G f' u')) _ (λ y. (0, t' ∷ y.1))
+            (sim_keep (held p i (over fr t' v')) (suc f') (kids p i fr) (suc f) (after_from child (event G x) false zero_time ts (world_at G f' u')) _ (λ y. (0, t' ◂ y.1))
             (late_link ts (over fr t' v') x zero_time p i k f' u' vs.1 e'.few (le_of_suc-le-suc n))
             (omega (arith, e'.burnt))
             λ y f'' u'' vy. (((v', vy), omega arith), rw (over_words_lem fr t' v' y.1 f'' u'', add-zero i), over_times fr t' v' y.1))
@@ -335,7 +335,7 @@ module _ (G : Given) (d : ℕ) (child : Ticker) (v : Visitor) (g : Ticks G d chi
   unfolding after_at run
   after_at_link ts zero fr top x p j k f u vs e l n = rw (add-zero j) (after_go_link ts fr x top p j k f u vs e n)
   after_at_link [] (suc i) fr top x p j k f u vs e l n = absurd (not-suc-le-zero l)
-  after_at_link (t ∷ ts) (suc i) fr top x p j k f u vs e l n = rw (← shift j i, ← over_words_lem fr t vs.0 ts f u, ← over_times fr t vs.0 ts)
+  after_at_link (t ◂ ts) (suc i) fr top x p j k f u vs e l n = rw (← shift j i, ← over_words_lem fr t vs.0 ts f u, ← over_times fr t vs.0 ts)
       (pass_link fr t vs.0 f f (omega arith) p j (after_at child top i (event G x) ts (world_at G f u)) _
       (after_at_link ts i (over fr t vs.0) top x p (j + 1) k f u vs.1 e (le_of_suc-le-suc l) (omega arith)))
 

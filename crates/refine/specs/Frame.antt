@@ -7,7 +7,7 @@ use Prim.Native.Nat.{ℕ, zero, suc, ◌+◌, ◌-◌, ◌≤◌, ◌<◌}
 use Rattle.std.proofs.lemmas.Bool.{lt-leb}
 use Rattle.std.proofs.Math.ListN.{length-reverse_aux}
 use Rattle.rules.specs.declared.behavior.Kind.{Kind}
-use Rattle.rules.specs.Tree.{zero_time, Cell, with_time, with_place, with_mark, Tree, node, Forest, [], ◌∷◌, fresh_all, mark, sizes, count}
+use Rattle.rules.specs.Tree.{zero_time, Cell, with_time, with_place, with_mark, Tree, node, Forest, [], ◌◂◌, fresh_all, mark, sizes, count}
 use Rattle.rules.specs.Cells.{place_of, mark_of, anew_of}
 use Rattle.work.specs.Word.{kind_in}
 use Rattle.work.specs.Array.{word_at, end_of, set_place, set_seen, set_mark, fresh_words, fresh_times, child_from}
@@ -74,69 +74,69 @@ module _ {G : Given} {d : ℕ} where
     full = fr.full;
   }
 
-  pub over_words_lem : (fr : Frame G d) (t : Tree) (v : First fr t) (ts : Forest) (f u : ℕ) → words_in (over fr t v) ts f u ≡ words_in fr (t ∷ ts) f u
+  pub over_words_lem : (fr : Frame G d) (t : Tree) (v : First fr t) (ts : Forest) (f u : ℕ) → words_in (over fr t v) ts f u ≡ words_in fr (t ◂ ts) f u
   unfolding run
   over_words_lem fr t v ts f u = ap (λ (l : List ℕ). array l G.update f u) (push_run word_of t fr.before (runs word_of ts fr.behind))
 
-  pub over_times : (fr : Frame G d) (t : Tree) (v : First fr t) (ts : Forest) → times_in (over fr t v) ts ≡ times_in fr (t ∷ ts)
+  pub over_times : (fr : Frame G d) (t : Tree) (v : First fr t) (ts : Forest) → times_in (over fr t v) ts ≡ times_in fr (t ◂ ts)
   unfolding run
   over_times fr t v ts = push_run time_in t fr.past (runs time_in ts fr.later)
 
   -- ---- the node at q: its word and its time
   module _ (fr : Frame G d) (us : Forest) where
     module _ (f u : ℕ) where
-      pub word_in : (t : Tree) → word_at (words_in fr (t ∷ us) f u) fr.q ≡ word_of t
+      pub word_in : (t : Tree) → word_at (words_in fr (t ◂ us) f u) fr.q ≡ word_of t
       unfolding run
       word_in t = word_here fr.before (runs word_of us fr.behind) fr.q fr.words_before G.update f u t
 
-      pub kind_in_lem : (k : Kind) (n : ℕ) (l : Float) (c : Cell) (bd : ℕ) (ts : Forest) → kind_in (word_at (words_in fr (node k n l c bd ts ∷ us) f u) fr.q) ≡ k
+      pub kind_in_lem : (k : Kind) (n : ℕ) (l : Float) (c : Cell) (bd : ℕ) (ts : Forest) → kind_in (word_at (words_in fr (node k n l c bd ts ◂ us) f u) fr.q) ≡ k
       kind_in_lem k n l c bd ts = rw (word_in (node k n l c bd ts)) (kind_pack (sizes ts) k (place_of c bd) (mark_of c bd) (anew_of c bd) bd)
 
       word_put : (k : Kind) (n : ℕ) (l : Float) (c c' : Cell) (bd bd' : ℕ) (ts : Forest) (w : ℕ)
           → w ≡ word_of (node k n l c' bd' ts)
-          → set (words_in fr (node k n l c bd ts ∷ us) f u) fr.q w ≡ words_in fr (node k n l c' bd' ts ∷ us) f u
+          → set (words_in fr (node k n l c bd ts ◂ us) f u) fr.q w ≡ words_in fr (node k n l c' bd' ts ◂ us) f u
       unfolding run
       word_put k n l c c' bd bd' ts w e = rw (
-        unrolled fr.before (node k n l c bd ts ∷ us) fr.behind G.update f u,
-        unrolled fr.before (node k n l c' bd' ts ∷ us) fr.behind G.update f u,
+        unrolled fr.before (node k n l c bd ts ◂ us) fr.behind G.update f u,
+        unrolled fr.before (node k n l c' bd' ts ◂ us) fr.behind G.update f u,
         e,
       )
           (set_here fr.before _ _ fr.q fr.words_before (word_of (node k n l c' bd' ts)))
 
       module _ (k : Kind) (n : ℕ) (l : Float) (c : Cell) (bd : ℕ) (ts : Forest) where
-        pub place_put : (i : ℕ) → set_place (words_in fr (node k n l c bd ts ∷ us) f u) fr.q i ≡ words_in fr (node k n l (with_place i c) bd ts ∷ us) f u
+        pub place_put : (i : ℕ) → set_place (words_in fr (node k n l c bd ts ◂ us) f u) fr.q i ≡ words_in fr (node k n l (with_place i c) bd ts ◂ us) f u
         place_put i = rw (word_in (node k n l c bd ts)) (word_put k n l c (with_place i c) bd bd ts _ (put_place (sizes ts) k c.place c.mark c.anew bd i))
 
-        pub mark_put : set_mark (words_in fr (node k n l c bd ts ∷ us) f u) fr.q ≡ words_in fr (node k n l (with_mark 1 c) bd ts ∷ us) f u
+        pub mark_put : set_mark (words_in fr (node k n l c bd ts ◂ us) f u) fr.q ≡ words_in fr (node k n l (with_mark 1 c) bd ts ◂ us) f u
         mark_put = rw (word_in (node k n l c bd ts)) (word_put k n l c (with_mark 1 c) bd bd ts _ (put_mark (sizes ts) k c.place c.mark c.anew bd))
 
-        pub seen_put : (i : ℕ) → i < 4 → set_seen (words_in fr (node k n l c bd ts ∷ us) f u) fr.q i ≡ words_in fr (node k n l c i ts ∷ us) f u
+        pub seen_put : (i : ℕ) → i < 4 → set_seen (words_in fr (node k n l c bd ts ◂ us) f u) fr.q i ≡ words_in fr (node k n l c i ts ◂ us) f u
         seen_put i j = rw (word_in (node k n l c bd ts)) (word_put k n l c c bd i ts _ (put_seen (sizes ts) k c.place c.mark c.anew bd i j))
 
-      pub marked_words : (t : Tree) → set_mark (words_in fr (t ∷ us) f u) fr.q ≡ words_in fr (mark t ∷ us) f u
+      pub marked_words : (t : Tree) → set_mark (words_in fr (t ◂ us) f u) fr.q ≡ words_in fr (mark t ◂ us) f u
       marked_words (node k n l c bd ts) = mark_put k n l c bd ts
 
-      pub end_at : (t : Tree) → First fr t → end_of (words_in fr (t ∷ us) f u) fr.q ≡ G.ends fr.q
+      pub end_at : (t : Tree) → First fr t → end_of (words_in fr (t ◂ us) f u) fr.q ≡ G.ends fr.q
       unfolding run
       end_at t v =
           let e = at_size G fr.q t d v in
           end_here fr.before (runs word_of us fr.behind) fr.q fr.words_before G.update f u t (omega (arith, at_room G fr.q t d v, G.room)) ∙ sym e
 
-    pub marked_times : (t : Tree) → times_in fr (t ∷ us) ≡ times_in fr (mark t ∷ us)
+    pub marked_times : (t : Tree) → times_in fr (t ◂ us) ≡ times_in fr (mark t ◂ us)
     unfolding run
     marked_times (node k n l c bd ts) = refl
 
     module _ (k : Kind) (n : ℕ) (l : Float) (c : Cell) (bd : ℕ) (ts : Forest) where
-      pub time_in_lem : get_or (times_in fr (node k n l c bd ts ∷ us)) fr.q zero_time ≡ c.time
+      pub time_in_lem : get_or (times_in fr (node k n l c bd ts ◂ us)) fr.q zero_time ≡ c.time
       unfolding run
       time_in_lem = get_here fr.past _ _ fr.q fr.times_before zero_time
 
-      pub time_put : (y : Float) → set (times_in fr (node k n l c bd ts ∷ us)) fr.q y ≡ times_in fr (node k n l (with_time y c) bd ts ∷ us)
+      pub time_put : (y : Float) → set (times_in fr (node k n l c bd ts ◂ us)) fr.q y ≡ times_in fr (node k n l (with_time y c) bd ts ◂ us)
       unfolding run
       time_put y = set_here fr.past _ _ fr.q fr.times_before y
 
-  pub end_next : (fr : Frame G d) (us : Forest) (f u : ℕ) (t t' : Tree) → All fr (t ∷ t' ∷ us) → end_of (words_in fr (t ∷ t' ∷ us) f u) (G.ends fr.q) ≡ G.ends (G.ends fr.q)
-  end_next fr us f u t t' vs = rw (← over_words_lem fr t vs.0 (t' ∷ us) f u) (end_at (over fr t vs.0) us f u t' vs.1.0)
+  pub end_next : (fr : Frame G d) (us : Forest) (f u : ℕ) (t t' : Tree) → All fr (t ◂ t' ◂ us) → end_of (words_in fr (t ◂ t' ◂ us) f u) (G.ends fr.q) ≡ G.ends (G.ends fr.q)
+  end_next fr us f u t t' vs = rw (← over_words_lem fr t vs.0 (t' ◂ us) f u) (end_at (over fr t vs.0) us f u t' vs.1.0)
 
   -- ---- what stands from q to next is made fresh, and us behind it stays
   module _ (fr : Frame G d) (ts us : Forest) (next : ℕ) (vs : Ats G fr.q ts next d) where
@@ -154,7 +154,7 @@ module _ {G : Given} {d : ℕ} where
   unfolding child_from
   child_at_lem ts zero fr f u vs l = refl
   child_at_lem [] (suc i) fr f u vs l = absurd (not-suc-le-zero l)
-  child_at_lem (t ∷ ts) (suc i) fr f u vs l =
+  child_at_lem (t ◂ ts) (suc i) fr f u vs l =
       rw (lt-leb fr.stop fr.q (ats_less G fr.q t ts fr.stop d vs), end_at fr ts f u t vs.0)
       (ap (λ (ws : List ℕ). child_from ws fr.stop i (G.ends fr.q)) (sym (over_words_lem fr t vs.0 ts f u)) ∙ child_at_lem ts i (over fr t vs.0) f u vs.1 (le_of_suc-le-suc l))
 
@@ -162,8 +162,8 @@ module _ {G : Given} {d : ℕ} where
   unfolding child_from
   child_past [] zero fr f u vs l = vs
   child_past [] (suc i) fr f u vs l = rw (le-leb fr.stop fr.q (omega (arith, vs))) vs
-  child_past (t ∷ ts) zero fr f u vs l = absurd (not-suc-le-zero l)
-  child_past (t ∷ ts) (suc i) fr f u vs l =
+  child_past (t ◂ ts) zero fr f u vs l = absurd (not-suc-le-zero l)
+  child_past (t ◂ ts) (suc i) fr f u vs l =
       rw (lt-leb fr.stop fr.q (ats_less G fr.q t ts fr.stop d vs), end_at fr ts f u t vs.0)
       (ap (λ (ws : List ℕ). child_from ws fr.stop i (G.ends fr.q)) (sym (over_words_lem fr t vs.0 ts f u)) ∙ child_past ts i (over fr t vs.0) f u vs.1 (le_of_suc-le-suc l))
 

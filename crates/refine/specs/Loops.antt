@@ -13,7 +13,7 @@ use borrow.Author.Tests.{lt-ltb, le-ltb}
 use Rattle.rules.specs.declared.status.Status.{Status}
 use Rattle.rules.specs.declared.status.Status.TheVariants.{Running, Success, Failure}
 use Rattle.rules.specs.declared.event.Event.{Event}
-use Rattle.rules.specs.Tree.{Tree, Forest, [], ◌∷◌, fresh, count}
+use Rattle.rules.specs.Tree.{Tree, Forest, [], ◌◂◌, fresh, count}
 use Rattle.rules.specs.Outcome.{World, world, short, Ticker}
 use Rattle.rules.specs.Loops.{put, fresh_at, next, moved, child_at, while_body, while_all}
 use Rattle.work.specs.Array.{end_of, fresh_words, fresh_times, child_from}
@@ -42,15 +42,15 @@ module _ {G : Given} {d : ℕ} where
   -- ---- the child i of the frame's trees: where it ends, and it made fresh
   pub end_spot : (ts : Forest) (i : ℕ) (fr : Frame G d) (f u : ℕ) → All fr ts → i < count ts → end_of (words_in fr ts f u) (spot G i fr.q) ≡ G.ends (spot G i fr.q)
   end_spot [] i fr f u vs l = absurd (not-suc-le-zero l)
-  end_spot (t ∷ ts) zero fr f u vs l = end_at fr ts f u t vs.0
-  end_spot (t ∷ ts) (suc i) fr f u vs l = rw (← over_words_lem fr t vs.0 ts f u) (end_spot ts i (over fr t vs.0) f u vs.1 (le_of_suc-le-suc l))
+  end_spot (t ◂ ts) zero fr f u vs l = end_at fr ts f u t vs.0
+  end_spot (t ◂ ts) (suc i) fr f u vs l = rw (← over_words_lem fr t vs.0 ts f u) (end_spot ts i (over fr t vs.0) f u vs.1 (le_of_suc-le-suc l))
 
   pub spot_words : (ts : Forest) (i : ℕ) (fr : Frame G d) (f u : ℕ) → All fr ts → i < count ts
       → fresh_words (spot G i fr.q) (G.ends (spot G i fr.q) - spot G i fr.q) (words_in fr ts f u) ≡ words_in fr (fresh_at i ts) f u
   unfolding run fresh
   spot_words [] i fr f u vs l = absurd (not-suc-le-zero l)
-  spot_words (t ∷ ts) zero fr f u vs l = fresh_words_lem fr (t ∷ []) ts (G.ends fr.q) (vs.0, refl) f u
-  spot_words (t ∷ ts) (suc i) fr f u vs l = rw
+  spot_words (t ◂ ts) zero fr f u vs l = fresh_words_lem fr (t ◂ []) ts (G.ends fr.q) (vs.0, refl) f u
+  spot_words (t ◂ ts) (suc i) fr f u vs l = rw
       (← over_words_lem fr t vs.0 ts f u, ← over_words_lem fr t vs.0 (fresh_at i ts) f u)
       (spot_words ts i (over fr t vs.0) f u vs.1 (le_of_suc-le-suc l))
 
@@ -58,8 +58,8 @@ module _ {G : Given} {d : ℕ} where
       → fresh_times (spot G i fr.q) (G.ends (spot G i fr.q) - spot G i fr.q) (times_in fr ts) ≡ times_in fr (fresh_at i ts)
   unfolding run fresh
   spot_times [] i fr vs l = absurd (not-suc-le-zero l)
-  spot_times (t ∷ ts) zero fr vs l = fresh_times_lem fr (t ∷ []) ts (G.ends fr.q) (vs.0, refl)
-  spot_times (t ∷ ts) (suc i) fr vs l = rw (← over_times fr t vs.0 ts, ← over_times fr t vs.0 (fresh_at i ts)) (spot_times ts i (over fr t vs.0) vs.1 (le_of_suc-le-suc l))
+  spot_times (t ◂ ts) zero fr vs l = fresh_times_lem fr (t ◂ []) ts (G.ends fr.q) (vs.0, refl)
+  spot_times (t ◂ ts) (suc i) fr vs l = rw (← over_times fr t vs.0 ts, ← over_times fr t vs.0 (fresh_at i ts)) (spot_times ts i (over fr t vs.0) vs.1 (le_of_suc-le-suc l))
 
   -- ---- the child i has succeeded: it and the next one are made fresh
   module _ (fr : Frame G d) (ts : Forest) (i : ℕ) (t' : Tree) (vs : All fr ts) (vp : All fr (put i t' ts)) (l : i < count ts) where
@@ -102,24 +102,24 @@ module _ (G : Given) (d : ℕ) (child : Ticker) (v : Visitor) (g : Ticks G d chi
       → i < count ts
       → Sim f (puts fr i ts) (child_at child i (event G x) ts (world_at G f u)) (on fr ts f u (v (spot G i fr.q) x))
   child_link [] i fr x f u vs e l = absurd (not-suc-le-zero l)
-  child_link (t ∷ ts) zero fr x f u vs e l =
-      sim_same (tree fr ts) (puts fr 0 (t ∷ ts)) f f (child t (event G x) (world_at G f u)) _ (g fr t ts x f u vs e) (omega arith) λ t' f' u' v'. ((v', vs.1), refl, refl)
-  child_link (t ∷ ts) (suc i) fr x f u vs e l = rw (← over_words_lem fr t vs.0 ts f u, ← over_times fr t vs.0 ts)
-      (sim_same (puts (over fr t vs.0) i ts) (puts fr (suc i) (t ∷ ts)) f f (child_at child i (event G x) ts (world_at G f u)) _
+  child_link (t ◂ ts) zero fr x f u vs e l =
+      sim_same (tree fr ts) (puts fr 0 (t ◂ ts)) f f (child t (event G x) (world_at G f u)) _ (g fr t ts x f u vs e) (omega arith) λ t' f' u' v'. ((v', vs.1), refl, refl)
+  child_link (t ◂ ts) (suc i) fr x f u vs e l = rw (← over_words_lem fr t vs.0 ts f u, ← over_times fr t vs.0 ts)
+      (sim_same (puts (over fr t vs.0) i ts) (puts fr (suc i) (t ◂ ts)) f f (child_at child i (event G x) ts (world_at G f u)) _
       (child_link ts i (over fr t vs.0) x f u vs.1 e (le_of_suc-le-suc l))
       (omega arith)
       λ t' f' u' v'. ((vs.0, v'), over_words_lem fr t vs.0 (put i t' ts) f' u', over_times fr t vs.0 (put i t' ts)))
 
   past_link : (ts : Forest) (p : ℕ) (e : Event) (w : World) → count ts ≤ p → child_at child p e ts w ≡ short
   past_link [] p e w h = refl
-  past_link (t ∷ ts) zero e w h = absurd (not-suc-le-zero h)
-  past_link (t ∷ ts) (suc p) e w h = past_link ts p e w (le_of_suc-le-suc h)
+  past_link (t ◂ ts) zero e w h = absurd (not-suc-le-zero h)
+  past_link (t ◂ ts) (suc p) e w h = past_link ts p e w (le_of_suc-le-suc h)
 
   module _ (dry : Dry child) where
     dry_at : (ts : Forest) (i : ℕ) (e : Event) (ans : List (Status × Float)) → child_at child i e ts (world 0 ans) ≡ short
     dry_at [] i e ans = refl
-    dry_at (t ∷ ts) zero e ans = dry t e ans
-    dry_at (t ∷ ts) (suc i) e ans = dry_at ts i e ans
+    dry_at (t ◂ ts) zero e ans = dry t e ans
+    dry_at (t ◂ ts) (suc i) e ans = dry_at ts i e ans
 
     -- ---- While's body: no more fuel than k, and less than the budget
     body_go_link : (k budget i : ℕ) (fr : Frame G d) (x : Float) (ts : Forest) (p f u : ℕ)
@@ -178,7 +178,7 @@ module _ (G : Given) (d : ℕ) (child : Ticker) (v : Visitor) (g : Ticks G d chi
     first_at (suc j) q m = absurd (omega arith)
 
     all_go_link : (k budget i : ℕ) (fr : Frame G d) (whole x : Float) (c : Tree) (ts : Forest) (p q f u : ℕ)
-        → All fr (c ∷ ts)
+        → All fr (c ◂ ts)
         → u + f ≤ G.fuel
         → f ≤ k
         → f < budget
@@ -187,12 +187,12 @@ module _ (G : Given) (d : ℕ) (child : Ticker) (v : Visitor) (g : Ticks G d chi
         → 0 < count ts
         → ((j : ℕ) → i ≡ suc j → q ≡ spot G j (G.ends fr.q))
         → Sim (suc f) (kids p 0 fr) (while_all child budget (event G whole) i (event G x) c ts (world_at G f u))
-        (on fr (c ∷ ts) f u (while_all_go v p fr.stop (G.ends fr.q) whole k q i x))
+        (on fr (c ◂ ts) f u (while_all_go v p fr.stop (G.ends fr.q) whole k q i x))
     unfolding while_all while_all_go run
     all_go_link k zero i fr whole x c ts p q f u vs e lk lb z l m at = absurd (not-suc-le-zero lb)
     all_go_link zero (suc budget) i fr whole x c ts p q (suc f) u vs e lk lb z l m at = absurd (not-suc-le-zero lk)
-    all_go_link zero (suc budget) zero fr whole x c ts p q zero u vs e lk lb z l m at = rw (dry c (event G whole) _) (stopped_in fr (c ∷ ts) vs 0 u)
-    all_go_link zero (suc budget) (suc i) fr whole x c ts p q zero u vs e lk lb z l m at = rw (dry_at ts i (event G x) _) (stopped_in fr (c ∷ ts) vs 0 u)
+    all_go_link zero (suc budget) zero fr whole x c ts p q zero u vs e lk lb z l m at = rw (dry c (event G whole) _) (stopped_in fr (c ◂ ts) vs 0 u)
+    all_go_link zero (suc budget) (suc i) fr whole x c ts p q zero u vs e lk lb z l m at = rw (dry_at ts i (event G x) _) (stopped_in fr (c ◂ ts) vs 0 u)
     all_go_link (suc k) (suc budget) zero fr whole x c ts p q f u vs e lk lb z l m at = rw z (sim_visit G d child v g (kids p 0 fr) fr c ts whole f u _ _ vs e elim [
       | Running ↦ λ r c' f' u' v' e'. sim_more (kids p 0 fr) (suc f') (suc f) (while_all child budget (event G whole) 1 (event G x) c' ts (world_at G f' u')) _
           (all_go_link k budget 1 fr whole x c' ts p (G.ends fr.q) f' u' (v', vs.1) e'.few (omega (arith, e'.burnt)) (omega (arith, e'.burnt)) z m m (λ j y. first_at j (G.ends fr.q) y))
@@ -228,22 +228,22 @@ module _ (G : Given) (d : ℕ) (child : Ticker) (v : Visitor) (g : Ticks G d chi
     all_past (suc k) p stop q i whole x ws ts = rw (eqb-suc-zero i, le-ltb stop stop (omega arith))
 
     pub all_link : (i : ℕ) (fr : Frame G d) (x : Float) (c : Tree) (ts : Forest) (p f u : ℕ)
-        → All fr (c ∷ ts)
+        → All fr (c ◂ ts)
         → u + f ≤ G.fuel
         → p + 1 ≡ fr.q
         → 0 < count ts
         → Sim (suc f) (kids p 0 fr) (while_all child (suc f) (event G x) i (event G x) c ts (world_at G f u))
-        (on fr (c ∷ ts) f u (while_all_go v p fr.stop (G.ends fr.q) x f (child_from (words_in fr (c ∷ ts) f u) fr.stop i fr.q) i x))
+        (on fr (c ◂ ts) f u (while_all_go v p fr.stop (G.ends fr.q) x f (child_from (words_in fr (c ◂ ts) f u) fr.stop i fr.q) i x))
     unfolding while_all
-    all_link zero fr x c ts p f u vs e z m = rw (child_at_lem (c ∷ ts) 0 fr f u vs (omega arith))
+    all_link zero fr x c ts p f u vs e z m = rw (child_at_lem (c ◂ ts) 0 fr f u vs (omega arith))
         (all_go_link f (suc f) 0 fr x x c ts p fr.q f u vs e (omega arith) (omega arith) z (omega arith) m (λ j y. absurd (omega arith)))
     all_link (suc i) fr x c ts p f u vs e z m = elim (dec_lt i (count ts)) [
-      | yes l ↦ rw (child_at_lem (c ∷ ts) (suc i) fr f u vs (omega arith))
+      | yes l ↦ rw (child_at_lem (c ◂ ts) (suc i) fr f u vs (omega arith))
           (all_go_link f (suc f) (suc i) fr x x c ts p (spot G i (G.ends fr.q)) f u vs e (omega arith) (omega arith) z l m (λ j y. rw (let w : i ≡ j = omega arith in w)))
       | no l ↦ rw (
-        child_past (c ∷ ts) (suc i) fr f u vs (omega arith),
-        all_past f p fr.stop (G.ends fr.q) i x x (words_in fr (c ∷ ts) f u) (times_in fr (c ∷ ts)),
+        child_past (c ◂ ts) (suc i) fr f u vs (omega arith),
+        all_past f p fr.stop (G.ends fr.q) i x x (words_in fr (c ◂ ts) f u) (times_in fr (c ◂ ts)),
         past_link ts i (event G x) (world_at G f u) (omega arith),
       )
-          (stopped_in fr (c ∷ ts) vs f u)
+          (stopped_in fr (c ◂ ts) vs f u)
     ]

@@ -12,7 +12,7 @@ use Rattle.rules.specs.declared.behavior.Kind.{Kind}
 use Rattle.rules.specs.declared.behavior.Kind.TheVariants.{Timeout, While}
 use Rattle.rules.specs.declared.status.Status.{Status}
 use Rattle.rules.specs.declared.status.Status.TheVariants.{Running, Success, Failure}
-use Rattle.rules.specs.Tree.{Cell, with_time, with_place, Tree, node, Forest, [], ◌∷◌, fresh, sizes, count}
+use Rattle.rules.specs.Tree.{Cell, with_time, with_place, Tree, node, Forest, [], ◌◂◌, fresh, sizes, count}
 use Rattle.rules.specs.Outcome.{dt, Out, done, Ticker, ◌▸◌}
 use Rattle.rules.specs.Loops.{put, fresh_at, child_at, while_body, while_all}
 use Rattle.rules.specs.Sequence.{sequence_at, memoryless}
@@ -68,8 +68,8 @@ module _ {G : Given} {d : ℕ} {k : Kind} {ts : Forest} (N : Node G d k ts) wher
   left = record {
     good = λ y. At G q (node_of y.0 y.1) (suc d);
     words = λ y f u. words_in N.fr
-        (node_of y.0 y.1 ∷ N.us) f u;
-    times = λ y. times_in N.fr (node_of y.0 y.1 ∷ N.us);
+        (node_of y.0 y.1 ◂ N.us) f u;
+    times = λ y. times_in N.fr (node_of y.0 y.1 ◂ N.us);
   }
 
   -- the frame of the children where the place is j
@@ -80,7 +80,7 @@ module _ {G : Given} {d : ℕ} {k : Kind} {ts : Forest} (N : Node G d k ts) wher
     same_count : count ts' ≡ count ts
     same_count = ats_count G (suc q) ts' ts stop d vs N.below
 
-    node_words : (j f u : ℕ) → words_in (kids_at j) ts' f u ≡ words_in N.fr (node_of (cell_at j) ts' ∷ N.us) f u
+    node_words : (j f u : ℕ) → words_in (kids_at j) ts' f u ≡ words_in N.fr (node_of (cell_at j) ts' ◂ N.us) f u
     unfolding run
     node_words j f u = rw same_sizes
       where
@@ -141,23 +141,23 @@ module _ {G : Given} {d : ℕ} {k : Kind} {ts : Forest} (N : Node G d k ts) wher
         ))
 
     chosen_link : (c : Tree) (cs : Forest) (j i : ℕ) (y : Float) (f u : ℕ)
-        → All (kids_at j) (c ∷ cs)
+        → All (kids_at j) (c ◂ cs)
         → i < suc (count cs)
-        → chosen w q stop i y (words_in (kids_at j) (c ∷ cs) f u) (times_in (kids_at j) (c ∷ cs))
-        ≡ branch w q stop i y (words_in (kids_at i) (fresh_at i (fresh c ∷ cs)) f u) (times_in (kids_at i) (fresh_at i (fresh c ∷ cs)))
+        → chosen w q stop i y (words_in (kids_at j) (c ◂ cs) f u) (times_in (kids_at j) (c ◂ cs))
+        ≡ branch w q stop i y (words_in (kids_at i) (fresh_at i (fresh c ◂ cs)) f u) (times_in (kids_at i) (fresh_at i (fresh c ◂ cs)))
     unfolding chosen run fresh
     chosen_link c cs j i y f u vs o =
-        let vf : All (kids_at i) (fresh c ∷ cs) = (at_fresh G (suc q) c d vs.0, vs.1) in
+        let vf : All (kids_at i) (fresh c ◂ cs) = (at_fresh G (suc q) c d vs.0, vs.1) in
         rw (
           add-one q,
           end_at (kids_at j) cs f u c vs.0,
-          fresh_words_lem (kids_at j) (c ∷ []) cs (G.ends (suc q)) (vs.0, refl) f u,
-          fresh_times_lem (kids_at j) (c ∷ []) cs (G.ends (suc q)) (vs.0, refl),
-          node_put (fresh c ∷ cs) vf j i f u,
-          child_at_lem (fresh c ∷ cs) i (kids_at i) f u vf (omega arith),
-          end_spot (fresh c ∷ cs) i (kids_at i) f u vf o,
-          spot_words (fresh c ∷ cs) i (kids_at i) f u vf o,
-          spot_times (fresh c ∷ cs) i (kids_at i) vf o,
+          fresh_words_lem (kids_at j) (c ◂ []) cs (G.ends (suc q)) (vs.0, refl) f u,
+          fresh_times_lem (kids_at j) (c ◂ []) cs (G.ends (suc q)) (vs.0, refl),
+          node_put (fresh c ◂ cs) vf j i f u,
+          child_at_lem (fresh c ◂ cs) i (kids_at i) f u vf (omega arith),
+          end_spot (fresh c ◂ cs) i (kids_at i) f u vf o,
+          spot_words (fresh c ◂ cs) i (kids_at i) f u vf o,
+          spot_times (fresh c ◂ cs) i (kids_at i) vf o,
         )
         refl
 
@@ -169,32 +169,32 @@ module _ {G : Given} {d : ℕ} {k : Kind} {ts : Forest} (N : Node G d k ts) wher
         → Sim (suc f) chosen_view (if_at child i (event G y) ts' (world_at G f u)) (on (kids_at i) ts' f u (if_node w q y))
     unfolding if_node branch run
     if_link i [] y f u vs e o j = absurd (omega arith)
-    if_link i (c ∷ []) y f u vs e o j = absurd (omega arith)
-    if_link i (c ∷ a ∷ []) y f u vs e o j = absurd (omega arith)
-    if_link zero (c ∷ a ∷ b ∷ cs) y f u vs e o j =
-        let z = heads (c ∷ a ∷ b ∷ cs) vs 0 f u (omega arith) in
+    if_link i (c ◂ []) y f u vs e o j = absurd (omega arith)
+    if_link i (c ◂ a ◂ []) y f u vs e o j = absurd (omega arith)
+    if_link zero (c ◂ a ◂ b ◂ cs) y f u vs e o j =
+        let z = heads (c ◂ a ◂ b ◂ cs) vs 0 f u (omega arith) in
         let vf : (c' : Tree) → First (kids_at 0) c' → First (kids_at 0) (fresh c') = λ c' v'. at_fresh G (suc q) c' d v' in
         let va = at_fresh G (G.ends (suc q)) a d vs.1.0 in
         let vb = at_fresh G (G.ends (G.ends (suc q))) b d vs.1.1.0 in
-        rw (z.place, lt-ltb q 255 (omega (arith, ats_less G (suc q) c (a ∷ b ∷ cs) stop d vs, N.stands.room, G.room)), add-one q)
-        (sim_visit G d child w g chosen_view (kids_at 0) c (a ∷ b ∷ cs) y f u _ _ vs e elim [
-          | Running ↦ λ r c' f' u' v' e'. went u' (still e') (node_good (c' ∷ a ∷ b ∷ cs) (v', vs.1) N.cell.time 0 (omega arith)) (node_words (c' ∷ a ∷ b ∷ cs) (v', vs.1) 0 f' u') refl
-          | Success ↦ λ r c' f' u' v' e'. rw (z.ends, chosen_link c' (a ∷ b ∷ cs) 0 1 r f' u' (v', vs.1) (omega arith), rest_event G y r)
-              (branch_link (fresh c' ∷ fresh a ∷ b ∷ cs) 1 r f' u' (suc f) (vf c' v', (va, vs.1.1)) e'.few (omega arith) (omega (arith, e'.burnt)))
-          | Failure ↦ λ r c' f' u' v' e'. rw (z.ends, chosen_link c' (a ∷ b ∷ cs) 0 2 r f' u' (v', vs.1) (omega arith), rest_event G y r)
-              (branch_link (fresh c' ∷ a ∷ fresh b ∷ cs) 2 r f' u' (suc f) (vf c' v', (vs.1.0, (vb, vs.1.1.1))) e'.few (omega arith) (omega (arith, e'.burnt)))
+        rw (z.place, lt-ltb q 255 (omega (arith, ats_less G (suc q) c (a ◂ b ◂ cs) stop d vs, N.stands.room, G.room)), add-one q)
+        (sim_visit G d child w g chosen_view (kids_at 0) c (a ◂ b ◂ cs) y f u _ _ vs e elim [
+          | Running ↦ λ r c' f' u' v' e'. went u' (still e') (node_good (c' ◂ a ◂ b ◂ cs) (v', vs.1) N.cell.time 0 (omega arith)) (node_words (c' ◂ a ◂ b ◂ cs) (v', vs.1) 0 f' u') refl
+          | Success ↦ λ r c' f' u' v' e'. rw (z.ends, chosen_link c' (a ◂ b ◂ cs) 0 1 r f' u' (v', vs.1) (omega arith), rest_event G y r)
+              (branch_link (fresh c' ◂ fresh a ◂ b ◂ cs) 1 r f' u' (suc f) (vf c' v', (va, vs.1.1)) e'.few (omega arith) (omega (arith, e'.burnt)))
+          | Failure ↦ λ r c' f' u' v' e'. rw (z.ends, chosen_link c' (a ◂ b ◂ cs) 0 2 r f' u' (v', vs.1) (omega arith), rest_event G y r)
+              (branch_link (fresh c' ◂ a ◂ fresh b ◂ cs) 2 r f' u' (suc f) (vf c' v', (vs.1.0, (vb, vs.1.1.1))) e'.few (omega arith) (omega (arith, e'.burnt)))
         ])
-    if_link (suc zero) (c ∷ a ∷ b ∷ cs) y f u vs e o j =
-        let z = heads (c ∷ a ∷ b ∷ cs) vs 1 f u (omega arith) in
-        rw (z.ends, z.place) (branch_link (c ∷ a ∷ b ∷ cs) 1 y f u (suc f) vs e (omega arith) (omega arith))
-    if_link (suc (suc zero)) (c ∷ a ∷ b ∷ cs) y f u vs e o j =
-        let z = heads (c ∷ a ∷ b ∷ cs) vs 2 f u (omega arith) in
-        rw (z.ends, z.place) (branch_link (c ∷ a ∷ b ∷ cs) 2 y f u (suc f) vs e (omega arith) (omega arith))
-    if_link (suc (suc (suc i))) (c ∷ a ∷ b ∷ cs) y f u vs e o j =
+    if_link (suc zero) (c ◂ a ◂ b ◂ cs) y f u vs e o j =
+        let z = heads (c ◂ a ◂ b ◂ cs) vs 1 f u (omega arith) in
+        rw (z.ends, z.place) (branch_link (c ◂ a ◂ b ◂ cs) 1 y f u (suc f) vs e (omega arith) (omega arith))
+    if_link (suc (suc zero)) (c ◂ a ◂ b ◂ cs) y f u vs e o j =
+        let z = heads (c ◂ a ◂ b ◂ cs) vs 2 f u (omega arith) in
+        rw (z.ends, z.place) (branch_link (c ◂ a ◂ b ◂ cs) 2 y f u (suc f) vs e (omega arith) (omega arith))
+    if_link (suc (suc (suc i))) (c ◂ a ◂ b ◂ cs) y f u vs e o j =
         let p : ℕ = suc (suc (suc i)) in
-        let z = heads (c ∷ a ∷ b ∷ cs) vs p f u (omega arith) in
-        rw (z.ends, z.place, eqb-suc-zero (suc (suc i)), z.first, child_past (c ∷ a ∷ b ∷ cs) p (kids_at p) f u vs (omega arith), le-ltb stop stop (omega arith))
-        (stopped_in (kids_at p) (c ∷ a ∷ b ∷ cs) vs f u)
+        let z = heads (c ◂ a ◂ b ◂ cs) vs p f u (omega arith) in
+        rw (z.ends, z.place, eqb-suc-zero (suc (suc i)), z.first, child_past (c ◂ a ◂ b ◂ cs) p (kids_at p) f u vs (omega arith), le-ltb stop stop (omega arith))
+        (stopped_in (kids_at p) (c ◂ a ◂ b ◂ cs) vs f u)
 
     -- ---- the rules over the node's children; z says whether Success and Failure are exchanged
     module _ (y : Float) (f u : ℕ) (e : u + f ≤ G.fuel) where
@@ -242,7 +242,7 @@ module _ {G : Given} {d : ℕ} {k : Kind} {ts : Forest} (N : Node G d k ts) wher
       race_rule = celled_link (suc f) (race_from child (event G y) ts (world_at G f u)) _ (race_link G d child w g (kids_at place) ts y q place f u N.below e here count_small)
 
 -- ---- the rules that visit their first child c
-module _ {G : Given} {d : ℕ} {k : Kind} {c : Tree} {cs : Forest} (N : Node G d k (c ∷ cs)) (child : Ticker) (w : Visitor)
+module _ {G : Given} {d : ℕ} {k : Kind} {c : Tree} {cs : Forest} (N : Node G d k (c ◂ cs)) (child : Ticker) (w : Visitor)
     (g : Ticks G d child w) (y : Float) (f u : ℕ) (e : u + f ≤ G.fuel) where
   -- where the node stands, and the frame of its children
   abbrev p : ℕ
@@ -255,40 +255,40 @@ module _ {G : Given} {d : ℕ} {k : Kind} {c : Tree} {cs : Forest} (N : Node G d
   inner = omega (arith, ats_less G (suc p) c cs (G.ends p) d N.below, N.stands.room, G.room)
 
   module _ (t : Tree) (v : First fr t) where
-    vs : All fr (t ∷ cs)
+    vs : All fr (t ◂ cs)
     vs = (v, N.below.1)
 
-    kind_at : (f' u' : ℕ) → kind_in (word_at (words_in fr (t ∷ cs) f' u') p) ≡ k
-    kind_at f' u' = rw (node_words N (t ∷ cs) vs N.cell.place f' u', word_in N.fr N.us f' u' (node_of N (cell_at N N.cell.place) (t ∷ cs)))
-        (kind_pack (sizes (t ∷ cs)) k N.cell.place N.cell.mark N.cell.anew N.board)
+    kind_at : (f' u' : ℕ) → kind_in (word_at (words_in fr (t ◂ cs) f' u') p) ≡ k
+    kind_at f' u' = rw (node_words N (t ◂ cs) vs N.cell.place f' u', word_in N.fr N.us f' u' (node_of N (cell_at N N.cell.place) (t ◂ cs)))
+        (kind_pack (sizes (t ◂ cs)) k N.cell.place N.cell.mark N.cell.anew N.board)
 
-    first_good : (x' : Float) → At G p (node_of N (with_time x' N.cell) (t ∷ cs)) (suc d)
-    first_good x' = node_good N (t ∷ cs) vs x' N.cell.place (same_place N (t ∷ cs) vs)
+    first_good : (x' : Float) → At G p (node_of N (with_time x' N.cell) (t ◂ cs)) (suc d)
+    first_good x' = node_good N (t ◂ cs) vs x' N.cell.place (same_place N (t ◂ cs) vs)
 
-    first_words : (f' u' : ℕ) → words_in fr (t ∷ cs) f' u' ≡ words_in N.fr (node_of N (cell_at N N.cell.place) (t ∷ cs) ∷ N.us) f' u'
-    first_words = node_words N (t ∷ cs) vs N.cell.place
+    first_words : (f' u' : ℕ) → words_in fr (t ◂ cs) f' u' ≡ words_in N.fr (node_of N (cell_at N N.cell.place) (t ◂ cs) ◂ N.us) f' u'
+    first_words = node_words N (t ◂ cs) vs N.cell.place
 
   pub only_rule : (F : Format) (change : Status → Status)
       → ((s : Status) (r : Float) (ws : List ℕ) (ts : List Float) → kind_in (word_at ws p) ≡ k → decorated F (lent_of G) p y s r ws ts ≡ out (seen_as (change s)) r ws ts)
-      → Sim (suc f) (left N) (only child change (cell_at N N.cell.place) (event G y) (c ∷ cs) (world_at G f u)) (on fr (c ∷ cs) f u (decorator F (lent_of G) w p y))
+      → Sim (suc f) (left N) (only child change (cell_at N N.cell.place) (event G y) (c ◂ cs) (world_at G f u)) (on fr (c ◂ cs) f u (decorator F (lent_of G) w p y))
   unfolding decorator run
   only_rule F change same = rw (lt-ltb p 255 inner, add-one p) (sim_visit G d child w g (left N) fr c cs y f u _ _ N.below e
-      λ s r t' f' u' v' e'. rw (same s r (words_in fr (t' ∷ cs) f' u') (times_in fr (t' ∷ cs)) (kind_at t' v' f' u'))
+      λ s r t' f' u' v' e'. rw (same s r (words_in fr (t' ◂ cs) f' u') (times_in fr (t' ◂ cs)) (kind_at t' v' f' u'))
       (went u' (still e') (first_good t' v' N.cell.time) (first_words t' v' f' u') refl))
 
   pub timeout_rule : (F : Format)
       → k ≡ Timeout
-      → Sim (suc f) (left N) (rule F child Timeout N.n N.limit (cell_at N N.cell.place) (event G y) (c ∷ cs) (world_at G f u)) (on fr (c ∷ cs) f u (decorator F (lent_of G) w p y))
+      → Sim (suc f) (left N) (rule F child Timeout N.n N.limit (cell_at N N.cell.place) (event G y) (c ◂ cs) (world_at G f u)) (on fr (c ◂ cs) f u (decorator F (lent_of G) w p y))
   unfolding rule decorator decorated times_out run
   timeout_rule F kk = rw (lt-ltb p 255 inner, add-one p) (sim_visit G d child w g (left N) fr c cs y f u _ _ N.below e elim [
     | Running ↦ λ r t' f' u' v' e'.
         let now : Float = add F N.cell.time (dt (event G y)) in
         rw (
           kind_at t' v' f' u' ∙ kk,
-          time_in_lem N.fr N.us k N.n N.limit N.cell N.board (t' ∷ cs),
+          time_in_lem N.fr N.us k N.n N.limit N.cell N.board (t' ◂ cs),
           N.stands.row.limit,
-          passed_in (nodes_in fr (t' ∷ cs)) (full_length fr (t' ∷ cs) (vs t' v')) G.update f' u' y,
-          time_put N.fr N.us k N.n N.limit N.cell N.board (t' ∷ cs) now,
+          passed_in (nodes_in fr (t' ◂ cs)) (full_length fr (t' ◂ cs) (vs t' v')) G.update f' u' y,
+          time_put N.fr N.us k N.n N.limit N.cell N.board (t' ◂ cs) now,
         )
         (sim_either (left N) (suc f) (le N.limit now) _ _ _ _
         (went u' (still e') (first_good t' v' now) (first_words t' v' f' u') refl)
@@ -299,26 +299,26 @@ module _ {G : Given} {d : ℕ} {k : Kind} {c : Tree} {cs : Forest} (N : Node G d
 
   pub while_rule : (F : Format)
       → Dry child
-      → Sim (suc f) (left N) (rule F child While N.n N.limit (cell_at N N.cell.place) (event G y) (c ∷ cs) (world_at G f u)) (on fr (c ∷ cs) f u (while_loop w p y))
+      → Sim (suc f) (left N) (rule F child While N.n N.limit (cell_at N N.cell.place) (event G y) (c ◂ cs) (world_at G f u)) (on fr (c ◂ cs) f u (while_loop w p y))
   unfolding rule while_loop run
   while_rule F dry = rw (lt-ltb p 255 inner, add-one p) (sim_visit G d child w g (left N) fr c cs y f u _ _ N.below e elim [
     | Running ↦ λ r c' f' u' v' e'.
-        let z = heads N (c' ∷ cs) (vs c' v') N.cell.place f' u' (same_place N (c' ∷ cs) (vs c' v')) in
+        let z = heads N (c' ◂ cs) (vs c' v') N.cell.place f' u' (same_place N (c' ◂ cs) (vs c' v')) in
         rw (
           z.first,
           z.ends,
           z.place,
           end_at fr cs f' u' c' v',
-          fuel_in_lem (nodes_in fr (c' ∷ cs)) (full_length fr (c' ∷ cs) (vs c' v')) G.update f' u',
+          fuel_in_lem (nodes_in fr (c' ◂ cs)) (full_length fr (c' ◂ cs) (vs c' v')) G.update f' u',
           ← over_words_lem fr c' v' cs f' u',
           ← over_times fr c' v' cs,
         )
-        (sim_keep (kids p 0 (over fr c' v')) (suc f') (left N) (suc f) (while_body child (suc f) N.cell.place (event G y) cs (world_at G f' u')) _ (λ a. (cell_at N a.0, c' ∷ a.1))
+        (sim_keep (kids p 0 (over fr c' v')) (suc f') (left N) (suc f) (while_body child (suc f) N.cell.place (event G y) cs (world_at G f' u')) _ (λ a. (cell_at N a.0, c' ◂ a.1))
         (body_link G d child w g dry f N.cell.place (over fr c' v') y cs p f' u' N.below.1 e'.few (omega (arith, e'.burnt)))
         (omega (arith, e'.burnt))
         λ a f'' u'' va. (
-          node_good N (c' ∷ a.1) (v', va.0) N.cell.time a.0 (omega (arith, va.1)),
-          rw (zero-add a.0, over_words_lem fr c' v' a.1 f'' u'', node_put N (c' ∷ a.1) (v', va.0) N.cell.place a.0 f'' u'') (node_words N (c' ∷ a.1) (v', va.0) a.0 f'' u''),
+          node_good N (c' ◂ a.1) (v', va.0) N.cell.time a.0 (omega (arith, va.1)),
+          rw (zero-add a.0, over_words_lem fr c' v' a.1 f'' u'', node_put N (c' ◂ a.1) (v', va.0) N.cell.place a.0 f'' u'') (node_words N (c' ◂ a.1) (v', va.0) a.0 f'' u''),
           over_times fr c' v' a.1,
         ))
     | Success ↦ λ r t' f' u' v' e'. went u' (still e') (first_good t' v' N.cell.time) (first_words t' v' f' u') refl
@@ -327,17 +327,17 @@ module _ {G : Given} {d : ℕ} {k : Kind} {c : Tree} {cs : Forest} (N : Node G d
 
   pub while_all_rule : Dry child
       → 0 < count cs
-      → Sim (suc f) (left N) (at_place (cell_at N N.cell.place) (while_all child (suc f) (event G y) N.cell.place (event G y) c cs (world_at G f u))) (on fr (c ∷ cs) f u (flat.while_all w p y))
+      → Sim (suc f) (left N) (at_place (cell_at N N.cell.place) (while_all child (suc f) (event G y) N.cell.place (event G y) c cs (world_at G f u))) (on fr (c ◂ cs) f u (flat.while_all w p y))
   unfolding flat.while_all
   while_all_rule dry o =
-      let z = heads N (c ∷ cs) N.below N.cell.place f u N.stands.place in
+      let z = heads N (c ◂ cs) N.below N.cell.place f u N.stands.place in
       rw (
         lt-ltb p 255 inner,
         z.first,
         z.ends,
         z.place,
         end_at fr cs f u c N.below.0,
-        fuel_in_lem (nodes_in fr (c ∷ cs)) (full_length fr (c ∷ cs) N.below) G.update f u,
+        fuel_in_lem (nodes_in fr (c ◂ cs)) (full_length fr (c ◂ cs) N.below) G.update f u,
       )
       (placed_link N (suc f) (while_all child (suc f) (event G y) N.cell.place (event G y) c cs (world_at G f u)) _
       (all_link G d child w g dry N.cell.place fr y c cs p f u N.below e z.first o))

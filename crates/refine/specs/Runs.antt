@@ -8,7 +8,7 @@ use Rattle.std.proofs.Math.Decide.{dec_lt}
 use Rattle.std.proofs.lemmas.List.{length-reverse, get_or_at, set_at}
 use Rattle.std.proofs.Math.ListN.{length-reverse_aux}
 use Rattle.rules.specs.Kinds.{code}
-use Rattle.rules.specs.Tree.{zero_time, Tree, node, Forest, [], ◌∷◌, fresh, fresh_all, size, sizes}
+use Rattle.rules.specs.Tree.{zero_time, Tree, node, Forest, [], ◌◂◌, fresh, fresh_all, size, sizes}
 use Rattle.rules.specs.Outcome.{event_of, dt}
 use Rattle.rules.specs.Cells.{time_of, place_of, mark_of, anew_of}
 use Rattle.work.specs.Word.{fresh_word}
@@ -24,7 +24,7 @@ module _ {A : Type 0} (f : Tree → A) where
 
     pub runs : Forest → List A → List A
     runs [] post = post
-    runs (t ∷ ts) post = run t (runs ts post)
+    runs (t ◂ ts) post = run t (runs ts post)
 
   mutual
     unfolding run
@@ -34,7 +34,7 @@ module _ {A : Type 0} (f : Tree → A) where
 
     pub runs_append : (ts : Forest) (post z : List A) → runs ts (post ++ z) ≡ runs ts post ++ z
     runs_append [] post z = refl
-    runs_append (t ∷ ts) post z = ap (λ (r : List A). run t r) (runs_append ts post z) ∙ run_append t (runs ts post) z
+    runs_append (t ◂ ts) post z = ap (λ (r : List A). run t r) (runs_append ts post z) ∙ run_append t (runs ts post) z
 
   mutual
     unfolding run size
@@ -44,7 +44,7 @@ module _ {A : Type 0} (f : Tree → A) where
 
     pub length_runs : (ts : Forest) (post : List A) → length (runs ts post) ≡ sizes ts + length post
     length_runs [] post = omega arith
-    length_runs (t ∷ ts) post = omega (arith, length_run t (runs ts post), length_runs ts post)
+    length_runs (t ◂ ts) post = omega (arith, length_run t (runs ts post), length_runs ts post)
 
   -- the same put behind `pre`, whose nearest is its first
   abbrev pub push : Tree → List A → List A
@@ -77,7 +77,7 @@ mutual
 
   pub sizes_fresh : (ts : Forest) → sizes (fresh_all ts) ≡ sizes ts
   sizes_fresh [] = refl
-  sizes_fresh (t ∷ ts) = λ i. size_fresh t i + sizes_fresh ts i
+  sizes_fresh (t ◂ ts) = λ i. size_fresh t i + sizes_fresh ts i
 
 module _ {A : Type 0} (f : Tree → A) (d : A) (g : A → A) (clear : ℕ → ℕ → List A → List A)
     (none : (q : ℕ) (l : List A) → clear q 0 l ≡ l)
@@ -105,7 +105,7 @@ module _ {A : Type 0} (f : Tree → A) (d : A) (g : A → A) (clear : ℕ → �
 
     clear_forest : (ts : Forest) (pre post : List A) (q : ℕ) → length pre ≡ q → clear q (sizes ts) (reverse_aux pre (runs f ts post)) ≡ reverse_aux pre (runs f (fresh_all ts) post)
     clear_forest [] pre post q h = none q (reverse_aux pre post)
-    clear_forest (t ∷ ts) pre post q h = rw (
+    clear_forest (t ◂ ts) pre post q h = rw (
       clear_add (size t) (sizes ts) q (reverse_aux pre (run f t (runs f ts post))),
       clear_tree t pre (runs f ts post) q h,
       ← push_run f (fresh t) pre (runs f ts post),
@@ -156,11 +156,11 @@ module _ (pre : List ℕ) (post : List ℕ) (q : ℕ) (h : length pre ≡ q) whe
 module _ (pre : List ℕ) (post : List ℕ) (q : ℕ) (h : length pre ≡ q) (b : Bool) (f u : ℕ) where
   pub word_here : (t : Tree) → word_at (array (reverse_aux pre (run word_of t post)) b f u) q ≡ word_of t
   unfolding run
-  word_here (node k n l c bd ts) = rw (unrolled pre (node k n l c bd ts ∷ []) post b f u) (get_here pre _ _ q h 0)
+  word_here (node k n l c bd ts) = rw (unrolled pre (node k n l c bd ts ◂ []) post b f u) (get_here pre _ _ q h 0)
 
   pub end_here : (t : Tree) → q + size t ≤ 256 → end_of (array (reverse_aux pre (run word_of t post)) b f u) q ≡ q + size t
   unfolding run
-  end_here t j = rw (unrolled pre (t ∷ []) post b f u) (end_in pre (post ++ tail b f u) q h t j)
+  end_here t j = rw (unrolled pre (t ◂ []) post b f u) (end_in pre (post ++ tail b f u) q h t j)
 
 module _ (ts : Forest) (q n : ℕ) (e : n ≡ sizes ts) where
   pub words_freshen : (pre post : List ℕ) → length pre ≡ q → (b : Bool) (f u : ℕ)

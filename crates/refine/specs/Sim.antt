@@ -5,7 +5,7 @@ use Rattle.rules.specs.declared.status.Status.{Status}
 use Rattle.rules.specs.declared.status.Status.TheVariants.{Running, Success, Failure}
 use Rattle.rules.specs.declared.event.Event.{Event}
 use Rattle.rules.specs.declared.event.Event.TheVariants.{Update, Other}
-use Rattle.rules.specs.Tree.{zero_time, Tree, Forest, ◌∷◌}
+use Rattle.rules.specs.Tree.{zero_time, Tree, Forest, ◌◂◌}
 use Rattle.rules.specs.Outcome.{event_of, rest, World, world, Out, done, asks, short, Ticker, ◌▸◌, exchange, exchanging}
 use Rattle.rules.specs.Call.{answers}
 use Rattle.work.specs.declared.result.Seen.TheVariants.{Stopped}
@@ -196,7 +196,7 @@ module _ {G : Given} where
 
     -- a tree before us, and all trees of a frame
     abbrev pub tree : Frame G d → Forest → View G Tree
-    tree fr us = record { good = λ t. First fr t; words = λ t f u. words_in fr (t ∷ us) f u; times = λ t. times_in fr (t ∷ us) }
+    tree fr us = record { good = λ t. First fr t; words = λ t f u. words_in fr (t ◂ us) f u; times = λ t. times_in fr (t ◂ us) }
 
     abbrev pub trees : Frame G d → View G Forest
     trees fr = record { good = λ ts. All fr ts; words = λ ts f u. words_in fr ts f u; times = λ ts. times_in fr ts }
@@ -204,9 +204,9 @@ module _ {G : Given} where
 -- ---- the visitor does at q what the ticker does to the tree that stands there, before us
 abbrev pub Ticks : Given → ℕ → Ticker → Visitor → Type 0
 Ticks G d child v = (fr : Frame G d) (t : Tree) (us : Forest) (x : Float) (f u : ℕ)
-    → All fr (t ∷ us)
+    → All fr (t ◂ us)
     → u + f ≤ G.fuel
-    → Sim f (tree fr us) (child t (event G x) (world_at G f u)) (on fr (t ∷ us) f u (v fr.q x))
+    → Sim f (tree fr us) (child t (event G x) (world_at G f u)) (on fr (t ◂ us) f u (v fr.q x))
 
 -- with no fuel there is no visit
 abbrev pub Dry : Ticker → Type 0
@@ -219,8 +219,8 @@ ticks_turn G d child v false g fr t us y f u vs e = sim_turn (tree fr us) f fals
 -- what follows a visit
 pub sim_visit : (G : Given) (d : ℕ) (child : Ticker) (v : Visitor) → Ticks G d child v → {B : Type 0} (W : View G B) (fr : Frame G d) (t : Tree) (us : Forest) (x : Float) (f u : ℕ)
     (k : Status → Float → Tree → World → Out B) (k' : Status → Float → Step)
-    → All fr (t ∷ us)
+    → All fr (t ◂ us)
     → u + f ≤ G.fuel
-    → ((s : Status) (r : Float) (t' : Tree) (f' u' : ℕ) → First fr t' → Spent G f f' u' → Sim (suc f) W (k s r t' (world_at G f' u')) (on fr (t' ∷ us) f' u' (k' s r)))
-    → Sim (suc f) W (child t (event G x) (world_at G f u) ▸ k) (and_then (on fr (t ∷ us) f u (v fr.q x)) k')
+    → ((s : Status) (r : Float) (t' : Tree) (f' u' : ℕ) → First fr t' → Spent G f f' u' → Sim (suc f) W (k s r t' (world_at G f' u')) (on fr (t' ◂ us) f' u' (k' s r)))
+    → Sim (suc f) W (child t (event G x) (world_at G f u) ▸ k) (and_then (on fr (t ◂ us) f u (v fr.q x)) k')
 sim_visit G d child v g W fr t us x f u k k' vs e h = sim_bind (tree fr us) f W (suc f) (child t (event G x) (world_at G f u)) _ k k' (g fr t us x f u vs e) h

@@ -4,7 +4,7 @@ use Rattle.std.proofs.Common.{ap, not-suc-le-zero, le_of_suc-le-suc, arith, lt-l
 use Prim.Native.Nat.{ℕ, zero, suc, ◌+◌, ◌^◌, ◌≤◌, ◌<◌}
 use Rattle.std.proofs.Math.Decide.{dec_lt}
 use Rattle.rules.specs.declared.behavior.Kind.{Kind}
-use Rattle.rules.specs.Tree.{Cell, Tree, node, Forest, [], ◌∷◌, fresh, fresh_all, mark, size, sizes, count}
+use Rattle.rules.specs.Tree.{Cell, Tree, node, Forest, [], ◌◂◌, fresh, fresh_all, mark, size, sizes, count}
 use Rattle.rules.specs.Loops.{fresh_at}
 use Rattle.refine.specs.Words.{Row, Fits, FitsAll}
 
@@ -31,12 +31,12 @@ pub record Placed (G : Given) (q : ℕ) (k : Kind) (n : ℕ) (l : Float) (kids p
 count_fresh : (ts : Forest) → count (fresh_all ts) ≡ count ts
 unfolding fresh
 count_fresh [] = refl
-count_fresh (t ∷ ts) = ap (λ (z : ℕ). suc z) (count_fresh ts)
+count_fresh (t ◂ ts) = ap (λ (z : ℕ). suc z) (count_fresh ts)
 
 pub count_sizes : (ts : Forest) → count ts ≤ sizes ts
 unfolding size
 count_sizes [] = omega arith
-count_sizes (node k n l c b us ∷ ts) = omega (arith, count_sizes ts)
+count_sizes (node k n l c b us ◂ ts) = omega (arith, count_sizes ts)
 
 module _ (G : Given) where
   -- the tree t, at most d deep, stands at q; the trees ts stand from q to stop
@@ -47,7 +47,7 @@ module _ (G : Given) where
 
     pub Ats : ℕ → Forest → ℕ → ℕ → Type 0
     Ats q [] stop d = q ≡ stop
-    Ats q (t ∷ ts) stop d = At q t d × Ats (G.ends q) ts stop d
+    Ats q (t ◂ ts) stop d = At q t d × Ats (G.ends q) ts stop d
 
   mutual
     unfolding Fits
@@ -58,7 +58,7 @@ module _ (G : Given) where
 
     ats_fit : (q : ℕ) (ts : Forest) (stop d : ℕ) → Ats q ts stop d → FitsAll ts
     ats_fit q [] stop d v = tt
-    ats_fit q (t ∷ ts) stop d v = (at_fits q t d v.0, ats_fit (G.ends q) ts stop d v.1)
+    ats_fit q (t ◂ ts) stop d v = (at_fits q t d v.0, ats_fit (G.ends q) ts stop d v.1)
 
   mutual
     unfolding size
@@ -69,7 +69,7 @@ module _ (G : Given) where
 
     pub ats_size : (q : ℕ) (ts : Forest) (stop d : ℕ) → Ats q ts stop d → stop ≡ q + sizes ts
     ats_size q [] stop d v = omega (arith, v)
-    ats_size q (t ∷ ts) stop d v = omega (arith, at_size q t d v.0, ats_size (G.ends q) ts stop d v.1)
+    ats_size q (t ◂ ts) stop d v = omega (arith, at_size q t d v.0, ats_size (G.ends q) ts stop d v.1)
 
   pub at_room : (q : ℕ) (t : Tree) (d : ℕ) → At q t d → (q < G.ends q) × (G.ends q ≤ G.nodes)
   unfolding size
@@ -90,26 +90,26 @@ module _ (G : Given) where
 
     pub ats_fresh : (q : ℕ) (ts : Forest) (stop d : ℕ) → Ats q ts stop d → Ats q (fresh_all ts) stop d
     ats_fresh q [] stop d v = v
-    ats_fresh q (t ∷ ts) stop d v = (at_fresh q t d v.0, ats_fresh (G.ends q) ts stop d v.1)
+    ats_fresh q (t ◂ ts) stop d v = (at_fresh q t d v.0, ats_fresh (G.ends q) ts stop d v.1)
 
   pub ats_fresh_at : (ts : Forest) (i q stop d : ℕ) → Ats q ts stop d → Ats q (fresh_at i ts) stop d
   ats_fresh_at [] i q stop d vs = vs
-  ats_fresh_at (t ∷ ts) zero q stop d vs = (at_fresh q t d vs.0, vs.1)
-  ats_fresh_at (t ∷ ts) (suc i) q stop d vs = (vs.0, ats_fresh_at ts i (G.ends q) stop d vs.1)
+  ats_fresh_at (t ◂ ts) zero q stop d vs = (at_fresh q t d vs.0, vs.1)
+  ats_fresh_at (t ◂ ts) (suc i) q stop d vs = (vs.0, ats_fresh_at ts i (G.ends q) stop d vs.1)
 
   pub at_mark : (q : ℕ) (t : Tree) (d : ℕ) → At q t d → At q (mark t) d
   at_mark q (node k n l c b ts) zero v = absurd v
   at_mark q (node k n l c b ts) (suc d) v = (record { row = v.0.row; place = v.0.place; mark = omega arith; room = v.0.room }, v.1)
 
-  pub ats_less : (q : ℕ) (t : Tree) (ts : Forest) (stop d : ℕ) → Ats q (t ∷ ts) stop d → q < stop
+  pub ats_less : (q : ℕ) (t : Tree) (ts : Forest) (stop d : ℕ) → Ats q (t ◂ ts) stop d → q < stop
   ats_less q t ts stop d v = omega (arith, at_room q t d v.0, ats_size (G.ends q) ts stop d v.1)
 
   -- two forests in one stretch of the table are as many
   pub ats_count : (q : ℕ) (ts us : Forest) (stop d : ℕ) → Ats q ts stop d → Ats q us stop d → count ts ≡ count us
   ats_count q [] [] stop d v w = refl
-  ats_count q [] (u ∷ us) stop d v w = absurd (let z : q < stop = ats_less q u us stop d w in omega arith)
-  ats_count q (t ∷ ts) [] stop d v w = absurd (let z : q < stop = ats_less q t ts stop d v in omega arith)
-  ats_count q (t ∷ ts) (u ∷ us) stop d v w = ap (λ (z : ℕ). suc z) (ats_count (G.ends q) ts us stop d v.1 w.1)
+  ats_count q [] (u ◂ us) stop d v w = absurd (let z : q < stop = ats_less q u us stop d w in omega arith)
+  ats_count q (t ◂ ts) [] stop d v w = absurd (let z : q < stop = ats_less q t ts stop d v in omega arith)
+  ats_count q (t ◂ ts) (u ◂ us) stop d v w = ap (λ (z : ℕ). suc z) (ats_count (G.ends q) ts us stop d v.1 w.1)
 
   -- where child i of those that begin at q begins
   abbrev pub spot : ℕ → ℕ → ℕ
@@ -122,12 +122,12 @@ module _ (G : Given) where
 
   pub spot_less : (ts : Forest) (i q stop d : ℕ) → Ats q ts stop d → i < count ts → spot i q < stop
   spot_less [] i q stop d v l = absurd (not-suc-le-zero l)
-  spot_less (t ∷ ts) zero q stop d v l = ats_less q t ts stop d v
-  spot_less (t ∷ ts) (suc i) q stop d v l = spot_less ts i (G.ends q) stop d v.1 (le_of_suc-le-suc l)
+  spot_less (t ◂ ts) zero q stop d v l = ats_less q t ts stop d v
+  spot_less (t ◂ ts) (suc i) q stop d v l = spot_less ts i (G.ends q) stop d v.1 (le_of_suc-le-suc l)
 
   spot_count : (ts : Forest) (q stop d : ℕ) → Ats q ts stop d → spot (count ts) q ≡ stop
   spot_count [] q stop d v = v
-  spot_count (t ∷ ts) q stop d v = spot_count ts (G.ends q) stop d v.1
+  spot_count (t ◂ ts) q stop d v = spot_count ts (G.ends q) stop d v.1
 
   -- the last child, and the child behind, after the last the first
   pub spot_last : (ts : Forest) (i q stop d : ℕ) → Ats q ts stop d → i < count ts → ltb (G.ends (spot i q)) stop ≡ ltb (suc i) (count ts)

@@ -4,7 +4,7 @@ use Rattle.std.proofs.Math.Path.{sym}
 use Rattle.std.proofs.Common.{ap, ◌∙◌, not-suc-le-zero, arith}
 use mathlib.Core.List.{List, reverse_aux}
 use Rattle.std.proofs.lemmas.List.{length-replicate}
-use Rattle.rules.specs.Tree.{Tree, node, Forest, [], ◌∷◌, size, sizes, depth, depths}
+use Rattle.rules.specs.Tree.{Tree, node, Forest, [], ◌◂◌, size, sizes, depth, depths}
 use Rattle.rules.specs.Cells.{column, columns, time_of}
 use Rattle.work.specs.Array.{fuel_of, used_of, end_of}
 use Rattle.refine.specs.Words.{words, words_all, behind, working, Fits, FitsAll, Holds, HoldsAll}
@@ -20,7 +20,7 @@ mutual
 
   words_runs : (ts : Forest) (post : List ℕ) → runs word_of ts post ≡ words_all ts post
   words_runs [] post = refl
-  words_runs (t ∷ ts) post = words_run t (runs word_of ts post) ∙ ap (λ (r : List ℕ). words t r) (words_runs ts post)
+  words_runs (t ◂ ts) post = words_run t (runs word_of ts post) ∙ ap (λ (r : List ℕ). words t r) (words_runs ts post)
 
 mutual
   unfolding column run
@@ -30,7 +30,7 @@ mutual
 
   times_runs : (ts : Forest) (post : List Float) → runs time_in ts post ≡ columns time_of ts post
   times_runs [] post = refl
-  times_runs (t ∷ ts) post = times_run t (runs time_in ts post) ∙ ap (λ (r : List Float). column time_of t r) (times_runs ts post)
+  times_runs (t ◂ ts) post = times_run t (runs time_in ts post) ∙ ap (λ (r : List Float). column time_of t r) (times_runs ts post)
 
 -- the frame of the whole tree
 pub start_full : (n : ℕ) → n ≤ 256 → n + length (replicate {A = ℕ} (256 - n) 0) ≡ 256
@@ -49,7 +49,7 @@ start G d rest = record {
   full = start_full G.nodes G.room;
 }
 
-pub words_start : (G : Given) (d : ℕ) (rest : List Float) (t : Tree) (f u : ℕ) → size t ≡ G.nodes → words_in (start G d rest) (t ∷ []) f u ≡ working t f u G.update
+pub words_start : (G : Given) (d : ℕ) (rest : List Float) (t : Tree) (f u : ℕ) → size t ≡ G.nodes → words_in (start G d rest) (t ◂ []) f u ≡ working t f u G.update
 unfolding working behind array run
 words_start G d rest t f u e = rw (← e) (sym (run_append word_of t (replicate (256 - size t) 0) _) ∙ words_run t _)
 
@@ -68,7 +68,7 @@ module _ (t : Tree) (f u : ℕ) (b : Bool) (room : size t ≤ 256) where
   pub used_up : used_of (working t f u b) ≡ u
   used_up = rw (← as_array) (used_in (run word_of t (replicate (256 - size t) 0)) nodes_full b f u)
 
-pub times_start : (G : Given) (d : ℕ) (rest : List Float) (t : Tree) → times_in (start G d rest) (t ∷ []) ≡ column time_of t rest
+pub times_start : (G : Given) (d : ℕ) (rest : List Float) (t : Tree) → times_in (start G d rest) (t ◂ []) ≡ column time_of t rest
 unfolding run
 times_start G d rest t = times_run t rest
 
@@ -107,7 +107,7 @@ module _ (ns : List ℕ) (limits : List Float) (ss : List ℕ) (ls : List Float)
           → q + sizes ts ≤ nodes
           → Ats given q ts stop d
       ats_start [] pre post q stop d h e w hs fs dp j = omega arith
-      ats_start (t ∷ ts) pre post q stop d h e w hs fs dp j =
+      ats_start (t ◂ ts) pre post q stop d h e w hs fs dp j =
           let ends : end_of ws q ≡ q + size t = rw w (end_here pre (runs word_of ts post) q h b f u t (omega arith)) in (
             at_start t pre (runs word_of ts post) q d h w hs.0 fs.0 (omega arith) (omega arith),
             ats_start ts (push word_of t pre) post (end_of ws q) stop d (omega (arith, length_push word_of t pre)) (omega arith)

@@ -16,7 +16,7 @@ use Rattle.rules.specs.declared.behavior.Kind.TheVariants.{Wait, WaitForever, Ac
 use Rattle.rules.specs.declared.behavior.Kind.TheVariants.{MemorylessSequence, MemorylessSelector, While, WhileAll, WhenAll, WhenAny, After, Race}
 use Rattle.rules.specs.declared.status.Status.{Status}
 use Rattle.rules.specs.declared.status.Status.TheVariants.{Running, Success, Failure}
-use Rattle.rules.specs.Tree.{Cell, with_time, Tree, node, Forest, [], ◌∷◌}
+use Rattle.rules.specs.Tree.{Cell, with_time, Tree, node, Forest, [], ◌◂◌}
 use Rattle.rules.specs.Outcome.{dt, event_of, Ticker, exchanged, always_succeed, largest, byte}
 use Rattle.rules.specs.State.{rule, tick}
 use Rattle.work.specs.declared.result.Seen.TheVariants.{Stopped}
@@ -36,7 +36,7 @@ use Rattle.refine.specs.Rules.{while_rule, while_all_rule}
 -- ---- leaves
 module _ (F : Format) (child : Ticker) {G : Given} {d : ℕ} {k : Kind} {ts : Forest} (N : Node G d k ts) (x : Float) (f u : ℕ) where
   abbrev all : Forest
-  all = node_of N (cell_at N N.cell.place) ts ∷ N.us
+  all = node_of N (cell_at N N.cell.place) ts ◂ N.us
 
   full : length (nodes_in N.fr all) ≡ 256
   full = full_length N.fr all ((N.stands, N.below), N.behind)
@@ -57,8 +57,8 @@ module _ (F : Format) (child : Ticker) {G : Given} {d : ℕ} {k : Kind} {ts : Fo
     where
       by : (b : Bool) → Sim (suc f) (left N) (rule F child Wait N.n N.limit (cell_at N N.cell.place) (event_of b x) ts (world_at G f u)) (cond b
           (cond (le N.limit (add F N.cell.time x))
-          (out seen.Success (sub F (add F N.cell.time x) N.limit) (words_in N.fr all f u) (times_in N.fr (node_of N (with_time N.limit N.cell) ts ∷ N.us)))
-          (flat.waiting (words_in N.fr all f u) (times_in N.fr (node_of N (with_time (add F N.cell.time x) N.cell) ts ∷ N.us))))
+          (out seen.Success (sub F (add F N.cell.time x) N.limit) (words_in N.fr all f u) (times_in N.fr (node_of N (with_time N.limit N.cell) ts ◂ N.us)))
+          (flat.waiting (words_in N.fr all f u) (times_in N.fr (node_of N (with_time (add F N.cell.time x) N.cell) ts ◂ N.us))))
           (flat.waiting (words_in N.fr all f u) (times_in N.fr all)))
       by true = sim_either (left N) (suc f) (le N.limit (add F N.cell.time x)) _ _ _ _
           (went u (unspent f u e) (N.stands, N.below) refl refl)
@@ -109,26 +109,26 @@ module _ (F : Format) (G : Given) (q : ℕ) (x : Float) (s : Status) (r : Float)
 rule_link : (F : Format) (G : Given) (d : ℕ) (child : Ticker) (w : Visitor) → Ticks G d child w → Dry child → (k : Kind) (ts : Forest) (N : Node G d k ts) (x : Float) (f u : ℕ)
     → u + suc f ≤ G.fuel
     → Sim (suc f) (left N) (rule F child k N.n N.limit (cell_at N N.cell.place) (event G x) ts (world_at G f u))
-    (on N.fr (node_of N (cell_at N N.cell.place) ts ∷ N.us) f u (by_kind F (lent_of G) w k N.fr.q x))
+    (on N.fr (node_of N (cell_at N N.cell.place) ts ◂ N.us) f u (by_kind F (lent_of G) w k N.fr.q x))
 unfolding rule by_kind leaf run
 rule_link F G d child w g dry Wait ts N x f u e = wait_rule F child N x f u (omega arith)
 rule_link F G d child w g dry WaitForever ts N x f u e = went u (unspent f u (omega arith)) (N.stands, N.below) refl refl
 rule_link F G d child w g dry Action ts N x f u e = action_rule F child N x f u e
 rule_link F G d child w g dry Invert [] N x f u e = absurd (not-suc-le-zero N.stands.row.enough)
-rule_link F G d child w g dry Invert (c ∷ cs) N x f u e = only_rule N child w g x f u (omega arith) F exchanged (inverted F G N.fr.q x)
+rule_link F G d child w g dry Invert (c ◂ cs) N x f u e = only_rule N child w g x f u (omega arith) F exchanged (inverted F G N.fr.q x)
 rule_link F G d child w g dry AlwaysSucceed [] N x f u e = absurd (not-suc-le-zero N.stands.row.enough)
-rule_link F G d child w g dry AlwaysSucceed (c ∷ cs) N x f u e = only_rule N child w g x f u (omega arith) F always_succeed (succeeded F G N.fr.q x)
+rule_link F G d child w g dry AlwaysSucceed (c ◂ cs) N x f u e = only_rule N child w g x f u (omega arith) F always_succeed (succeeded F G N.fr.q x)
 rule_link F G d child w g dry Timeout [] N x f u e = absurd (not-suc-le-zero N.stands.row.enough)
-rule_link F G d child w g dry Timeout (c ∷ cs) N x f u e = timeout_rule N child w g x f u (omega arith) F refl
+rule_link F G d child w g dry Timeout (c ◂ cs) N x f u e = timeout_rule N child w g x f u (omega arith) F refl
 rule_link F G d child w g dry If ts N x f u e = if_rule N child w g x f u (omega arith) (omega (arith, N.stands.row.enough, N.stands.row.few))
 rule_link F G d child w g dry Sequence ts N x f u e = sequence_rule N child w g x f u (omega arith) false
 rule_link F G d child w g dry Select ts N x f u e = sequence_rule N child w g x f u (omega arith) true
 rule_link F G d child w g dry MemorylessSequence ts N x f u e = memoryless_rule N child w g x f u (omega arith) false
 rule_link F G d child w g dry MemorylessSelector ts N x f u e = memoryless_rule N child w g x f u (omega arith) true
 rule_link F G d child w g dry While [] N x f u e = absurd (not-suc-le-zero N.stands.row.enough)
-rule_link F G d child w g dry While (c ∷ cs) N x f u e = while_rule N child w g x f u (omega arith) F dry
+rule_link F G d child w g dry While (c ◂ cs) N x f u e = while_rule N child w g x f u (omega arith) F dry
 rule_link F G d child w g dry WhileAll [] N x f u e = absurd (not-suc-le-zero N.stands.row.enough)
-rule_link F G d child w g dry WhileAll (c ∷ cs) N x f u e = while_all_rule N child w g x f u (omega arith) dry (omega (arith, N.stands.row.enough))
+rule_link F G d child w g dry WhileAll (c ◂ cs) N x f u e = while_all_rule N child w g x f u (omega arith) dry (omega (arith, N.stands.row.enough))
 rule_link F G d child w g dry WhenAll ts N x f u e = when_all_rule N child w g x f u (omega arith) false (largest F)
 rule_link F G d child w g dry WhenAny ts N x f u e = when_all_rule N child w g x f u (omega arith) true (largest F)
 rule_link F G d child w g dry After ts N x f u e = after_rule N child w g x f u (omega arith) (largest F)
@@ -161,7 +161,7 @@ visit_link : (F : Format) (G : Given) (d : ℕ) → Ticks G d (tick F d) (flat.t
 visit_link F G zero g fr (node k n l c bd ts) us x f u vs e = absurd vs.0
 visit_link F G (suc d) g fr (node k n l c bd ts) us x f u vs e =
     let t : Tree = node k n l c bd ts in
-    rw (visit_is F G d k fr.q x (words_in fr (t ∷ us) f u) (times_in fr (t ∷ us)) (kind_in_lem fr us f u k n l c bd ts)) (g fr t us x f u vs e)
+    rw (visit_is F G d k fr.q x (words_in fr (t ◂ us) f u) (times_in fr (t ◂ us)) (kind_in_lem fr us f u k n l c bd ts)) (g fr t us x f u vs e)
 
 tick_dry : (F : Format) (d : ℕ) → Dry (tick F d)
 unfolding tick
@@ -177,8 +177,8 @@ byte_small Failure = omega arith
 seen_link : {G : Given} {d : ℕ} (fr : Frame G (suc d)) (k : Kind) (n : ℕ) (l : Float) (c : Cell) (bd : ℕ) (s : Status) (ts us : Forest) (f u : ℕ)
     → First fr (node k n l c bd ts)
     → First fr (node k n l c (byte s) ts)
-    × (set_seen (words_in fr (node k n l c bd ts ∷ us) f u) fr.q (byte s) ≡ words_in fr (node k n l c (byte s) ts ∷ us) f u)
-    × (times_in fr (node k n l c bd ts ∷ us) ≡ times_in fr (node k n l c (byte s) ts ∷ us))
+    × (set_seen (words_in fr (node k n l c bd ts ◂ us) f u) fr.q (byte s) ≡ words_in fr (node k n l c (byte s) ts ◂ us) f u)
+    × (times_in fr (node k n l c bd ts ◂ us) ≡ times_in fr (node k n l c (byte s) ts ◂ us))
 unfolding run
 seen_link fr k n l c bd s ts us f u v = (v, seen_put fr us f u k n l c bd ts (byte s) (byte_small s), refl)
 
@@ -191,17 +191,17 @@ unfolding tick flat.tick run
 tick_link F G zero fr (node k n l c bd ts) us x f u vs e = absurd vs.0
 tick_link F G (suc d) fr (node k n l c bd ts) us x zero u vs e =
     let t : Tree = node k n l c bd ts in
-    rw (fuel_in_lem (nodes_in fr (t ∷ us)) (full_length fr (t ∷ us) vs) G.update 0 u) (stopped_in fr (t ∷ us) vs 0 u)
+    rw (fuel_in_lem (nodes_in fr (t ◂ us)) (full_length fr (t ◂ us) vs) G.update 0 u) (stopped_in fr (t ◂ us) vs 0 u)
 tick_link F G (suc d) fr (node k n l c bd ts) us x (suc f) u vs e =
     let t : Tree = node k n l c bd ts in
-    let full' : length (nodes_in fr (t ∷ us)) ≡ 256 = full_length fr (t ∷ us) vs in
+    let full' : length (nodes_in fr (t ◂ us)) ≡ 256 = full_length fr (t ◂ us) vs in
     let N : Node G d k ts = record { fr = fr; us = us; n = n; limit = l; cell = c; board = bd; stands = vs.0.0; below = vs.0.1; behind = vs.1 } in
     rw (
-      fuel_in_lem (nodes_in fr (t ∷ us)) full' G.update (suc f) u,
+      fuel_in_lem (nodes_in fr (t ◂ us)) full' G.update (suc f) u,
       eqb-suc-zero f,
       one_less f,
       kind_in_lem fr us (suc f) u k n l c bd ts,
-      burnt_in (nodes_in fr (t ∷ us)) full' G.update (suc f) u f,
+      burnt_in (nodes_in fr (t ◂ us)) full' G.update (suc f) u f,
     )
     (sim_bind (left N) (suc f) (tree fr us) (suc f) (rule F (tick F d) k n l c (event G x) ts (world_at G f u)) _ _ _
     (rule_link F G d (tick F d) (visit F (lent_of G) (flat.tick F (lent_of G) d)) (visit_link F G d (tick_link F G d)) (tick_dry F d) k ts N x f u e)

@@ -2,7 +2,7 @@
 use Rattle.std.specs.Prelude.{◌≡◌, Bool, true, false, List, ◌++◌, ℕ, suc, ◌+◌, ◌-◌, ◌*◌, ◌%◌, ◌≤◌, ◌<◌, Float, get_or, replicate}
 use Rattle.rules.specs.declared.behavior.Kind.{Kind}
 use Rattle.rules.specs.Kinds.{code, fewest, most}
-use Rattle.rules.specs.Tree.{zero_time, Tree, node, Forest, [], ◌∷◌, size, sizes, count}
+use Rattle.rules.specs.Tree.{zero_time, Tree, node, Forest, [], ◌◂◌, size, sizes, count}
 use Rattle.rules.specs.Table.{cleaned}
 use Rattle.rules.specs.Cells.{place_of, mark_of, anew_of}
 
@@ -21,7 +21,7 @@ unfoldable mutual
 
   pub words_all : Forest → List ℕ → List ℕ
   words_all [] post = post
-  words_all (t ∷ ts) post = words t (words_all ts post)
+  words_all (t ◂ ts) post = words t (words_all ts post)
 
 -- what stands behind the words of n nodes
 unfoldable pub behind : ℕ → ℕ → ℕ → ℕ → Bool → List ℕ
@@ -38,7 +38,7 @@ unfoldable mutual
 
   pub FitsAll : Forest → Type 0
   FitsAll [] = Unit {0}
-  FitsAll (t ∷ ts) = Fits t × FitsAll ts
+  FitsAll (t ◂ ts) = Fits t × FitsAll ts
 
 -- the row of a node with so many children
 pub record Row (ns : List ℕ) (limits : List Float) (q : ℕ) (k : Kind) (n : ℕ) (l : Float) (kids : ℕ) : Type 0 where
@@ -55,4 +55,4 @@ module _ (ns : List ℕ) (limits : List Float) where
 
     pub HoldsAll : ℕ → Forest → Type 0
     HoldsAll q [] = Unit {0}
-    HoldsAll q (t ∷ ts) = Holds q t × HoldsAll (q + size t) ts
+    HoldsAll q (t ◂ ts) = Holds q t × HoldsAll (q + size t) ts

@@ -3,7 +3,7 @@ use Rattle.std.specs.Prelude.{ℕ, suc, cond, ◌==◌, nat_lt}
 use Rattle.rules.specs.declared.behavior.Kind.{Kind}
 use Rattle.rules.specs.declared.behavior.Kind.TheVariants.{Wait, WaitForever, Action, Invert, AlwaysSucceed, Timeout, Select, If, Sequence}
 use Rattle.rules.specs.declared.behavior.Kind.TheVariants.{MemorylessSequence, MemorylessSelector, While, WhileAll, WhenAll, WhenAny, After, Race}
-use Rattle.rules.specs.Tree.{Tree, node, Forest, [], ◌∷◌, marked}
+use Rattle.rules.specs.Tree.{Tree, node, Forest, [], ◌◂◌, marked}
 
 -- shows KIND PLACE I CHILD: what child I of a node of that kind, at that place, shows if it was not visited
 abbrev pub shows : Kind → ℕ → ℕ → Tree → ℕ
@@ -33,7 +33,7 @@ unfoldable mutual
   -- the children from child i on of a node of kind k at place p
   pub shown_from : Kind → ℕ → ℕ → Forest → Forest
   shown_from k p i [] = []
-  shown_from k p i (t ∷ ts) = shown_as (shows k p i t) t ∷ shown_from k p (suc i) ts
+  shown_from k p i (t ◂ ts) = shown_as (shows k p i t) t ◂ shown_from k p (suc i) ts
 
 -- the root is nobody's child
 abbrev pub shown : Tree → Tree

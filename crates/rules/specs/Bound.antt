@@ -7,7 +7,7 @@ use Rattle.rules.specs.declared.behavior.Kind.TheVariants.{MemorylessSequence, M
 use Rattle.rules.specs.declared.answer.BoundAnswer.{BoundAnswer}
 use Rattle.rules.specs.declared.answer.BoundAnswer.TheVariants as says
 use Rattle.rules.specs.Kinds.{is, timed}
-use Rattle.rules.specs.Tree.{Tree, node, Forest, [], ◌∷◌, count}
+use Rattle.rules.specs.Tree.{Tree, node, Forest, [], ◌◂◌, count}
 use Rattle.rules.specs.Table.{good, bad, table}
 
 -- whole times go up to 2 ^ 40, of f32 to 2 ^ 20
@@ -77,31 +77,31 @@ module _ (d : ℕ) where
 
     pub first : Forest → Lim
     first [] = never
-    first (t ∷ ts) = bound t
+    first (t ◂ ts) = bound t
 
     pub empty : Forest → Lim
     empty [] = within 1
-    empty (t ∷ ts) = never
+    empty (t ◂ ts) = never
 
     pub sum : Forest → Lim
     sum [] = within 0
-    sum (t ∷ ts) = sum_l (bound t) (sum ts)
+    sum (t ◂ ts) = sum_l (bound t) (sum ts)
 
     pub largest : Forest → Lim
     largest [] = within 1
-    largest (t ∷ ts) = max_l (bound t) (largest ts)
+    largest (t ◂ ts) = max_l (bound t) (largest ts)
 
     pub smallest : Forest → Lim
     smallest [] = never
-    smallest (t ∷ ts) = min_l (bound t) (smallest ts)
+    smallest (t ◂ ts) = min_l (bound t) (smallest ts)
 
     pub first_and_largest : Forest → Lim
     first_and_largest [] = never
-    first_and_largest (t ∷ ts) = sum_l (bound t) (largest ts)
+    first_and_largest (t ◂ ts) = sum_l (bound t) (largest ts)
 
     pub first_times_sum : Forest → Lim
     first_times_sum [] = never
-    first_times_sum (t ∷ ts) = times_l (bound t) (sum ts)
+    first_times_sum (t ◂ ts) = times_l (bound t) (sum ts)
 
 -- every limit is whole and at most the cap, and no After is without children
 module _ (F : Format) where
@@ -113,7 +113,7 @@ module _ (F : Format) where
 
     pub boundables : Forest → Bool
     boundables [] = true
-    boundables (t ∷ ts) = boundable t && boundables ts
+    boundables (t ◂ ts) = boundable t && boundables ts
 
 -- the step: whole, 1 to the cap
 abbrev pub step_allowed : Format → Float → Bool

@@ -13,7 +13,7 @@ use Rattle.rules.specs.declared.answer.Answer.TheVariants.{Ticked, Asked, Finish
 use Rattle.rules.specs.declared.answer.BoundAnswer.{BoundAnswer}
 use Rattle.rules.specs.declared.answer.BoundAnswer.TheVariants.{Within, Never, NoBound}
 use Rattle.rules.specs.Kinds.{code, kind_of}
-use Rattle.rules.specs.Tree.{zero_time, new_cell, Tree, node, Forest, [], ◌∷◌, size, count}
+use Rattle.rules.specs.Tree.{zero_time, new_cell, Tree, node, Forest, [], ◌◂◌, size, count}
 use Rattle.rules.specs.Outcome.{byte, largest}
 use Rattle.rules.specs.Cells.{column}
 use Rattle.rules.specs.Call.{run, Given, Left, tick_call}
@@ -50,7 +50,7 @@ module _ {A : Type 0} (field : Kind → ℕ → Float → A) where
 
     pub fields_all : Forest → List A → List A
     fields_all [] behind = behind
-    fields_all (t ∷ ts) behind = fields t (fields_all ts behind)
+    fields_all (t ◂ ts) behind = fields t (fields_all ts behind)
 
 -- a run with a fresh cell for each node; a board
 unfoldable pub zeros : {A : Type 0} → A → Tree → List A
@@ -161,15 +161,15 @@ one t c a = ticks t (c and nil) (a and nil)
 
 -- wait for the lane and scan, give up after 2, and after 1 more send the set to rework by hand
 abbrev give_up : Tree
-give_up = of Select (timed Timeout 2 (of Sequence (act 1 ∷ act 2 ∷ []) ∷ []) ∷ timed Timeout 1 (act 3 ∷ []) ∷ [])
+give_up = of Select (timed Timeout 2 (of Sequence (act 1 ◂ act 2 ◂ []) ◂ []) ◂ timed Timeout 1 (act 3 ◂ []) ◂ [])
 
 -- its condition is looked at when the body is through
 abbrev loop : Tree
-loop = of WhileAll (wait 2 ∷ wait 3 ∷ [])
+loop = of WhileAll (wait 2 ◂ wait 3 ◂ [])
 
 -- it fails after 1
 abbrev failing : Tree
-failing = timed Timeout 1 (forever ∷ [])
+failing = timed Timeout 1 (forever ◂ [])
 
 pub cases : List Case
 cases =
@@ -178,69 +178,69 @@ cases =
     and one (of WhenAll []) (update 4) (says Success 4 1)
     and one (of WhenAny []) (update 4) (says Failure 4 1)
     and one (of After []) (update 4) (Ticked Success (largest binary64) 1 0)
-    and one (of After (wait 1 ∷ wait 1 ∷ [])) (update 3) (says Failure 2 3)
-    and one (of After (wait 1 ∷ wait 2 ∷ [])) (update 3) (says Success 1 3)
-    and one (timed Timeout 3 (wait 5 ∷ [])) (update 4) (says Failure 1 2)
-    and one (timed Timeout 3 (wait 4 ∷ [])) (update 4) (says Success 0 2)
-    and one (of While (forever ∷ wait 1 ∷ [])) (call (Update (sec 3)) 6 nil) (says Running 0 6)
-    and one (of While (forever ∷ wait 1 ∷ [])) (call (Update (sec 3)) 5 nil) OutOfFuel
-    and one (of WhileAll (wait 2 ∷ wait 0 ∷ [])) (update 1) (says Success 0 4)
-    and one (of Sequence (act 1 ∷ act 2 ∷ [])) (giving Other Success 0) (Ticked Running (sec 0) 2 1)
+    and one (of After (wait 1 ◂ wait 1 ◂ [])) (update 3) (says Failure 2 3)
+    and one (of After (wait 1 ◂ wait 2 ◂ [])) (update 3) (says Success 1 3)
+    and one (timed Timeout 3 (wait 5 ◂ [])) (update 4) (says Failure 1 2)
+    and one (timed Timeout 3 (wait 4 ◂ [])) (update 4) (says Success 0 2)
+    and one (of While (forever ◂ wait 1 ◂ [])) (call (Update (sec 3)) 6 nil) (says Running 0 6)
+    and one (of While (forever ◂ wait 1 ◂ [])) (call (Update (sec 3)) 5 nil) OutOfFuel
+    and one (of WhileAll (wait 2 ◂ wait 0 ◂ [])) (update 1) (says Success 0 4)
+    and one (of Sequence (act 1 ◂ act 2 ◂ [])) (giving Other Success 0) (Ticked Running (sec 0) 2 1)
     -- a WhileAll condition gets the whole event, not the rest
-    and one (of WhileAll (wait 2 ∷ wait 1 ∷ [])) (update 1) (says Success 0 4)
+    and one (of WhileAll (wait 2 ◂ wait 1 ◂ [])) (update 1) (says Success 0 4)
     -- a While does not move on after an other event
-    and ticks (of While (forever ∷ act 1 ∷ act 2 ∷ [])) (giving Other Success 0 and other and nil) (Ticked Running (sec 0) 3 1 and Asked 1 (sec 0) and nil)
+    and ticks (of While (forever ◂ act 1 ◂ act 2 ◂ [])) (giving Other Success 0 and other and nil) (Ticked Running (sec 0) 3 1 and Asked 1 (sec 0) and nil)
     -- an Action's answer is passed unchanged
     and one (act 1) (giving (Update (sec 1)) Running 7) (Ticked Running (sec 7) 1 1)
     -- minus zero is taken as plus zero: dt, limits and leftovers
     and one (act 1) (call (Update minus_zero) 256 nil) (Asked 1 (sec 0))
     and one (act 1) (call (Update (sec 1)) 256 ((Success, minus_zero) and nil)) (Ticked Success (sec 0) 1 1)
-    and ticks (node After 2 minus_zero new_cell 0 (node Wait 0 minus_zero new_cell 0 [] ∷ wait 5 ∷ [])) (update 1 and update 1 and nil) (says Running 0 3 and says Running 0 2 and nil)
+    and ticks (node After 2 minus_zero new_cell 0 (node Wait 0 minus_zero new_cell 0 [] ◂ wait 5 ◂ [])) (update 1 and update 1 and nil) (says Running 0 3 and says Running 0 2 and nil)
     and bound (node Wait 0 minus_zero new_cell 0 []) 1 (Within 1)
     -- finish bounds; the ticks that follow some of them need all of the bound
     and bound loop 1 (Within 6)
-    and bound (of Sequence (wait 1 ∷ loop ∷ [])) 1 (Within 7)
-    and ticks (of Sequence (wait 1 ∷ loop ∷ []))
+    and bound (of Sequence (wait 1 ◂ loop ◂ [])) 1 (Within 7)
+    and ticks (of Sequence (wait 1 ◂ loop ◂ []))
     (update 1 and update 1 and update 1 and update 1 and update 1 and update 1 and update 1 and update 1 and nil)
     (says Running 0 5 and says Running 0 3 and says Running 0 3 and says Running 0 5 and says Running 0 3 and says Running 0 3 and says Success 0 4 and Finished and nil)
     and bound give_up 1 (Within 3)
     and ticks give_up
     (giving (Update (sec 1)) Running 0 and call (Update (sec 1)) 256 ((Running, sec 0) and (Running, sec 0) and nil) and giving (Update (sec 1)) Running 0 and update 1 and nil)
     (Ticked Running (sec 0) 4 1 and Ticked Running (sec 0) 6 2 and Ticked Failure (sec 0) 3 1 and Finished and nil)
-    and bound (of Race (act 1 ∷ wait 4 ∷ [])) 2 (Within 2)
-    and bound (timed Timeout 7 (forever ∷ [])) 2 (Within 4)
-    and bound (of Select (timed Timeout 3 (forever ∷ []) ∷ timed Timeout 4 (act 1 ∷ []) ∷ [])) 1 (Within 7)
-    and bound (of WhileAll (wait 2 ∷ of WhileAll (wait 3 ∷ wait 2 ∷ []) ∷ wait 1 ∷ [])) 1 (Within 14)
-    and bound (of While (wait 5 ∷ act 1 ∷ [])) 2 (Within 3)
-    and bound (of Race (act 1 ∷ forever ∷ [])) 1 Never
-    and bound (of Sequence (wait 1 ∷ act 1 ∷ [])) 1 Never
-    and bound (of MemorylessSequence (wait 1 ∷ [])) 1 Never
+    and bound (of Race (act 1 ◂ wait 4 ◂ [])) 2 (Within 2)
+    and bound (timed Timeout 7 (forever ◂ [])) 2 (Within 4)
+    and bound (of Select (timed Timeout 3 (forever ◂ []) ◂ timed Timeout 4 (act 1 ◂ []) ◂ [])) 1 (Within 7)
+    and bound (of WhileAll (wait 2 ◂ of WhileAll (wait 3 ◂ wait 2 ◂ []) ◂ wait 1 ◂ [])) 1 (Within 14)
+    and bound (of While (wait 5 ◂ act 1 ◂ [])) 2 (Within 3)
+    and bound (of Race (act 1 ◂ forever ◂ [])) 1 Never
+    and bound (of Sequence (wait 1 ◂ act 1 ◂ [])) 1 Never
+    and bound (of MemorylessSequence (wait 1 ◂ [])) 1 Never
     and bound (of After []) 1 NoBound
     and bound (wait 1) 0 NoBound
     -- a child that has ended and is not visited any more; the nodes below it stay 0
-    and boards (of WhenAll (wait 1 ∷ wait 3 ∷ []))
+    and boards (of WhenAll (wait 1 ◂ wait 3 ◂ []))
     (update 1 and update 1 and update 1 and nil)
     ((1 and 2 and 1 and nil) and (1 and 2 and 1 and nil) and (2 and 2 and 2 and nil) and nil)
-    and boards (of WhenAny (failing ∷ forever ∷ [])) (update 1 and update 1 and nil) ((1 and 3 and 1 and 1 and nil) and (1 and 3 and 0 and 1 and nil) and nil)
-    and boards (of Select (failing ∷ forever ∷ [])) (update 1 and update 1 and nil) ((1 and 3 and 1 and 1 and nil) and (1 and 3 and 0 and 1 and nil) and nil)
-    and boards (of After (wait 1 ∷ wait 3 ∷ wait 4 ∷ [])) (update 1 and update 1 and nil) ((1 and 2 and 1 and 1 and nil) and (1 and 2 and 1 and 1 and nil) and nil)
+    and boards (of WhenAny (failing ◂ forever ◂ [])) (update 1 and update 1 and nil) ((1 and 3 and 1 and 1 and nil) and (1 and 3 and 0 and 1 and nil) and nil)
+    and boards (of Select (failing ◂ forever ◂ [])) (update 1 and update 1 and nil) ((1 and 3 and 1 and 1 and nil) and (1 and 3 and 0 and 1 and nil) and nil)
+    and boards (of After (wait 1 ◂ wait 3 ◂ wait 4 ◂ [])) (update 1 and update 1 and nil) ((1 and 2 and 1 and 1 and nil) and (1 and 2 and 1 and 1 and nil) and nil)
     -- by the cells after the tick: a Sequence that has ended under WhenAll is fresh
-    and boards (of WhenAll (of Sequence (wait 1 ∷ wait 1 ∷ []) ∷ wait 9 ∷ []))
+    and boards (of WhenAll (of Sequence (wait 1 ◂ wait 1 ◂ []) ◂ wait 9 ◂ []))
     (update 1 and update 1 and nil)
     ((1 and 1 and 2 and 1 and 1 and nil) and (1 and 2 and 0 and 2 and 1 and nil) and nil)
     -- also where its parent is not visited
-    and boards (of While (wait 2 ∷ of Sequence (wait 1 ∷ wait 9 ∷ []) ∷ []))
+    and boards (of While (wait 2 ◂ of Sequence (wait 1 ◂ wait 9 ◂ []) ◂ []))
     (update 1 and update 1 and nil)
     ((1 and 1 and 1 and 2 and 1 and nil) and (2 and 2 and 0 and 2 and 0 and nil) and nil)
     -- since when: the child left behind and the next one are made fresh, and the last keeps its number
-    and sinces (of Sequence (wait 1 ∷ wait 1 ∷ wait 1 ∷ []))
+    and sinces (of Sequence (wait 1 ◂ wait 1 ◂ wait 1 ◂ []))
     (update 1 and other and update 1 and update 1 and nil)
     ((0 and 1 and 1 and 0 and nil) and (0 and 1 and 1 and 0 and nil) and (0 and 1 and 3 and 3 and nil) and (0 and 1 and 3 and 3 and nil) and nil)
     -- a child that is marked has the number of the tick that marked it, with all below it
-    and sinces (of WhenAny (failing ∷ forever ∷ [])) (other and update 1 and update 1 and nil)
+    and sinces (of WhenAny (failing ◂ forever ◂ [])) (other and update 1 and update 1 and nil)
     ((0 and 0 and 0 and 0 and nil) and (0 and 2 and 2 and 0 and nil) and (0 and 2 and 2 and 0 and nil) and nil)
     -- memoryless children have it anew at each tick; a question leaves it
-    and sinces (of MemorylessSequence (wait 1 ∷ act 1 ∷ [])) (other and update 1 and other and nil) ((0 and 1 and 1 and nil) and (0 and 1 and 1 and nil) and (0 and 2 and 2 and nil) and nil)
+    and sinces (of MemorylessSequence (wait 1 ◂ act 1 ◂ [])) (other and update 1 and other and nil) ((0 and 1 and 1 and nil) and (0 and 1 and 1 and nil) and (0 and 2 and 2 and nil) and nil)
     and nil
 
 pub trees_to_try : map shown cases ≡ map expected cases

@@ -5,7 +5,7 @@ use Rattle.rules.specs.declared.behavior.Kind.{Kind}
 use Rattle.rules.specs.declared.behavior.Kind.TheVariants.{Wait, WaitForever, Action, Invert, AlwaysSucceed, Timeout, Select, If, Sequence}
 use Rattle.rules.specs.declared.behavior.Kind.TheVariants.{MemorylessSequence, MemorylessSelector, While, WhileAll, WhenAll, WhenAny, After, Race}
 use Rattle.rules.specs.Kinds.{timed, marks_children}
-use Rattle.rules.specs.Tree.{Cell, Tree, node, Forest, [], ◌∷◌}
+use Rattle.rules.specs.Tree.{Cell, Tree, node, Forest, [], ◌◂◌}
 use Rattle.rules.specs.Table.{zero_bits}
 
 -- a cell as it is lent; no tick goes on
@@ -27,7 +27,7 @@ unfoldable mutual
 
   pub with_cells_all : Forest → List Cell → Forest × List Cell
   with_cells_all [] cs = ([], cs)
-  with_cells_all (t ∷ ts) cs = let r = with_cells t cs in let rs = with_cells_all ts r.1 in (r.0 ∷ rs.0, rs.1)
+  with_cells_all (t ◂ ts) cs = let r = with_cells t cs in let rs = with_cells_all ts r.1 in (r.0 ◂ rs.0, rs.1)
 
 -- a field of each node in preorder, before `behind`
 module _ {A : Type 0} (field : Cell → ℕ → A) where
@@ -37,7 +37,7 @@ module _ {A : Type 0} (field : Cell → ℕ → A) where
 
     pub columns : Forest → List A → List A
     columns [] behind = behind
-    columns (t ∷ ts) behind = column t (columns ts behind)
+    columns (t ◂ ts) behind = column t (columns ts behind)
 
 abbrev pub time_of : Cell → ℕ → Float
 time_of c b = c.time
@@ -111,7 +111,7 @@ unfoldable mutual
 
   pub bad_cells : Bool → Bool → ℕ → Forest → Found
   bad_cells ended mayEnd at [] = none at
-  bad_cells ended mayEnd at (t ∷ ts) = elim (bad_cell ended mayEnd at t) [
+  bad_cells ended mayEnd at (t ◂ ts) = elim (bad_cell ended mayEnd at t) [
     | faulty p ↦ faulty p
     | none at' ↦ bad_cells ended mayEnd at' ts
   ]

@@ -8,7 +8,7 @@ use Rattle.rules.specs.declared.exchanged.Exchanged.{Exchanged}
 use Rattle.rules.specs.declared.exchanged.Exchanged.TheVariants.{Done, Finished, BadTable, BadBranch, TooShort, BadCell, NoNode, StateHeld, TooLarge, ShortRoom}
 use Rattle.rules.specs.declared.exchanged.ExchangeSaid.{ExchangeSaid}
 use Rattle.rules.specs.Kinds.{code}
-use Rattle.rules.specs.Tree.{Cell, Tree, node, Forest, [], ◌∷◌, size, sizes, depth, marked}
+use Rattle.rules.specs.Tree.{Cell, Tree, node, Forest, [], ◌◂◌, size, sizes, depth, marked}
 use Rattle.rules.specs.Table.{most_nodes, most_deep, good, bad, table}
 use Rattle.rules.specs.Cells.{cells, with_cells, faulty, none, bad_cell}
 use Rattle.rules.specs.Call.{Run, run_length}
@@ -48,7 +48,7 @@ unfoldable mutual
   -- of the trees that are the children from number i on
   pub free_in : Bool → Kind → ℕ → ℕ → ℕ → Forest → ℕ → Bool
   free_in in_spot k n place i [] p = false
-  free_in in_spot k n place i (t ∷ ts) p = cond (nat_lt p (size t))
+  free_in in_spot k n place i (t ◂ ts) p = cond (nat_lt p (size t))
       (not (marked t) && free (in_spot || spot k n place i) t p)
       (free_in in_spot k n place (suc i) ts (p - size t))
 
@@ -63,7 +63,7 @@ unfoldable mutual
 
   pub replaced_in : Forest → ℕ → Tree → Forest
   replaced_in [] p u = []
-  replaced_in (t ∷ ts) p u = cond (nat_lt p (size t)) (replaced t p u ∷ ts) (t ∷ replaced_in ts (p - size t) u)
+  replaced_in (t ◂ ts) p u = cond (nat_lt p (size t)) (replaced t p u ◂ ts) (t ◂ replaced_in ts (p - size t) u)
 
 -- how many nodes that branch has
 unfoldable mutual
@@ -75,7 +75,7 @@ unfoldable mutual
 
   pub size_in : Forest → ℕ → ℕ
   size_in [] p = 0
-  size_in (t ∷ ts) p = cond (nat_lt p (size t)) (size_at t p) (size_in ts (p - size t))
+  size_in (t ◂ ts) p = cond (nat_lt p (size t)) (size_at t p) (size_in ts (p - size t))
 
 -- ---- the call
 -- the room that is lent for a table and its cells
@@ -123,7 +123,7 @@ module _ {A : Type 0} (field : Kind → ℕ → Float → Cell → A) where
 
     pub listed_all : Forest → List A → List A
     listed_all [] behind = behind
-    listed_all (t ∷ ts) behind = listed t (listed_all ts behind)
+    listed_all (t ◂ ts) behind = listed t (listed_all ts behind)
 
 abbrev pub code_in : Kind → ℕ → Float → Cell → ℕ
 code_in k n l c = code k

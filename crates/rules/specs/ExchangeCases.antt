@@ -8,7 +8,7 @@ use Rattle.rules.specs.declared.answer.Record.{Record}
 use Rattle.rules.specs.declared.exchanged.Exchanged.{Exchanged}
 use Rattle.rules.specs.declared.exchanged.Exchanged.TheVariants.{Done, Finished, BadTable, BadBranch, TooShort, BadCell, NoNode, StateHeld, TooLarge, ShortRoom}
 use Rattle.rules.specs.Kinds.{kind_of}
-use Rattle.rules.specs.Tree.{zero_time, fresh_cell, with_time, with_place, with_mark, Tree, node, Forest, [], ◌∷◌, size, count}
+use Rattle.rules.specs.Tree.{zero_time, fresh_cell, with_time, with_place, with_mark, Tree, node, Forest, [], ◌◂◌, size, count}
 use Rattle.rules.specs.Call.{run}
 use Rattle.rules.specs.Exchange.{free, Room, room, GivenExchange, given_exchange, left_exchange, exchange_call, listed, code_in, number_in, limit_in, time_in, place_in, mark_in}
 
@@ -38,7 +38,7 @@ abbrev stood : Kind → ℕ → Forest → Tree
 stood k p ts = node k (count ts) zero_time (with_place p fresh_cell) 0 ts
 
 abbrev three : Forest
-three = wait 1 ∷ wait 2 ∷ wait 3 ∷ []
+three = wait 1 ◂ wait 2 ◂ wait 3 ◂ []
 
 -- ---- whether each node may be exchanged, in preorder
 abbrev places : ℕ → ℕ → List ℕ
@@ -59,8 +59,8 @@ cases =
     (stood Sequence 0 three, 0 and 0 and 1 and 1 and nil)
     and (stood Sequence 1 three, 0 and 1 and 0 and 1 and nil)
     and (stood Sequence 3 three, 0 and 1 and 1 and 0 and nil)
-    and (stood Select 1 (wait 1 ∷ wait 2 ∷ []), 0 and 1 and 0 and nil)
-    and (stood Select 2 (wait 1 ∷ wait 2 ∷ []), 0 and 1 and 0 and nil)
+    and (stood Select 1 (wait 1 ◂ wait 2 ◂ []), 0 and 1 and 0 and nil)
+    and (stood Select 2 (wait 1 ◂ wait 2 ◂ []), 0 and 1 and 0 and nil)
     -- an If decides, or has chosen a branch
     and (stood If 0 three, 0 and 0 and 1 and 1 and nil)
     and (stood If 1 three, 0 and 1 and 0 and 1 and nil)
@@ -73,15 +73,15 @@ cases =
     and (stood WhileAll 2 three, 0 and 0 and 1 and 0 and nil)
     -- no spot in the others
     and (wait 1, 0 and nil)
-    and (stood Invert 0 (wait 1 ∷ []), 0 and 0 and nil)
-    and (stood MemorylessSequence 0 (wait 1 ∷ wait 2 ∷ []), 0 and 0 and 0 and nil)
-    and (stood WhenAll 0 (wait 1 ∷ wait 2 ∷ []), 0 and 0 and 0 and nil)
-    and (stood After 1 (wait 1 ∷ wait 2 ∷ []), 0 and 0 and 0 and nil)
-    and (stood Race 0 (wait 1 ∷ wait 2 ∷ []), 0 and 0 and 0 and nil)
+    and (stood Invert 0 (wait 1 ◂ []), 0 and 0 and nil)
+    and (stood MemorylessSequence 0 (wait 1 ◂ wait 2 ◂ []), 0 and 0 and 0 and nil)
+    and (stood WhenAll 0 (wait 1 ◂ wait 2 ◂ []), 0 and 0 and 0 and nil)
+    and (stood After 1 (wait 1 ◂ wait 2 ◂ []), 0 and 0 and 0 and nil)
+    and (stood Race 0 (wait 1 ◂ wait 2 ◂ []), 0 and 0 and 0 and nil)
     -- anywhere below a spot, but in no marked child
-    and (stood Sequence 1 (stood WhenAll 0 (ended ∷ wait 1 ∷ []) ∷ wait 2 ∷ []), 0 and 1 and 0 and 1 and 0 and nil)
-    and (stood WhenAny 0 (ended ∷ stood Sequence 0 (wait 1 ∷ wait 2 ∷ []) ∷ []), 0 and 0 and 0 and 0 and 1 and nil)
-    and (stood Sequence 0 (stood Sequence 0 (wait 1 ∷ wait 2 ∷ []) ∷ wait 3 ∷ []), 0 and 0 and 0 and 1 and 1 and nil)
+    and (stood Sequence 1 (stood WhenAll 0 (ended ◂ wait 1 ◂ []) ◂ wait 2 ◂ []), 0 and 1 and 0 and 1 and 0 and nil)
+    and (stood WhenAny 0 (ended ◂ stood Sequence 0 (wait 1 ◂ wait 2 ◂ []) ◂ []), 0 and 0 and 0 and 0 and 1 and nil)
+    and (stood Sequence 0 (stood Sequence 0 (wait 1 ◂ wait 2 ◂ []) ◂ wait 3 ◂ []), 0 and 0 and 0 and 1 and 1 and nil)
     and nil
 
 pub spots : map (λ c. frees c.0) cases ≡ map (λ c. c.1) cases
@@ -90,10 +90,10 @@ spots = refl
 
 -- ---- calls: the tree's table and cells, with numbers of its own, and room for so many nodes
 abbrev line : Tree
-line = stood Sequence 1 (wait 1 ∷ waited 4 ∷ wait 3 ∷ wait 5 ∷ [])
+line = stood Sequence 1 (wait 1 ◂ waited 4 ◂ wait 3 ◂ wait 5 ◂ [])
 
 abbrev lane : Tree
-lane = stood Select 0 (wait 7 ∷ wait 8 ∷ [])
+lane = stood Select 0 (wait 7 ◂ wait 8 ◂ [])
 
 abbrev many : {A : Type 0} → ℕ → A → List A
 many zero a = List.[]
@@ -129,7 +129,7 @@ says g = (exchange_call g).answer
 
 abbrev inverts : ℕ → Tree
 inverts zero = wait 1
-inverts (suc n) = stood Invert 0 (inverts n ∷ [])
+inverts (suc n) = stood Invert 0 (inverts n ◂ [])
 
 abbrev answers : List (Exchanged × Exchanged)
 answers =
@@ -137,8 +137,8 @@ answers =
     and (says (exchanging true line 3 lane 7), Finished)
     and (says (exchanging false (stood Sequence 1 []) 3 lane 7), BadTable 0)
     and (says (exchanging false line 3 (stood Sequence 0 []) 7), BadBranch 0)
-    and (says (exchanging false (stood Sequence 0 (wait 1 ∷ wait 1 ∷ wait 1 ∷ wait 1 ∷ wait 1 ∷ [])) 3 lane 9), TooShort)
-    and (says (exchanging false (stood Sequence 1 (stood While 9 three ∷ [])) 9 lane 7), BadCell 1)
+    and (says (exchanging false (stood Sequence 0 (wait 1 ◂ wait 1 ◂ wait 1 ◂ wait 1 ◂ wait 1 ◂ [])) 3 lane 9), TooShort)
+    and (says (exchanging false (stood Sequence 1 (stood While 9 three ◂ [])) 9 lane 7), BadCell 1)
     and (says (exchanging false line 5 lane 7), NoNode)
     and (says (exchanging false line 2 lane 7), StateHeld)
     and (says (exchanging false line 0 lane 7), StateHeld)

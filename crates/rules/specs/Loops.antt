@@ -3,7 +3,7 @@ use Rattle.std.specs.Prelude.{ℕ, zero, suc, cond, nat_lt}
 use Rattle.rules.specs.declared.status.Status.TheVariants.{Running, Success, Failure}
 use Rattle.rules.specs.declared.event.Event.{Event}
 use Rattle.rules.specs.declared.event.Event.TheVariants.{Update, Other}
-use Rattle.rules.specs.Tree.{Tree, Forest, [], ◌∷◌, fresh, count}
+use Rattle.rules.specs.Tree.{Tree, Forest, [], ◌◂◌, fresh, count}
 use Rattle.rules.specs.Outcome.{rest, World, world, Out, done, short, Ticker, ◌▸◌, waiting}
 
 abbrev pub budget : World → ℕ
@@ -11,18 +11,18 @@ budget (world f ans) = suc f
 
 abbrev pub nth : ℕ → Forest → Out Tree → (Tree → Out Tree) → Out Tree
 nth p [] o k = o
-nth zero (t ∷ ts) o k = k t
-nth (suc p) (t ∷ ts) o k = nth p ts o k
+nth zero (t ◂ ts) o k = k t
+nth (suc p) (t ◂ ts) o k = nth p ts o k
 
 abbrev pub put : ℕ → Tree → Forest → Forest
 put p u [] = []
-put zero u (t ∷ ts) = u ∷ ts
-put (suc p) u (t ∷ ts) = t ∷ put p u ts
+put zero u (t ◂ ts) = u ◂ ts
+put (suc p) u (t ◂ ts) = t ◂ put p u ts
 
 abbrev pub fresh_at : ℕ → Forest → Forest
 fresh_at p [] = []
-fresh_at zero (t ∷ ts) = fresh t ∷ ts
-fresh_at (suc p) (t ∷ ts) = t ∷ fresh_at p ts
+fresh_at zero (t ◂ ts) = fresh t ◂ ts
+fresh_at (suc p) (t ◂ ts) = t ◂ fresh_at p ts
 
 -- the next body index, after the last 0
 abbrev pub next : ℕ → Forest → ℕ
@@ -56,11 +56,11 @@ module _ (child : Ticker) where
   while_all zero whole p e c ts w = short
   while_all (suc budget) whole zero e c ts w = child c whole w ▸ λ s r c' w'. elim s [
     | Running ↦ while_all budget whole 1 e c' ts w'
-    | Success ↦ done Success r (1, c' ∷ ts) w'
-    | Failure ↦ done Failure r (1, c' ∷ ts) w'
+    | Success ↦ done Success r (1, c' ◂ ts) w'
+    | Failure ↦ done Failure r (1, c' ◂ ts) w'
   ]
   while_all (suc budget) whole (suc p) e c ts w = child_at p e ts w ▸ λ s r t' w'. elim s [
-    | Running ↦ waiting (suc p, c ∷ put p t' ts) w'
-    | Failure ↦ done Failure r (suc p, c ∷ put p t' ts) w'
+    | Running ↦ waiting (suc p, c ◂ put p t' ts) w'
+    | Failure ↦ done Failure r (suc p, c ◂ put p t' ts) w'
     | Success ↦ while_all budget whole (cond (nat_lt (suc p) (count ts)) (suc (suc p)) 0) (rest r e) c (moved p t' ts) w'
   ]

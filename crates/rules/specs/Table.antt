@@ -4,7 +4,7 @@ use Rattle.std.specs.Prelude.{ℕ, zero, suc, Bool, false, cond, not, ◌&&◌, 
 use Rattle.std.specs.Float.{nan, inf, fin}
 use Rattle.rules.specs.declared.behavior.Kind.{Kind}
 use Rattle.rules.specs.Kinds.{kind_of, fewest, most, children, timed}
-use Rattle.rules.specs.Tree.{zero_time, new_cell, Tree, node, Forest, [], ◌∷◌}
+use Rattle.rules.specs.Tree.{zero_time, new_cell, Tree, node, Forest, [], ◌◂◌}
 
 abbrev pub most_nodes : ℕ
 most_nodes = 256
@@ -67,7 +67,7 @@ module _ (readChild : ℕ → List Row → Read Tree) where
   -- n trees, one behind the other
   unfoldable pub read_children : ℕ → ℕ → List Row → Read Forest
   read_children zero at rs = got [] at rs
-  read_children (suc n) at rs = readChild at rs and_then λ t at' rs'. read_children n at' rs' and_then λ ts at'' rs''. got (t ∷ ts) at'' rs''
+  read_children (suc n) at rs = readChild at rs and_then λ t at' rs'. read_children n at' rs' and_then λ ts at'' rs''. got (t ◂ ts) at'' rs''
 
 -- the tree that begins at a place, with `deep` levels left; its cells are those of a new tree
 unfoldable pub read_tree : ℕ → ℕ → List Row → Read Tree

@@ -34,7 +34,7 @@ fresh_cell = zero_cell true
 abbrev pub new_cell : Cell
 new_cell = zero_cell false
 
-infixr 50 ◌∷◌
+infixr 50 ◌◂◌
 -- node KIND N LIMIT CELL BOARD CHILDREN
 mutual
   pub data Tree : Type 0 where
@@ -42,7 +42,7 @@ mutual
 
   pub data Forest : Type 0 where
     [] : Forest
-    ◌∷◌ : Tree → Forest → Forest
+    ◌◂◌ : Tree → Forest → Forest
 
 -- "Make fresh" covers a whole subtree; the board stays
 unfoldable mutual
@@ -51,7 +51,7 @@ unfoldable mutual
 
   pub fresh_all : Forest → Forest
   fresh_all [] = []
-  fresh_all (t ∷ ts) = fresh t ∷ fresh_all ts
+  fresh_all (t ◂ ts) = fresh t ◂ fresh_all ts
 
 unfoldable mutual
   pub size : Tree → ℕ
@@ -59,7 +59,7 @@ unfoldable mutual
 
   pub sizes : Forest → ℕ
   sizes [] = 0
-  sizes (t ∷ ts) = size t + sizes ts
+  sizes (t ◂ ts) = size t + sizes ts
 
 -- how deep a tree is; the root is 1
 unfoldable mutual
@@ -68,11 +68,11 @@ unfoldable mutual
 
   pub depths : Forest → ℕ
   depths [] = 0
-  depths (t ∷ ts) = max (depth t) (depths ts)
+  depths (t ◂ ts) = max (depth t) (depths ts)
 
 abbrev pub count : Forest → ℕ
 count [] = 0
-count (t ∷ ts) = suc (count ts)
+count (t ◂ ts) = suc (count ts)
 
 -- the mark of a child of WhenAll and WhenAny that has ended
 abbrev pub marked : Tree → Bool

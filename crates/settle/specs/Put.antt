@@ -3,7 +3,7 @@ use Rattle.std.specs.Prelude.{◌≡◌, Bool, List, map, ◌++◌, ℕ, ◌+◌
 use Rattle.std.proofs.Common.{ap, ◌∙◌, append-nil, add-zero, zero-add, suc-add, add_assoc, arith}
 use Rattle.rules.specs.declared.behavior.Kind.{Kind}
 use Rattle.rules.specs.Kinds.{code}
-use Rattle.rules.specs.Tree.{Cell, Tree, node, Forest, [], ◌∷◌, size, sizes}
+use Rattle.rules.specs.Tree.{Cell, Tree, node, Forest, [], ◌◂◌, size, sizes}
 use Rattle.rules.specs.Cells.{column, columns, board_of}
 use Rattle.rules.specs.Cells as in_cell
 use Rattle.rules.specs.Call.{stamped}
@@ -29,7 +29,7 @@ module _ {A : Type 0} (f : ℕ → A) (g : Cell → ℕ → A)
     put_trees : (ts : Forest) (n : ℕ) (post : List ℕ) (rest : List A) → FitsAll ts → sizes ts ≤ 256
         → map f (take (sizes ts + n) (words_all ts post)) ++ rest ≡ columns g ts (map f (take n post) ++ rest)
     put_trees [] n post rest v h = rw (zero-add n)
-    put_trees (t ∷ ts) n post rest v h =
+    put_trees (t ◂ ts) n post rest v h =
         rw (add_assoc (size t) (sizes ts) n)
         (put_tree t (sizes ts + n) (words_all ts post) rest v.0 (omega arith) ∙ ap (λ (l : List A). column g t l) (put_trees ts n post rest v.1 (omega arith)))
 

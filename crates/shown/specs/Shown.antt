@@ -10,7 +10,7 @@ use Rattle.rules.specs.declared.behavior.Kind.TheVariants.{Wait, WaitForever, Ac
 use Rattle.rules.specs.declared.behavior.Kind.TheVariants.{Select, If, Sequence, MemorylessSequence, MemorylessSelector}
 use Rattle.rules.specs.declared.behavior.Kind.TheVariants.{While, WhileAll, WhenAll, WhenAny, After, Race}
 use Rattle.rules.specs.Kinds.{code}
-use Rattle.rules.specs.Tree.{Cell, Tree, node, Forest, [], ◌∷◌, size, sizes, count, marked}
+use Rattle.rules.specs.Tree.{Cell, Tree, node, Forest, [], ◌◂◌, size, sizes, count, marked}
 use Rattle.rules.specs.Cells.{column, columns}
 use Rattle.rules.specs.Cells as in_cell
 use Rattle.rules.specs.Board.{shows, shown_as, shown_from, shown}
@@ -32,12 +32,12 @@ mutual
 
   sizes_shown : (k : Kind) (p i : ℕ) (ts : Forest) → sizes (shown_from k p i ts) ≡ sizes ts
   sizes_shown k p i [] = refl
-  sizes_shown k p i (t ∷ ts) = λ j. size_shown (shows k p i t) t j + sizes_shown k p (suc i) ts j
+  sizes_shown k p i (t ◂ ts) = λ j. size_shown (shows k p i t) t j + sizes_shown k p (suc i) ts j
 
 count_shown : (k : Kind) (p i : ℕ) (ts : Forest) → count (shown_from k p i ts) ≡ count ts
 unfolding shown_as
 count_shown k p i [] = refl
-count_shown k p i (t ∷ ts) = ap (λ (z : ℕ). suc z) (count_shown k p (suc i) ts)
+count_shown k p i (t ◂ ts) = ap (λ (z : ℕ). suc z) (count_shown k p (suc i) ts)
 
 mutual
   unfolding shown_as Fits
@@ -47,7 +47,7 @@ mutual
 
   fit_shown : (k : Kind) (p i : ℕ) (ts : Forest) → FitsAll ts → FitsAll (shown_from k p i ts)
   fit_shown k p i [] v = tt
-  fit_shown k p i (t ∷ ts) v = (fits_shown (shows k p i t) t v.0, fit_shown k p (suc i) ts v.1)
+  fit_shown k p i (t ◂ ts) v = (fits_shown (shows k p i t) t v.0, fit_shown k p (suc i) ts v.1)
 
 -- a field that is no field of the board
 module _ {A : Type 0} (field : Cell → ℕ → A) (of-cell : (c : Cell) (b b' : ℕ) → field c b ≡ field c b') where
@@ -59,7 +59,7 @@ module _ {A : Type 0} (field : Cell → ℕ → A) (of-cell : (c : Cell) (b b' :
 
     columns_shown : (k : Kind) (p i : ℕ) (ts : Forest) (behind : List A) → columns field (shown_from k p i ts) behind ≡ columns field ts behind
     columns_shown k p i [] behind = refl
-    columns_shown k p i (t ∷ ts) behind =
+    columns_shown k p i (t ◂ ts) behind =
         column_shown (shows k p i t) t (columns field (shown_from k p (suc i) ts) behind) ∙ ap (λ (l : List A). column field t l) (columns_shown k p (suc i) ts behind)
 
 place_kept : (c : Cell) (b b' : ℕ) → in_cell.place_of c b ≡ in_cell.place_of c b'
@@ -83,7 +83,7 @@ top s (node k n l c b ts) = node k n l c (cond (eqb b 0) s b) ts
 
 abbrev tops : (ℕ → Tree → ℕ) → ℕ → Forest → Forest
 tops f i [] = []
-tops f i (t ∷ ts) = top (f i t) t ∷ tops f (suc i) ts
+tops f i (t ◂ ts) = top (f i t) t ◂ tops f (suc i) ts
 
 unseen : (b : ℕ) → cond (eqb b 0) 0 b ≡ b
 unseen zero = refl
@@ -94,13 +94,13 @@ top_none (node k n l c b ts) = ap (λ (z : ℕ). node k n l c z ts) (unseen b)
 
 tops_none : (f : ℕ → Tree → ℕ) (i : ℕ) (ts : Forest) → ((j : ℕ) (t : Tree) → i ≤ j → f j t ≡ 0) → tops f i ts ≡ ts
 tops_none f i [] h = refl
-tops_none f i (t ∷ ts) h = rw (h i t (omega arith)) λ j. top_none t j ∷ tops_none f (suc i) ts (λ o u g. h o u (omega arith)) j
+tops_none f i (t ◂ ts) h = rw (h i t (omega arith)) λ j. top_none t j ◂ tops_none f (suc i) ts (λ o u g. h o u (omega arith)) j
 
 -- so many children from the first on, of which each shows what f says of it, if it was not visited
 abbrev firsts : (Tree → ℕ) → ℕ → Forest → Forest
 firsts f zero ts = ts
 firsts f (suc k) [] = []
-firsts f (suc k) (t ∷ ts) = top (f t) t ∷ firsts f k ts
+firsts f (suc k) (t ◂ ts) = top (f t) t ◂ firsts f k ts
 
 -- what is done at a child puts there what f says of it
 abbrev Puts : (Tree → ℕ) → (ℕ → ℕ → List ℕ → List ℕ) → Type 0
@@ -161,7 +161,7 @@ module _ (f : Tree → ℕ) (at : ℕ → ℕ → List ℕ → List ℕ) (puts :
   unfolding each_from run size Fits
   each_firsts zero ts pre post q stop h e j v = refl
   each_firsts (suc many) [] pre post q stop h e j v = rw (le-leb stop q (omega arith))
-  each_firsts (suc many) (t ∷ ts) pre post q stop h e j v =
+  each_firsts (suc many) (t ◂ ts) pre post q stop h e j v =
       let t' = top (f t) t in
       rw (
         lt-leb stop q (omega (arith, size_some t)),
@@ -176,9 +176,9 @@ module _ (f : Tree → ℕ) (at : ℕ → ℕ → List ℕ → List ℕ) (puts :
 -- ---- which children these are, by the kind of the node
 every : (f : Tree → ℕ) (many i : ℕ) (ts : Forest) → count ts ≤ many → firsts f many ts ≡ tops (λ i t. f t) i ts
 every f zero i [] h = refl
-every f zero i (t ∷ ts) h = absurd (omega arith)
+every f zero i (t ◂ ts) h = absurd (omega arith)
 every f (suc many) i [] h = refl
-every f (suc many) i (t ∷ ts) h = ap (λ (us : Forest). top (f t) t ∷ us) (every f many (suc i) ts (omega arith))
+every f (suc many) i (t ◂ ts) h = ap (λ (us : Forest). top (f t) t ◂ us) (every f many (suc i) ts (omega arith))
 
 before_place : (s p : ℕ) (ts : Forest) → firsts (λ t. s) p ts ≡ tops (λ i t. cond (ltb i p) s 0) 0 ts
 before_place s p ts = go p 0 ts (omega arith)
@@ -186,7 +186,7 @@ before_place s p ts = go p 0 ts (omega arith)
     go : (many i : ℕ) (ts : Forest) → p - i ≡ many → firsts (λ t. s) many ts ≡ tops (λ i t. cond (ltb i p) s 0) i ts
     go zero i ts e = sym (tops_none (λ i t. cond (ltb i p) s 0) i ts (λ j t g. rw (le-ltb j p (omega arith))))
     go (suc many) i [] e = refl
-    go (suc many) i (t ∷ ts) e = rw (lt-ltb i p (omega arith)) (ap (λ (us : Forest). top s t ∷ us) (go many (suc i) ts (omega arith)))
+    go (suc many) i (t ◂ ts) e = rw (lt-ltb i p (omega arith)) (ap (λ (us : Forest). top s t ◂ us) (go many (suc i) ts (omega arith)))
 
 module _ (n : ℕ) (l : Float) (c : Cell) (b : ℕ) (ts : Forest) (pre post : List ℕ) (q : ℕ)
     (h : length pre ≡ q) (fit : (c.place ≤ count ts) × (c.mark < 2)) (v : FitsAll ts) (room : q + suc (sizes ts) ≤ 256) where
@@ -232,7 +232,7 @@ module _ (n : ℕ) (l : Float) (c : Cell) (b : ℕ) (ts : Forest) (pre post : Li
   none_at_all : (us : Forest) (f : ℕ → Tree → ℕ) → sizes us ≡ 0 → us ≡ tops f 0 us
   unfolding size
   none_at_all [] f e = refl
-  none_at_all (t ∷ us) f e = absurd (let z = size_some t in omega arith)
+  none_at_all (t ◂ us) f e = absurd (let z = size_some t in omega arith)
 
   by_kind : (k : Kind) (z : ℕ) → sizes ts ≡ z → cond (eqb z 0) (array k ts) (ended_under k c.place q (array k ts)) ≡ array k (tops (shows k c.place) 0 ts)
   by_kind k zero e = ap (λ (us : Forest). array k us) (none_at_all ts (shows k c.place) e)
@@ -267,7 +267,7 @@ mutual
   forest_ended : (k : Kind) (p i : ℕ) (ts : Forest) (pre post : List ℕ) (q : ℕ) → length pre ≡ q → FitsAll ts → q + sizes ts ≤ 256
       → ended_words q (sizes ts) (reverse_aux pre (runs word_of (tops (shows k p) i ts) post)) ≡ reverse_aux pre (runs word_of (shown_from k p i ts) post)
   forest_ended k p i [] pre post q h v room = refl
-  forest_ended k p i (t ∷ ts) pre post q h v room =
+  forest_ended k p i (t ◂ ts) pre post q h v room =
       let s = shows k p i t in
       rw (
         ended_add (size t) (sizes ts) q (reverse_aux pre (run word_of (top s t) (runs word_of (tops (shows k p) (suc i) ts) post))),

@@ -7,7 +7,7 @@ use native.Mathlib.Omega.{arith}
 use lib.Dec.{ltb}
 use lib.Ieee.{Float}
 use Rattle.rules.specs.Kinds.{kind_of, children}
-use Rattle.rules.specs.Tree.{new_cell, Tree, node, Forest, ◌∷◌, depth, depths}
+use Rattle.rules.specs.Tree.{new_cell, Tree, node, Forest, ◌◂◌, depth, depths}
 use Rattle.rules.specs.Table.{row, row_allowed, Row, Read, got, fault, ◌and_then◌, read_children, read_tree}
 
 abbrev Bounded : ℕ → Read Tree → Type 0
@@ -19,7 +19,7 @@ BoundedAll d (got ts at rs) = depths ts ≤ d
 BoundedAll d (fault p) = Unit {0}
 
 module _ (d : ℕ) where
-  more : (t : Tree) → depth t ≤ d → (r : Read Forest) → BoundedAll d r → BoundedAll d (r and_then λ ts at rs. got (t ∷ ts) at rs)
+  more : (t : Tree) → depth t ≤ d → (r : Read Forest) → BoundedAll d r → BoundedAll d (r and_then λ ts at rs. got (t ◂ ts) at rs)
   unfolding depth
   more t h (got ts at rs) b = omega arith
   more t h (fault p) b = tt
@@ -27,7 +27,7 @@ module _ (d : ℕ) where
   each :
       (r : Read Tree) (rest : ℕ → List Row → Read Forest) → Bounded d r →
       ((at : ℕ) (rs : List Row) → BoundedAll d (rest at rs)) →
-      BoundedAll d (r and_then λ t at rs. rest at rs and_then λ ts at' rs'. got (t ∷ ts) at' rs')
+      BoundedAll d (r and_then λ t at rs. rest at rs and_then λ ts at' rs'. got (t ◂ ts) at' rs')
   each (got t at rs) rest b h = more t b (rest at rs) (h at rs)
   each (fault p) rest b h = tt
 

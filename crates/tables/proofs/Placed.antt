@@ -5,7 +5,7 @@ use Prim.Native.Nat.{ℕ, suc, ◌+◌, ◌≤◌, ◌<◌}
 use native.Mathlib.Omega.{arith}
 use lib.Ieee.{Float}
 use lib.ListN.{get_or}
-use Rattle.rules.specs.Tree.{Tree, node, Forest, [], ◌∷◌, size, sizes}
+use Rattle.rules.specs.Tree.{Tree, node, Forest, [], ◌◂◌, size, sizes}
 use Rattle.tables.specs.At.{At, Ats}
 
 pub size_pos : (t : Tree) → 0 < size t
@@ -29,7 +29,7 @@ module _ (kinds ns : List ℕ) (limits : List Float) where
 
     pub ats_end : (ts : Forest) (ends : List ℕ) (q stop : ℕ) → Ats kinds ns limits ends q ts stop → stop ≡ q + sizes ts
     ats_end [] ends q stop h = omega arith
-    ats_end (t ∷ ts) ends q stop h = omega (arith, at_end t ends q h.0, ats_end ts ends (get_or ends q 0) stop h.1)
+    ats_end (t ◂ ts) ends q stop h = omega (arith, at_end t ends q h.0, ats_end ts ends (get_or ends q 0) stop h.1)
 
   module _ (ends ends' : List ℕ) where
     mutual
@@ -44,7 +44,7 @@ module _ (kinds ns : List ℕ) (limits : List Float) where
 
       pub ats_keeps : (ts : Forest) (q stop : ℕ) → Ats kinds ns limits ends q ts stop → Same ends ends' q stop → Ats kinds ns limits ends' q ts stop
       ats_keeps [] q stop h same = h
-      ats_keeps (t ∷ ts) q stop h same =
+      ats_keeps (t ◂ ts) q stop h same =
           let e = at_end t ends q h.0 in
           let f = ats_end ts ends (get_or ends q 0) stop h.1 in
           let p = size_pos t in

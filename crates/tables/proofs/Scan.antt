@@ -12,7 +12,7 @@ use lib.ListN.{length, get_or, set, drop, drop_of_length-le}
 use lib.Seq.{get_or-set_same, get_or-set_other}
 use Rattle.rules.specs.declared.behavior.Kind.{Kind}
 use Rattle.rules.specs.Kinds.{kind_of, children}
-use Rattle.rules.specs.Tree.{zero_time, new_cell, Tree, node, Forest, [], ◌∷◌, size, count}
+use Rattle.rules.specs.Tree.{zero_time, new_cell, Tree, node, Forest, [], ◌◂◌, size, count}
 use Rattle.rules.specs.Table.{cleaned, row, rows, row_allowed, Read, got, fault, ◌and_then◌, read_children, read_tree}
 use Rattle.rules.specs.Table as T
 use Rattle.tables.specs.At.{Row, At, Ats}
@@ -38,11 +38,11 @@ pub data Frame : Type 0 where
 
 abbrev pub onto : Forest → Forest → Forest
 onto [] ts = ts
-onto (t ∷ kids) ts = onto kids (t ∷ ts)
+onto (t ◂ kids) ts = onto kids (t ◂ ts)
 
 count_onto : (kids ts : Forest) → count (onto kids ts) ≡ count kids + count ts
 count_onto [] ts = omega arith
-count_onto (t ∷ kids) ts = omega (arith, count_onto kids (t ∷ ts))
+count_onto (t ◂ kids) ts = omega (arith, count_onto kids (t ◂ ts))
 
 -- a node as a table makes it
 abbrev pub made : Kind → ℕ → Float → Forest → Tree
@@ -52,7 +52,7 @@ made k n l ts = node k n l new_cell 0 ts
 unfoldable resume : ℕ → List Frame → Read Tree → Read Tree
 resume d List.[] r = r
 resume d (List.◌∷◌ (frame p k n l kids m) σ) r =
-    resume (suc d) σ (r and_then λ t at rs. read_children (read_tree d) m at rs and_then λ ts at' rs'. got (made k n l (onto kids (t ∷ ts))) at' rs')
+    resume (suc d) σ (r and_then λ t at rs. read_children (read_tree d) m at rs and_then λ ts at' rs'. got (made k n l (onto kids (t ◂ ts))) at' rs')
 
 resume_fault : (d : ℕ) (σ : List Frame) (p : ℕ) → resume d σ (fault p) ≡ fault p
 unfolding resume
@@ -62,14 +62,14 @@ resume_fault d (List.◌∷◌ (frame q k n l kids m) σ) p = resume_fault (suc 
 module _ (mk : Forest → Tree) where
   one_more :
       (t : Tree) (r : Read Forest) →
-      ((r and_then λ ts at rs. got (t ∷ ts) at rs) and_then λ ts at rs. got (mk ts) at rs) ≡ (r and_then λ ts at rs. got (mk (t ∷ ts)) at rs)
+      ((r and_then λ ts at rs. got (t ◂ ts) at rs) and_then λ ts at rs. got (mk ts) at rs) ≡ (r and_then λ ts at rs. got (mk (t ◂ ts)) at rs)
   one_more t (got ts at rs) = refl
   one_more t (fault p) = refl
 
   regroup :
       (r : Read Tree) (rest : ℕ → List T.Row → Read Forest) →
-      ((r and_then λ t at rs. rest at rs and_then λ ts at' rs'. got (t ∷ ts) at' rs') and_then λ ts at rs. got (mk ts) at rs) ≡
-      (r and_then λ t at rs. rest at rs and_then λ ts at' rs'. got (mk (t ∷ ts)) at' rs')
+      ((r and_then λ t at rs. rest at rs and_then λ ts at' rs'. got (t ◂ ts) at' rs') and_then λ ts at rs. got (mk ts) at rs) ≡
+      (r and_then λ t at rs. rest at rs and_then λ ts at' rs'. got (mk (t ◂ ts)) at' rs')
   regroup (got t at rs) rest = one_more t (rest at rs)
   regroup (fault p) rest = refl
 
@@ -99,14 +99,14 @@ module _ (d p : ℕ) (k : Kind) (n : ℕ) (l : Float) (kids : Forest) (σ : List
   next :
       (m : ℕ) →
       resume d (List.◌∷◌ (frame p k n l kids (suc m)) σ) (got t at rs) ≡
-      resume d (List.◌∷◌ (frame p k n l (t ∷ kids) m) σ) (read_tree d at rs)
+      resume d (List.◌∷◌ (frame p k n l (t ◂ kids) m) σ) (read_tree d at rs)
   unfolding read_tree read_children resume
   next m =
-      ap (resume (suc d) σ) (regroup (λ ts. made k n l (onto kids (t ∷ ts))) (read_tree d at rs) (read_children (read_tree d) m))
+      ap (resume (suc d) σ) (regroup (λ ts. made k n l (onto kids (t ◂ ts))) (read_tree d at rs) (read_children (read_tree d) m))
 
   close :
       resume d (List.◌∷◌ (frame p k n l kids 0) σ) (got t at rs) ≡
-      resume (suc d) σ (got (made k n l (onto kids (t ∷ []))) at rs)
+      resume (suc d) σ (got (made k n l (onto kids (t ◂ []))) at rs)
   unfolding read_children resume
   close = refl
 
@@ -114,7 +114,7 @@ module _ (d p : ℕ) (k : Kind) (n : ℕ) (l : Float) (kids : Forest) (σ : List
 module _ (kinds ns : List ℕ) (limits : List Float) where
   abbrev Behind : List ℕ → ℕ → Forest → ℕ → Type 0
   Behind ends q [] stop = q ≡ stop
-  Behind ends q (t ∷ kids) stop =
+  Behind ends q (t ◂ kids) stop =
       (s : ℕ) × (Behind ends q kids s × (At kinds ns limits ends s t × (get_or ends s 0 ≡ stop)))
 
   -- the innermost owes `left` children behind the next one, and `owed` has for each node what is owed around it
@@ -132,7 +132,7 @@ module _ (kinds ns : List ℕ) (limits : List Float) where
 
   behind_le : (kids : Forest) (ends : List ℕ) (q stop : ℕ) → Behind ends q kids stop → q ≤ stop
   behind_le [] ends q stop h = omega arith
-  behind_le (t ∷ kids) ends q stop (s, (b, (a, e))) =
+  behind_le (t ◂ kids) ends q stop (s, (b, (a, e))) =
       omega (arith, behind_le kids ends q s b, at_end kinds ns limits t ends s a)
 
   behind_ats :
@@ -140,15 +140,15 @@ module _ (kinds ns : List ℕ) (limits : List Float) where
       Behind ends q kids s → Ats kinds ns limits ends s ts stop →
       Ats kinds ns limits ends q (onto kids ts) stop
   behind_ats [] ts ends q s stop b h = subst (λ (x : ℕ). Ats kinds ns limits ends x ts stop) (sym b) h
-  behind_ats (t ∷ kids) ts ends q s stop (s', (b, (a, e))) h =
-      behind_ats kids (t ∷ ts) ends q s' stop b (a, subst (λ (x : ℕ). Ats kinds ns limits ends x ts stop) (sym e) h)
+  behind_ats (t ◂ kids) ts ends q s stop (s', (b, (a, e))) h =
+      behind_ats kids (t ◂ ts) ends q s' stop b (a, subst (λ (x : ℕ). Ats kinds ns limits ends x ts stop) (sym e) h)
 
   module _ (ends ends' : List ℕ) where
     behind_keeps :
         (kids : Forest) (q stop : ℕ) → Behind ends q kids stop → Same ends ends' q stop →
         Behind ends' q kids stop
     behind_keeps [] q stop h same = h
-    behind_keeps (t ∷ kids) q stop (s, (b, (a, e))) same =
+    behind_keeps (t ◂ kids) q stop (s, (b, (a, e))) same =
         let le = behind_le kids ends q s b in
         let to = at_end kinds ns limits t ends s a in
         let pos = size_pos t in
@@ -333,13 +333,13 @@ module _ (kinds ns : List ℕ) (limits : List Float) where
   Nexts Q P at = (p : ℕ) (k : Kind) (n : ℕ) (l : Float) (kids : Forest) (m m' : ℕ) (σ : List Frame) (t : Tree) (q : ℕ)
       → at ≡ q + size t
       → Q t q (List.◌∷◌ (frame p k n l kids m) σ)
-      → P (List.◌∷◌ (frame p k n l (t ∷ kids) m') σ)
+      → P (List.◌∷◌ (frame p k n l (t ◂ kids) m') σ)
 
   abbrev pub Closes : (Tree → ℕ → List Frame → Type 0) → (Tree → ℕ → List Frame → Type 0) → ℕ → Type 0
   Closes Q Q' open' = (p : ℕ) (k : Kind) (n : ℕ) (l : Float) (kids : Forest) (m : ℕ) (σ : List Frame) (t : Tree) (q : ℕ)
       → open' - 1 ≡ length σ
       → Q t q (List.◌∷◌ (frame p k n l kids m) σ)
-      → Q' (made k n l (onto kids (t ∷ []))) p σ
+      → Q' (made k n l (onto kids (t ◂ []))) p σ
 
   module _ (begins owed ends : List ℕ) (open' left at : ℕ) (low : at ≤ length ends) where
     module _ (d : ℕ) (t : Tree) (q : ℕ) (placed : At kinds ns limits ends q t) (stop : get_or ends q 0 ≡ at) where
@@ -354,7 +354,7 @@ module _ (kinds ns : List ℕ) (limits : List Float) where
           let m' : m ≡ suc (left - 1) = omega arith in
           record {
             deep = d;
-            frames = List.◌∷◌ (frame p k n l (t ∷ kids) (left - 1)) σ;
+            frames = List.◌∷◌ (frame p k n l (t ◂ kids) (left - 1)) σ;
             level = lev;
             levels = ups;
             owes = more;
@@ -395,12 +395,12 @@ module _ (kinds ns : List ℕ) (limits : List Float) where
           rw g' (record {
             deep = suc d;
             frames = σ;
-            tree = made k n l (onto kids (t ∷ []));
+            tree = made k n l (onto kids (t ◂ []));
             place = p;
             level = top;
             levels = omega arith;
             opened = open_keeps ends ends' begins begins owed owed σ (get_or owed (open' - 1) 0) p h' (λ i x. refl) (λ i x. refl) before;
-            placed = (recount r (omega (arith, count_onto kids (t ∷ []))), behind_ats kids (t ∷ []) ends' (suc p) q (get_or ends' p 0) kids' (last, stop'));
+            placed = (recount r (omega (arith, count_onto kids (t ◂ []))), behind_ats kids (t ◂ []) ends' (suc p) q (get_or ends' p 0) kids' (last, stop'));
             stop = here;
             reads = sym (close d p k n l kids σ t at (drop at all)) ∙ (rw none' at reads);
             known = knows p k n l kids m σ t q top known;

@@ -2,7 +2,7 @@
 use Rattle.std.specs.Prelude.{◌≡◌, true, List, ℕ, suc, Float, get_or}
 use Rattle.rules.specs.declared.behavior.Kind.{Kind}
 use Rattle.rules.specs.Kinds.{kind_of, children}
-use Rattle.rules.specs.Tree.{zero_time, Tree, node, Forest, [], ◌∷◌, count}
+use Rattle.rules.specs.Tree.{zero_time, Tree, node, Forest, [], ◌◂◌, count}
 use Rattle.rules.specs.Table.{cleaned, row_allowed}
 
 -- the row at q is a node's, with so many children
@@ -22,4 +22,4 @@ module _ (kinds ns : List ℕ) (limits : List Float) (ends : List ℕ) where
     -- trees from q to stop
     pub Ats : ℕ → Forest → ℕ → Type 0
     Ats q [] stop = q ≡ stop
-    Ats q (t ∷ ts) stop = At q t × Ats (get_or ends q 0) ts stop
+    Ats q (t ◂ ts) stop = At q t × Ats (get_or ends q 0) ts stop
