@@ -1,5 +1,6 @@
 -- The turns of the loop: what was read and written so far, what is in hand, and that it is what the definition says.
-use Rattle.std.proofs.Common.{◌≡◌, Float, refl, sym, ap, ◌∙◌, subst, arith, Bool, true, false, cond, Option, Some, None, IfSome, List, [], ◌++◌, append_assoc, append-nil, ℕ, ◌≤◌, ◌<◌, length, take, drop, take-append-drop, take-take}
+use Rattle.std.proofs.Common.{◌≡◌, Float, refl, sym, ap, ◌∙◌, subst, arith, Bool, true, false, cond, Option, Some, None, IfSome, List}
+use Rattle.std.proofs.Common.{[], ◌++◌, append_assoc, append-nil, ℕ, ◌≤◌, ◌<◌, length, take, drop, take-append-drop, take-take}
 use Rattle.std.proofs.Math.Seq.{slice}
 use native.Mathlib.Decide.{dec_lt}
 use Rattle.std.specs.Io.KnownBytes.{Keeps, Appends, Consumes, IsAtEnd}

@@ -75,7 +75,7 @@ pub finishes_still :
     (kinds ns : List ℕ) (limits : List Float)
     (the_table : table kinds ns limits ≡ good t)
     (step : Float) (N : ℕ)
-    (TheBound : FinishBound F kinds ns limits t step N)
+    (the_bound : FinishBound F kinds ns limits t step N)
     (cs : List Call)
     (whole : WholeHistory F t (num step) (stands st.record' st.cells' 0) cs)
     → FinishesBy N (after_all F (stands st.record' st.cells' 0) cs)

@@ -33,10 +33,10 @@ module _
     (the_table : table kinds ns limits ≡ good t)
     (step : Float)
     (N : ℕ)
-    (TheBound : FinishBound F kinds ns limits t step N)
+    (the_bound : FinishBound F kinds ns limits t step N)
   where
     fits : T (step_allowed F step) × T (boundable F t) × (bound (num step) t ≡ within N)
-    fits = bounded F kinds ns limits t the_table step N TheBound
+    fits = bounded F kinds ns limits t the_table step N the_bound
 
     sh : Shaped F (shape t)
     sh = shaped F kinds ns limits t the_table fits.1

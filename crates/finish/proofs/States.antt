@@ -50,10 +50,12 @@ module _ (F : Format) (kinds ns : List ℕ) (limits : List Float) (t : Tree) (e 
   pub states : (st : Standing) → st.record'.finished ≡ false → StateIn F t st.cells' → (cs : List Call) → WholeHistory F t 0 st cs
       → (after_all F st cs).record'.finished ≡ false → StateIn F t (after_all F st cs).cells'
   states st o v cs h u =
-      rw u at (calls_keep F (WholeTick F t 0) t (Is F t (shaped F kinds ns limits t e b) 0) (Ended F t (shaped F kinds ns limits t e b) 0) (λ st' g n ok. ok.takes_up) step (first_state F kinds ns limits t e b) st cs h (rw o v))
+      rw u at (calls_keep F (WholeTick F t 0) t (Is F t (shaped F kinds ns limits t e b) 0) (Ended F t (shaped F kinds ns limits t e b) 0)
+      (λ st' g n ok. ok.takes_up) step (first_state F kinds ns limits t e b) st cs h (rw o v))
 
   -- behind a restart, whatever stood before it
   pub state_restarted : (st : Standing) (g : Given) → T (is_ticked (restart_call F g).answer) → Asked F (WholeTick F t 0) st (restarts g)
       → (after F st (restarts g)).record'.finished ≡ false → StateIn F t (after F st (restarts g)).cells'
   state_restarted st g y h u =
-      rw u at (restart_keeps F (WholeTick F t 0) t (Is F t (shaped F kinds ns limits t e b) 0) (Ended F t (shaped F kinds ns limits t e b) 0) (λ st' g n ok. ok.takes_up) step (first_state F kinds ns limits t e b) st g y h)
+      rw u at (restart_keeps F (WholeTick F t 0) t (Is F t (shaped F kinds ns limits t e b) 0) (Ended F t (shaped F kinds ns limits t e b) 0)
+      (λ st' g n ok. ok.takes_up) step (first_state F kinds ns limits t e b) st g y h)

@@ -1,6 +1,7 @@
 -- Floats whose values are whole numbers: their sum and difference are one rounding of the exact number, their order is the order of the numbers.
 use Rattle.std.specs.Prelude.{◌≡◌, refl, ℕ, ◌+◌, ◌-◌, ◌*◌, ◌≤◌, ◌<◌, Bool, true, false, cond, not, ◌&&◌, ◌||◌, ℤ, T, ltb, leb, eqb, Float}
-use Rattle.std.proofs.Common.{sym, ap, ◌∙◌, mul-one, mul_comm, mul_assoc, mul-pos, mul-le-mul_right, not-le_of_lt, le_of_lt, le_of_eq, le_antisymm, lt_of_not-le, mul-lt-mul_of_pos_right, arith, true≢false, ltb→lt, lt→ltb, eqb→eq, nltb→le, le-leb}
+use Rattle.std.proofs.Common.{sym, ap, ◌∙◌, mul-one, mul_comm, mul_assoc, mul-pos, mul-le-mul_right, not-le_of_lt, le_of_lt, le_of_eq, le_antisymm}
+use Rattle.std.proofs.Common.{lt_of_not-le, mul-lt-mul_of_pos_right, arith, true≢false, ltb→lt, lt→ltb, eqb→eq, nltb→le, le-leb}
 use Rattle.std.proofs.Math.Nat.{mul-sub, eq_of_mul-eq-mul_right}
 use Rattle.std.proofs.Math.Dec.{eqb_refl}
 use Rattle.std.proofs.lemmas.Bool.{lt-leb}

@@ -1,6 +1,7 @@
 -- What is true of digits at every width: how many there are, that each is one of the sixteen, and that the number comes back.
 use Rattle.std.specs.Prelude.{◌≡◌, refl, ◌⊎◌, List, [], ◌∷◌, ◌++◌, ℕ, zero, suc, ◌+◌, ◌*◌, ◌/◌, ◌%◌, ◌^◌, ◌≤◌, ◌<◌, length, get_or, take, drop}
-use Rattle.std.proofs.Common.{sym, ap, ◌∙◌, inl, inr, ⊎_elim, pow-suc, div-lt_iff_lt-mul, zero-lt-suc, eq-or-lt_of_le, le_of_suc-le-suc, add-one, arith, lt-ltb, le-ltb, length-append, take_at, drop_at}
+use Rattle.std.proofs.Common.{sym, ap, ◌∙◌, inl, inr, ⊎_elim, pow-suc, div-lt_iff_lt-mul, zero-lt-suc, eq-or-lt_of_le}
+use Rattle.std.proofs.Common.{le_of_suc-le-suc, add-one, arith, lt-ltb, le-ltb, length-append, take_at, drop_at}
 use Rattle.std.proofs.Math.Decide.{dec_le}
 use Rattle.std.proofs.Math.ListN.{get_or-append}
 use Rattle.std.proofs.Math.Seq.{get_or-append_seam}

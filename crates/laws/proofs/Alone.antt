@@ -77,8 +77,10 @@ module _ (F : Format) where
 
   within_each : (d d' : ℕ) (ss : Shapes) → depths_of ss ≤ d → depths_of ss ≤ d' → Each (Within d d') ss
   within_each d d' Shape.[] h g = tt
-  within_each d d' (Shape.◌◂◌ s ss) h g =
-      ((max_left (depth_of s) (depths_of ss) d h, max_left (depth_of s) (depths_of ss) d' g), within_each d d' ss (max_right (depth_of s) (depths_of ss) d h) (max_right (depth_of s) (depths_of ss) d' g))
+  within_each d d' (Shape.◌◂◌ s ss) h g = (
+    (max_left (depth_of s) (depths_of ss) d h, max_left (depth_of s) (depths_of ss) d' g),
+    within_each d d' ss (max_right (depth_of s) (depths_of ss) d h) (max_right (depth_of s) (depths_of ss) d' g),
+  )
 
   tick_within : (d d' : ℕ) → Alike (alone F) (Within d d') (tick F d) (tick F d')
   unfolding tick

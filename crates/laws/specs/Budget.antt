@@ -72,7 +72,8 @@ module _ (F : Format) (child : Ticker) (g : Spends F child) where
     | Failure ↦ λ r t' f' ans' l. refl
   ]
 
-  while_all_budget : (b b' : ℕ) (c : Cell) (e : Event) (ts : Forest) (f : ℕ) (ans : Answers) → f < b → f < b' → while_all_with b child c e ts (world f ans) ≡ while_all_with b' child c e ts (world f ans)
+  while_all_budget : (b b' : ℕ) (c : Cell) (e : Event) (ts : Forest) (f : ℕ) (ans : Answers) → f < b → f < b'
+      → while_all_with b child c e ts (world f ans) ≡ while_all_with b' child c e ts (world f ans)
   while_all_budget b b' c e [] f ans h h' = refl
   while_all_budget b b' c e (t ◂ ts) f ans h h' = ap (λ (o : Out (ℕ × Forest)). at_place c o) (loop_budget b b' e c.place e t ts f ans h h')
 

@@ -10,7 +10,8 @@ use Rattle.rules.specs.Tree.{Cell, Tree, node, Forest, [], ◌◂◌, size, dept
 use Rattle.rules.specs.Table.{Table, good, bad, table}
 use Rattle.rules.specs.Cells.{Found, faulty, none, bad_cell, column, columns}
 use Rattle.rules.specs.Call.{Run, run, run_length, onto_run, Given}
-use Rattle.rules.specs.Exchange.{Room, GivenExchange, LeftExchange, left_exchange, not_exchanged, free, replaced, new_sinces, onto_room, room_length, written, replacing, on_trees, on_branch, exchange_call}
+use Rattle.rules.specs.Exchange.{Room, GivenExchange, LeftExchange, left_exchange, not_exchanged, free, replaced, new_sinces, onto_room}
+use Rattle.rules.specs.Exchange.{room_length, written, replacing, on_trees, on_branch, exchange_call}
 use Rattle.rules.specs.Exchange.{listed, listed_all}
 use Rattle.laws.specs.Memory.{held}
 use Rattle.laws.specs.Tables.{tabled, renewed}

@@ -79,7 +79,8 @@ mutual
   rows_listed : (t : Tree) (ks ns : List ℕ) (ls : List Float) → Sound t → rows (listed code_in t ks) (listed number_in t ns) (listed limit_in t ls) ≡ listed row_in t (rows ks ns ls)
   rows_listed (node k n l c b ts) ks ns ls s = rw (s.3, rows_listeds ts ks ns ls s.4)
 
-  rows_listeds : (ts : Forest) (ks ns : List ℕ) (ls : List Float) → Sounds ts → rows (listed_all code_in ts ks) (listed_all number_in ts ns) (listed_all limit_in ts ls) ≡ listed_all row_in ts (rows ks ns ls)
+  rows_listeds : (ts : Forest) (ks ns : List ℕ) (ls : List Float) → Sounds ts
+      → rows (listed_all code_in ts ks) (listed_all number_in ts ns) (listed_all limit_in ts ls) ≡ listed_all row_in ts (rows ks ns ls)
   rows_listeds [] ks ns ls s = refl
   rows_listeds (t ◂ ts) ks ns ls s =
       rows_listed t (listed_all code_in ts ks) (listed_all number_in ts ns) (listed_all limit_in ts ls) s.0 ∙ ap (listed row_in t) (rows_listeds ts ks ns ls s.1)

@@ -1,5 +1,6 @@
 -- What the operations do with numbers above 2 ^ 53: each stands for all of them, and what comes out is the same.
-use Rattle.std.proofs.Common.{◌≡◌, ℕ, zero, suc, ◌+◌, ◌-◌, ◌*◌, ◌/◌, ◌^◌, ◌<◌, ◌≤◌, min, max, Bool, true, false, leb, refl, ap, ◌∙◌, lt_of_not-le, mul-zero, le-div_iff_mul-le, zero-mul, not-le_of_lt, arith, w64, Fits, le-leb, leb-false, leb-true}
+use Rattle.std.proofs.Common.{◌≡◌, ℕ, zero, suc, ◌+◌, ◌-◌, ◌*◌, ◌/◌, ◌^◌, ◌<◌, ◌≤◌, min, max, Bool, true, false, leb, refl}
+use Rattle.std.proofs.Common.{ap, ◌∙◌, lt_of_not-le, mul-zero, le-div_iff_mul-le, zero-mul, not-le_of_lt, arith, w64, Fits, le-leb, leb-false, leb-true}
 use borrow.Author.Tests.{lt-leb}
 use Rattle.rules.specs.Bound.{Lim, never, within, sum_l, max_l, min_l, times_l, told, most_ticks}
 use Rattle.rules.specs.declared.answer.BoundAnswer.TheVariants as says

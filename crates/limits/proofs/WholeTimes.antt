@@ -1,5 +1,6 @@
 -- When a float is a whole time: exactly when the number that it is cut to, as a float, has its bits.
-use Rattle.std.proofs.Common.{◌≡◌, ℕ, ◌+◌, ◌-◌, ◌*◌, ◌/◌, ◌^◌, ◌<◌, ◌≤◌, max, Bool, true, false, cond, not, T, ltb, leb, pos, sym, refl, ap, ◌∙◌, subst, div-lt_iff_lt-mul, not-le_of_lt, arith, le→leb, ltb→lt, lt→ltb, leb→le, le-leb}
+use Rattle.std.proofs.Common.{◌≡◌, ℕ, ◌+◌, ◌-◌, ◌*◌, ◌/◌, ◌^◌, ◌<◌, ◌≤◌, max, Bool, true, false, cond, not, T, ltb, leb, pos}
+use Rattle.std.proofs.Common.{sym, refl, ap, ◌∙◌, subst, div-lt_iff_lt-mul, not-le_of_lt, arith, le→leb, ltb→lt, lt→ltb, leb→le, le-leb}
 use lib.Ieee.{Float, Format, nan, inf, fin, binary32, binary64, up, down, lt, fits, is_nan, whole, in_unsigned, in_float, to_unsigned, of_int, of_bits, to_bits}
 use lib.Ieee.Bits.{is_true, of_bits-to_bits}
 use lib.Ieee.Fits.{and_l, and_r, down_pos, of_int-fits}

@@ -133,7 +133,8 @@ module _ {G : Given} {d : ℕ} {k : Kind} {ts : Forest} (N : Node G d k ts) wher
       child_at_lem ts' i (kids_at i) f u vs (omega arith),
       lt-ltb (spot G i (suc q)) stop (spot_less G ts' i (suc q) stop d vs o),
     )
-        (sim_keep (puts (kids_at i) i ts') f chosen_view most (child_at child i (event G y) ts' (world_at G f u)) _ (λ t'. (i, put i t' ts')) (child_link G d child w g ts' i (kids_at i) y f u vs e o) j
+        (sim_keep (puts (kids_at i) i ts') f chosen_view most (child_at child i (event G y) ts' (world_at G f u)) _ (λ t'. (i, put i t' ts'))
+        (child_link G d child w g ts' i (kids_at i) y f u vs e o) j
         λ t' f' u' v'. (
           node_good (put i t' ts') v' N.cell.time i (omega (arith, ats_count G (suc q) (put i t' ts') ts' stop d v' vs)),
           node_words (put i t' ts') v' i f' u',

@@ -78,7 +78,8 @@ pub whole : (F : Format) (ns : List ℕ) (limits : List Float) (ss : List ℕ) (
     → depth t ≤ most_deep
     → size t ≤ 256
     → fuel < 2 ^ 32
-    → Gives ns ss ls fuel b rest (size t) (tick F most_deep t (event_of b dt) (world fuel (answers ss ls))) (flat.tick F (lent limits ss ls) most_deep 0 dt (working t fuel 0 b) (column time_of t rest))
+    → Gives ns ss ls fuel b rest (size t) (tick F most_deep t (event_of b dt) (world fuel (answers ss ls)))
+    (flat.tick F (lent limits ss ls) most_deep 0 dt (working t fuel 0 b) (column time_of t rest))
 whole F ns limits ss ls t b dt fuel rest holds fits deep room small =
     let ws : List ℕ = array (run word_of t (replicate (256 - size t) 0)) b fuel 0 in
     let G : Given = given ns limits ss ls b fuel ws (size t) room small in

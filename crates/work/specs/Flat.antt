@@ -14,7 +14,8 @@ use Rattle.work.specs.declared.result.Seen.{Seen}
 use Rattle.work.specs.declared.result.Result.{Result}
 use Rattle.work.specs.declared.result.Seen.TheVariants.{Stopped, Running, Success, Failure}
 use Rattle.work.specs.Word.{kind_in, place_of, mark_of}
-use Rattle.work.specs.Array.{word_at, time_at, number_at, fuel_of, used_of, updates, passed, end_of, set_place, set_seen, set_mark, fresh_words, fresh_times, child_from, index_after, child_after, up_on}
+use Rattle.work.specs.Array.{word_at, time_at, number_at, fuel_of, used_of, updates, passed, end_of, set_place, set_seen}
+use Rattle.work.specs.Array.{set_mark, fresh_words, fresh_times, child_from, index_after, child_after, up_on}
 
 -- what was seen, leftover, words, times
 pub data Out : Type 0 where

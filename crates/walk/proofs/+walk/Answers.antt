@@ -119,8 +119,12 @@ pub decorators-returns-in-Stopped : goal.decorators-returns-in-Stopped
 decorators-returns-in-Stopped t c = c.loop-p.invariant.0.1.1 ∙ rw c.visit-result.ensures (node_law.up_stopped _ _ _ _ _ _ _ _ _ c.in-Stopped.is)
 
 pub decorators-loop-q-init : goal.decorators-loop-q-init
-decorators-loop-q-init t c =
-    ((c.loop-p.invariant.0.0, (c.loop-p.invariant.0.1.0, c.loop-p.invariant.0.1.1 ∙ rw c.visit-result.ensures)), gave_told _ (opened c.in_default.in_default-own.keys2), c.loop-p.invariant.1, omega (arith, c.loop-p.invariant.0.1.0))
+decorators-loop-q-init t c = (
+  (c.loop-p.invariant.0.0, (c.loop-p.invariant.0.1.0, c.loop-p.invariant.0.1.1 ∙ rw c.visit-result.ensures)),
+  gave_told _ (opened c.in_default.in_default-own.keys2),
+  c.loop-p.invariant.1,
+  omega (arith, c.loop-p.invariant.0.1.0),
+)
 
 pub decorators-loop-q-preserved : goal.decorators-loop-q-preserved
 decorators-loop-q-preserved t c =

@@ -1,7 +1,8 @@
 -- The measures: the depth that is left, and within it the node tick, a visit, a driver, the choice of it. What the turns of each loop keep.
 use Rattle.std.proofs.Common.{◌≡◌, ℕ, ◌+◌, ◌-◌, ◌*◌, ◌≤◌, ◌<◌}
 use lib.Ieee.{binary64}
-use Rattle.work.specs.Flat.{Out, out, lent, decorator, visiting, turning, while_loop, while_go, while_all, while_all_go, sequence, sequence_go, memoryless, memoryless_go, when_all, when_all_go, race, race_go, after, after_go}
+use Rattle.work.specs.Flat.{Out, out, lent, decorator, visiting, turning, while_loop, while_go, while_all, while_all_go, sequence, sequence_go}
+use Rattle.work.specs.Flat.{memoryless, memoryless_go, when_all, when_all_go, race, race_go, after, after_go}
 use Rattle.work.proofs.VisitLaws.{Gave}
 use Rattle.walk.proofs.NodeLaws.{up}
 use Rattle.walk.proofs.TurnLaws.{visitor}

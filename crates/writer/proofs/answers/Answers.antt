@@ -6,16 +6,12 @@ use Rattle.writer.proofs.answers.Goals as goal
 
 pub loop-i-preserved : goal.loop-i-preserved
 loop-i-preserved c =
-    let second = c in
-    let first = second in
-    let read = first in
-    let turn = read in
-    let p = second.put-at in
-    let q = first.put-a in
-    let l = turn.loop-i in
-    let a = turn.args in (
+    let p = c.put-at in
+    let q = c.put-a in
+    let l = c.loop-i in
+    let a = c.args in (
       omega arith,
       p.auto.room ∙ q.auto.room ∙ l.invariant.1,
       omega (arith, p.ensures.place, q.ensures.place, l.invariant.2),
-      answer_put l.i a.statuses.now a.leftovers.now (omega arith) l.invariant.3 q.ensures p.ensures (rw read.wide.ensures),
+      answer_put l.i a.statuses.now a.leftovers.now (omega arith) l.invariant.3 q.ensures p.ensures (rw c.wide.ensures),
     )

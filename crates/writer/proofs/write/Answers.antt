@@ -5,20 +5,15 @@ use Rattle.writer.proofs.write.Goals as goal
 
 pub returns-then-room-bytes : goal.returns-then-room-bytes
 returns-then-room-bytes c =
-    let sized = c in
-    let known = sized in
-    let a = known.args in record {
-      room_after = too_short a.frame a.statuses.now a.leftovers.now _ _ known.count-n.ensures _ sized.size-bytes.ensures (omega arith) (omega arith);
+    let a = c.args in record {
+      room_after = too_short a.frame a.statuses.now a.leftovers.now _ _ c.count-n.ensures _ c.size-bytes.ensures (omega arith) (omega arith);
       by_index = λ n e. absurd (short_written e);
     }
 
 pub returns : goal.returns
 returns c =
-    let laid = c in
-    let sized = laid in
-    let known = sized in
-    let k = known.count-n.ensures in
-    let a = known.args in record {
-      room_after = bytes a.frame a.statuses.now a.leftovers.now _ _ k _ sized.size-bytes.ensures (omega arith) _ (omega arith) laid.lay.ensures.room_after;
-      by_index = λ n e. record { few = omega (arith, k); statuses = omega (arith, k); leftovers = omega (arith, k); fit = laid.lay.ensures.fit };
+    let k = c.count-n.ensures in
+    let a = c.args in record {
+      room_after = bytes a.frame a.statuses.now a.leftovers.now _ _ k _ c.size-bytes.ensures (omega arith) _ (omega arith) c.lay.ensures.room_after;
+      by_index = λ n e. record { few = omega (arith, k); statuses = omega (arith, k); leftovers = omega (arith, k); fit = c.lay.ensures.fit };
     }

@@ -9,7 +9,8 @@ use Rattle.engine.proofs.climb.climb.Given as goal
 -- Each round uses fuel.
 abbrev pub invariant-loop-stand : goal.invariant-loop-stand
 invariant-loop-stand l =
-    WayDown binary64 (lent l.limits.now l.statuses.now l.leftovers.now) l.initial.stand.deep l.initial.stand.level l.initial.stand.left (levels l.initial.opens l.initial.counts l.initial.wholes l.initial.rests) l.initial.work l.initial.times
+    WayDown binary64 (lent l.limits.now l.statuses.now l.leftovers.now) l.initial.stand.deep l.initial.stand.level l.initial.stand.left
+    (levels l.initial.opens l.initial.counts l.initial.wholes l.initial.rests) l.initial.work l.initial.times
     l.stand.deep l.stand.level l.stand.left (levels l.opens l.counts l.wholes l.rests) l.work l.times
 
 abbrev pub decreases-loop-stand : goal.decreases-loop-stand

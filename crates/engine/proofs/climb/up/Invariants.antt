@@ -8,7 +8,8 @@ use Rattle.engine.proofs.climb.up.Given as goal
 -- Each node that is done is one less around the result.
 abbrev pub invariant-loop-deep : goal.invariant-loop-deep
 invariant-loop-deep l =
-    WayUp binary64 (lent l.limits.now l.statuses.now l.leftovers.now) l.initial.deep l.initial.level l.initial.seen l.initial.left (levels l.opens l.counts l.wholes l.rests) l.initial.work l.initial.times
+    WayUp binary64 (lent l.limits.now l.statuses.now l.leftovers.now) l.initial.deep l.initial.level l.initial.seen l.initial.left
+    (levels l.opens l.counts l.wholes l.rests) l.initial.work l.initial.times
     l.deep l.level l.seen l.left l.work l.times
 
 abbrev pub decreases-loop-deep : goal.decreases-loop-deep

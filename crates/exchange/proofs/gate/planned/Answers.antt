@@ -49,10 +49,16 @@ pub overflow_add-above : goal.overflow_add-above
 overflow_add-above c = omega (arith, cuts.small_sum (due (goal.at.overflow_add-above c).In-Open none) c.way_to.ensures c.in-Free.is c.wide-stop.ensures c.if-nodes-gt256.false c.depth_of.ensures)
 
 pub returns-then-above-depth_of-gt16 : goal.returns-then-above-depth_of-gt16
-returns-then-above-depth_of-gt16 c to e = cuts.too_deep (due (goal.at.returns-then-above-depth_of-gt16 c).In-Open to) c.way_to.ensures c.in-Free.is c.wide-stop.ensures c.if-nodes-gt256.false c.depth_of.ensures c.if-above-depth_of-gt16.true
+returns-then-above-depth_of-gt16 c to e =
+    cuts.too_deep (due (goal.at.returns-then-above-depth_of-gt16 c).In-Open to) c.way_to.ensures c.in-Free.is c.wide-stop.ensures
+    c.if-nodes-gt256.false c.depth_of.ensures c.if-above-depth_of-gt16.true
 
 pub returns-then-room-nodes : goal.returns-then-room-nodes
-returns-then-room-nodes c to e = cuts.short_room (due (goal.at.returns-then-room-nodes c).In-Open to) c.way_to.ensures c.in-Free.is c.wide-stop.ensures c.if-nodes-gt256.false c.depth_of.ensures c.if-above-depth_of-gt16.false (rw e c.if-room-nodes.true)
+returns-then-room-nodes c to e =
+    cuts.short_room (due (goal.at.returns-then-room-nodes c).In-Open to) c.way_to.ensures c.in-Free.is c.wide-stop.ensures
+    c.if-nodes-gt256.false c.depth_of.ensures c.if-above-depth_of-gt16.false (rw e c.if-room-nodes.true)
 
 pub returns-else-room-nodes : goal.returns-else-room-nodes
-returns-else-room-nodes c to e = cuts.planned (due (goal.at.returns-else-room-nodes c).In-Open to) c.way_to.ensures c.in-Free.is c.wide-stop.ensures c.if-nodes-gt256.false c.depth_of.ensures c.if-above-depth_of-gt16.false (rw e c.if-room-nodes.false)
+returns-else-room-nodes c to e =
+    cuts.planned (due (goal.at.returns-else-room-nodes c).In-Open to) c.way_to.ensures c.in-Free.is c.wide-stop.ensures
+    c.if-nodes-gt256.false c.depth_of.ensures c.if-above-depth_of-gt16.false (rw e c.if-room-nodes.false)

@@ -20,18 +20,10 @@ pub returns-then-d-gt15 : goal.returns-then-d-gt15
 returns-then-d-gt15 c = no_digit _ _ _ c.loop-i.i _ (omega arith) c.nibble-d.ensures (omega arith)
 
 pub overflow_mul-value : goal.overflow_mul-value
-overflow_mul-value c = omega (
-  arith,
-  (let h : c.loop-i.value * 16 + c.nibble-d.result < 2 ^ 64 = let l = c.before.before.before.before in
-      one_fits l.loop-i.i l.args.width _ _ (omega arith) (omega arith) l.loop-i.invariant.1 (omega arith) in h),
-)
+overflow_mul-value c = omega (arith, one_fits c.loop-i.i c.args.width c.loop-i.value c.nibble-d.result (omega arith) (omega arith) c.loop-i.invariant.1 (omega arith))
 
 pub overflow_add-value : goal.overflow_add-value
-overflow_add-value c = omega (
-  arith,
-  (let h : c.loop-i.value * 16 + c.nibble-d.result < 2 ^ 64 = let l = c.before.before.before.before in
-      one_fits l.loop-i.i l.args.width _ _ (omega arith) (omega arith) l.loop-i.invariant.1 (omega arith) in h),
-)
+overflow_add-value c = omega (arith, one_fits c.loop-i.i c.args.width c.loop-i.value c.nibble-d.result (omega arith) (omega arith) c.loop-i.invariant.1 (omega arith))
 
 pub loop-i-preserved : goal.loop-i-preserved
 loop-i-preserved c =

@@ -8,7 +8,5 @@ use Rattle.frames.proofs.reader.read.Goals as goal
 
 pub returns-else-least-n : goal.returns-else-least-n
 returns-else-least-n c =
-    let filled = c in
-    let counted = filled in
-    let f = filled.fill in
-    reads_is _ _ _ _ _ _ _ counted.count-n.ensures (omega arith) (omega arith) f.auto.statuses f.auto.leftovers ((let h : Whole counted.args.line.now (Found.Is counted.in-Is.frame) = subst (Whole _) counted.in-Is.is counted.head.ensures in h)) f.ensures
+    let whole : Whole c.args.line.now (Found.Is c.in-Is.frame) = subst (Whole _) c.in-Is.is c.head.ensures in
+    reads_is _ _ _ _ _ _ _ c.count-n.ensures (omega arith) (omega arith) c.fill.auto.statuses c.fill.auto.leftovers whole c.fill.ensures

@@ -60,12 +60,16 @@ pub loop-at-init : goal.loop-at-init
 loop-at-init c = first (search rules) (search rules) (search rules) (search rules) c.requires.work_len
 
 pub bounds-kinds-at : goal.bounds-kinds-at
-bounds-kinds-at c = let i : In c.args.kinds.now c.args.ns.now c.args.limits.now c.args.times.now c.args.places.now c.args.marks.now c.loop-at.at = all_in c.requires.lent (omega (arith, c.loop-at-test.true, c.least-last.ensures, c.requires.lent.nodes)) in omega arith
+bounds-kinds-at c =
+    let i : In c.args.kinds.now c.args.ns.now c.args.limits.now c.args.times.now c.args.places.now c.args.marks.now c.loop-at.at =
+    all_in c.requires.lent (omega (arith, c.loop-at-test.true, c.least-last.ensures, c.requires.lent.nodes))
+    in omega arith
 
 pub past_waits-next-requires : goal.past_waits-next-requires
 past_waits-next-requires c =
     let e = c.run_end-to.ensures in
-    let i : In c.args.kinds.now c.args.ns.now c.args.limits.now c.args.times.now c.args.places.now c.args.marks.now c.run_end-to.result = all_in c.requires.lent (omega (arith, e.1, c.least-last.ensures, c.requires.lent.nodes)) in
+    let i : In c.args.kinds.now c.args.ns.now c.args.limits.now c.args.times.now c.args.places.now c.args.marks.now c.run_end-to.result =
+    all_in c.requires.lent (omega (arith, e.1, c.least-last.ensures, c.requires.lent.nodes)) in
     record {
       from_le_to = (e.0, omega arith);
       to_in_bounds = (omega arith, omega arith, omega arith);

@@ -6,7 +6,9 @@ use Rattle.turns.proofs.SequenceLaws.{seq_over, seq_start}
 use Rattle.turns.proofs.sequence.sequence_opened.Goals as goal
 
 pub returns-then-stop-q-clause-ts_value : goal.returns-then-stop-q-clause-ts_value
-returns-then-stop-q-clause-ts_value c = rw (c.done.ensures, c.waiting.ensures) (λ v x ts. seq_over x v _ _ _ ts _ _ _ c.end_of-stop.ensures.0 c.place_of-i.ensures.0 c.child-q.ensures.0 c.if-stop-q.true)
+returns-then-stop-q-clause-ts_value c =
+    rw (c.done.ensures, c.waiting.ensures)
+    (λ v x ts. seq_over x v _ _ _ ts _ _ _ c.end_of-stop.ensures.0 c.place_of-i.ensures.0 c.child-q.ensures.0 c.if-stop-q.true)
 
 pub returns-clause-ts_value : goal.returns-clause-ts_value
 returns-clause-ts_value c = let stop_in = c.end_of-stop.ensures.1 in

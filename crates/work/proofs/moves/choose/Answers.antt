@@ -10,4 +10,11 @@ returns-clause-work_after c =
 pub returns-clause-times_after : goal.returns-clause-times_after
 unfolding decided_words chosen_times
 returns-clause-times_after c =
-    rw (← c.end_of-behind.ensures.0, ← c.fresh.ensures.work_after, ← c.fresh.ensures.times_after, ← c.put_place.ensures, ← c.child-branch.ensures.0, ← c.end_of-end.ensures.0) c.fresh-2.ensures.times_after
+    rw (
+      ← c.end_of-behind.ensures.0,
+      ← c.fresh.ensures.work_after,
+      ← c.fresh.ensures.times_after,
+      ← c.put_place.ensures,
+      ← c.child-branch.ensures.0,
+      ← c.end_of-end.ensures.0,
+    ) c.fresh-2.ensures.times_after
