@@ -1,8 +1,7 @@
 """Puts small faults into copies of the code, one at a time, and sees that the comparison finds each.
 
 A faulty copy can't be proved, so nothing builds it as Rattle. It is compiled as the Rust that it
-nearly is: contracts and ghost lines go, structs and enums are copied freely, and shim.rs gives the
-result the archive's interface. The copy without a fault goes first, and must compare as equal.
+nearly is: contracts and ghost lines go, and shim.rs gives the result the archive's interface. The copy without a fault goes first, and must compare as equal.
 
 usage: faults.py REPOSITORY FOLDER COMPARE..   (see tools/faults)
 """
@@ -17,8 +16,8 @@ FAULTS = [
     (
         "a WhileAll condition gets the rest",
         "walk/src/loops.rt",
-        "if i == 0 {\n            let condition = visit(work, limits, statuses, leftovers, times, p + 1, depth, dt);",
-        "if i == 0 {\n            let condition = visit(work, limits, statuses, leftovers, times, p + 1, depth, rest);",
+        "if i == 0 {\n            let condition = visit(work, reads, times, p + 1, depth, dt);",
+        "if i == 0 {\n            let condition = visit(work, reads, times, p + 1, depth, rest);",
     ),
     (
         "While moves on after an other event",
@@ -53,44 +52,44 @@ FAULTS = [
     (
         "sixteen Waits under WhenAll cost one of the fuel",
         "leaves/src/waits.rt",
-        "fuel - 1 - k as u32",
-        "fuel - 1",
+        "work[FUEL] = fuel - 16;",
+        "work[FUEL] = fuel - 1;",
     ),
     (
         "a mark among sixteen Waits is passed over",
         "load/src/sixteens.rt",
-        "all = all | kinds[at + i] | marks[at + i];",
-        "all = all | kinds[at + i];",
+        "        && are_zero(cells.marks, at, 0)\n",
+        "",
     ),
     (
         "sixteen children of a WhenAll are shown as ended, marked or not",
         "shown/src/lib.rt",
-        "work[q + i] = shown_marked(work[q + i], status);",
-        "work[q + i] = shown(work[q + i], status);",
+        "put_sixteen(work, q, &put);",
+        "put_sixteen(work, q, &|w| shown(w, Seen::Success));",
     ),
     (
         "limits keep the sign of zero",
         "work/src/array.rt",
-        "cleaned(numbers[p])",
-        "numbers[p]",
+        "cleaned(time_at(numbers, p))",
+        "time_at(numbers, p)",
     ),
     (
         "a restart goes on from the times as they stand",
-        "cells/src/clear.rt",
-        "        times[i] = 0.0;\n",
+        "call/src/lib.rt",
+        "clear(cells.times, n, 0.0);",
         "",
     ),
     (
         "the last bad cell is told, not the first",
-        "cells/src/check.rt",
-        "if fault == 256 { at } else { fault }",
-        "at",
+        "load/src/pass.rt",
+        "fault = fault.or(Some(begin));",
+        "fault = Some(begin);",
     ),
     (
         "a cell below an ended child is looked at as any other",
         "cells/src/check.rt",
-        "    mark == 1\n",
-        "    mark == 2\n",
+        "ended || mark == 1",
+        "ended || mark == 2",
     ),
     (
         "a since is the tick count before the tick",
@@ -107,38 +106,38 @@ FAULTS = [
     (
         "an age does not wrap",
         "rules/src/answer.rt",
-        "std::num::wrapping_sub_u64(ticks, since)",
+        "ticks.wrapping_sub(since)",
         "ticks.saturating_sub(since)",
     ),
     (
         "the child at the place of a Sequence can be exchanged",
         "branch/src/way.rt",
-        "i != or_last(place, n)",
+        "i != usize::from(place.min(n.saturating_sub(1)))",
         "true",
     ),
     (
         "a new branch has stood since tick 0",
         "branch/src/write.rt",
-        "Source::New(_) => ticks,",
-        "Source::New(_) => 0,",
+        "from_old(cells.sinces, record.ticks, from)",
+        "from_old(cells.sinces, 0, from)",
     ),
     (
         "a branch in an ended child of WhenAll can be exchanged",
         "branch/src/way.rt",
-        "if marks[child] == 1 {",
-        "if marks[child] == 2 {",
+        "if cells.marks[child] == 1 {",
+        "if cells.marks[child] == 2 {",
     ),
     (
         "the last level is left as it is",
-        "cells/src/clear.rt",
-        "while i < n {\n        opens[i] = 0;",
-        "while i < n - 1 {\n        opens[i] = 0;",
+        "engine/src/room.rt",
+        "clear(room.opens, 16, 0);",
+        "clear(room.opens, 15, 0);",
     ),
     (
         "an entry behind the levels is made zero",
-        "cells/src/clear.rt",
-        "while i < n {\n        counts[i] = 0;",
-        "while i < counts.len() {\n        counts[i] = 0;",
+        "engine/src/room.rt",
+        "clear(room.counts, 16, 0);",
+        "clear(room.counts, room.counts.len(), 0);",
     ),
     (
         "a tree that has finished needs no levels",
@@ -153,33 +152,34 @@ RUSTC = os.environ.get("RUSTC", "rustc")
 AR = os.environ.get("AR", "ar")
 
 
-def without_clauses(text):
-    """Leaves out `requires { .. }` and `ensures { .. }`, whose braces balance."""
+def without(pattern, text, end=""):
+    """Leaves out each place of a pattern that ends in `{`, up to the brace that closes it and an end behind that."""
     kept, at = [], 0
-    for found in re.finditer(r"(?<![\w.])(requires|ensures)\s*\{", text):
-        line = text[text.rfind("\n", 0, found.start()) + 1 : found.start()]
-        if found.start() < at or "//" in line:
+    for found in re.finditer(pattern, text, flags=re.M):
+        if found.start() < at:
             continue
         kept.append(text[at : found.start()])
         depth, at = 1, found.end()
         while depth > 0:
             depth += {"{": 1, "}": -1}.get(text[at], 0)
             at += 1
+        at += len(end)
     return "".join(kept) + text[at:]
 
 
 def as_rust(text):
     text = re.sub(r"^\s*ghost use [^;]*;\n", "", text, flags=re.M)
-    text = without_clauses(text)
-    text = re.sub(r"^(\s*)((?:pub )?(?:struct|enum) )", r"\1#[derive(Clone, Copy)]\n\1\2", text, flags=re.M)
-    text = text.replace("#[no_mangle]\n", "").replace('pub extern "C" fn', "pub fn")
-    return re.sub(r"(?<![\w:])std::", "rattle_std::", text)
+    text = without(r"^\s*(requires|ensures)\b\s*\w*\s*\{", text)
+    text = without(r"^\s*ghost \w+\s*[=:]\s*\{", text, ";")
+    text = re.sub(r"#!?\[(tactic|cycle)\b.*\]\n", "", text)
+    text = text.replace("#[derive(Drop)]\n", "").replace("#[unsafe(no_mangle)]\n", "").replace('pub extern "C" fn', "pub fn")
+    return re.sub(r"(?<![\w:])std::num::", "rattle_std::num::", text)
 
 
 def crates(root):
     """The libraries of crates.txt, each behind those that it uses."""
     lines = [line.split("#")[0] for line in open(os.path.join(root, "crates.txt"))]
-    uses = {name.strip(): rest.split() for name, colon, rest in (line.partition(":") for line in lines) if colon}
+    uses = {name.split()[0]: rest.split() for name, colon, rest in (line.partition(":") for line in lines) if colon}
     order = []
 
     def visit(name):

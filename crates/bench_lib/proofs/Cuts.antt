@@ -1,19 +1,14 @@
--- Lines among the bytes between two places.
-use mathlib.Core.Path.{◌≡◌, refl, sym, ap, ap₂, ◌∙◌}
-use mathlib.Core.Bool.{Bool, true, false, cond}
-use mathlib.Core.List.{List, [], ◌∷◌, ◌++◌, append_assoc, append-nil}
-use Prim.Native.Nat.{ℕ, suc, ◌+◌, ◌-◌, ◌≤◌, ◌<◌}
-use native.Mathlib.Numerals.{add-one}
-use native.Mathlib.Decide.{dec_lt}
-use native.Mathlib.Omega.{arith}
-use borrow.Author.Tests.{ne_eqb}
-use lib.ListN.{length, get_or, take, drop, set, length-take, length-drop, length-set, take-append-drop, drop_of_length-le}
-use lib.Seq.{slice, slice_empty, length-slice, length-take-le, split_at, take-suc, take_all, take-length, take-append-le}
-use lib.Seq.{drop-append-le, drop-drop, get_or-drop, get_or-take, take-suc-set, drop-set-lt}
+-- The first line among bytes.
+use Rattle.std.proofs.Common.{◌≡◌, refl, sym, ap, ◌∙◌, Bool, true, false, cond, Some, None, List, [], ◌∷◌, ◌++◌, append_assoc, append-nil}
+use Rattle.std.proofs.Common.{ℕ, zero, suc, ◌+◌, ◌<◌, eqb, length, get_or, take, drop, arith, ne_eqb, eqb-true}
+use Rattle.std.proofs.Math.Seq.{split_at, take-suc, take-length}
+use Rattle.std.proofs.Math.ListN.{drop_of_length-le}
+use Rattle.std.specs.Prelude.{◌==◌}
+use Rattle.std.specs.List.{position_from}
 use Rattle.bench_line.specs.Bench.{Line, cut}
-use Rattle.bench_lib.specs.Served.{Open, Ends, Shifts}
+use Rattle.bench_lib.specs.Served.{Open, Ends}
 
-pub no_true : false ≡ true → ⊥
+no_true : false ≡ true → ⊥
 no_true e = let z : ◌≡◌ {A = ℕ} 0 1 = ap (λ b. cond b 1 0) e in omega arith
 
 -- ---- cutting
@@ -36,146 +31,77 @@ cut_last (b ∷ x ∷ m) l h =
     let ih = cut_last (x ∷ m) (omega arith) (λ i k e. h (suc i) (omega arith) e) in
     rw (ne_eqb b 10 (h 0 (omega arith)), ih)
 
--- no line ends between two places, as far as i
-pub record Searched (s : List ℕ) (start end i : ℕ) : Type 0 where
-  pub from : start ≤ i
-  pub to : start < i → i ≤ end
-  pub none : (j : ℕ) → start ≤ j → j < i → get_or s j 0 ≡ 10 → ⊥
+-- ---- the first LF
+abbrev pub ends_line : ℕ → Bool
+ends_line b = eqb b 10
 
-pub searched_none : (s : List ℕ) (start end : ℕ) → Searched s start end start
-searched_none s start end = record { from = omega arith; to = λ h. absurd (omega arith); none = λ j p q. absurd (omega arith) }
+-- the k-th byte is the first LF
+record First (u : List ℕ) (k : ℕ) : Type 0 where
+  pub within : k < length u
+  pub here : get_or u k 0 ≡ 10
+  pub before : Open (take k u)
 
-pub searched_more : (s : List ℕ) (start end i : ℕ) → Searched s start end i → i < end → (get_or s i 0 ≡ 10 → ⊥) → Searched s start end (i + 1)
-searched_more s start end i h l n =
-    record {
-      from = omega (arith, h.from);
-      to = λ _. omega arith;
-      none = λ j p q e. elim (dec_lt j i) [ yes m ↦ h.none j p m e | no m ↦ n (ap (λ k. get_or s k 0) (sym (last j p q m)) ∙ e) ];
-    }
+open_more : (x : ℕ) (u : List ℕ) → eqb x 10 ≡ false → Open u → Open (x ∷ u)
+open_more x u n o zero h e = no_true (sym n ∙ rw e refl)
+open_more x u n o (suc i) h e = o i (omega arith) e
+
+first_by : (x : ℕ) (u : List ℕ) (i j : ℕ) (b : Bool) → eqb x 10 ≡ b → cond b (Some i) (position_from ends_line (i + 1) u) ≡ Some j
+    → (position_from ends_line (i + 1) u ≡ Some j → (k : ℕ) × (j ≡ i + 1 + k) × First u k) → (k : ℕ) × (j ≡ i + k) × First (x ∷ u) k
+first_by x u i j true t p ih =
+    let same : i ≡ j = cc in
+    (0, omega arith, record { within = omega arith; here = eqb-true x 10 t; before = λ n h. absurd (omega arith) })
+first_by x u i j false t p ih =
+    let r = ih p in
+    (suc r.0, omega (arith, r.1), record { within = omega (arith, r.2.within); here = r.2.here; before = open_more x (take r.0 u) t r.2.before })
+
+first : (u : List ℕ) (i j : ℕ) → position_from ends_line i u ≡ Some j → (k : ℕ) × (j ≡ i + k) × First u k
+first [] i j e = absurd cc
+first (x ∷ u) i j e = first_by x u i j (eqb x 10) refl e (first u (i + 1) j)
+
+missing_by : (x : ℕ) (u : List ℕ) (i : ℕ) (b : Bool) → eqb x 10 ≡ b → cond b (Some i) (position_from ends_line (i + 1) u) ≡ None
+    → (position_from ends_line (i + 1) u ≡ None → Open u) → Open (x ∷ u)
+missing_by x u i true t p ih = absurd cc
+missing_by x u i false t p ih = open_more x u t (ih p)
+
+missing : (u : List ℕ) (i : ℕ) → position_from ends_line i u ≡ None → Open u
+missing [] i e = λ n h. absurd (omega arith)
+missing (x ∷ u) i e = missing_by x u i (eqb x 10) refl e (missing u (i + 1))
+
+-- ---- the first line
+pub line_ends : (u : List ℕ) (last : Bool) (j : ℕ) → position_from ends_line 0 u ≡ Some j → Ends u last (Some (j + 1))
+line_ends u last j e = ends r.0 r.2 (omega (arith, r.1))
   where
-    last : (j : ℕ) → start ≤ j → j < i + 1 → (j < i → ⊥) → j ≡ i
-    last j p q m = omega arith
+    r : (k : ℕ) × (j ≡ 0 + k) × First u k
+    r = first u 0 j e
 
--- ---- the bytes between two places
-module _ (s : List ℕ) (start end : ℕ) (within : end ≤ length s) where
-  at_slice : (k : ℕ) → start + k < end → get_or (slice start end s) k 0 ≡ get_or s (start + k) 0
-  at_slice k h = get_or-drop start (take end s) k 0 ∙ get_or-take end s (start + k) 0 h
-
-  take_slice : (k : ℕ) → start + k ≤ end → take k (drop start s) ≡ take k (slice start end s)
-  take_slice k h =
-      let long = length-take-le end s within in
-      let split : drop start s ≡ slice start end s ++ drop end s =
-      ap (drop start) (sym (take-append-drop end s)) ∙ drop-append-le start (take end s) (drop end s) (omega arith) in
-      ap (take k) split ∙ take-append-le k (slice start end s) (drop end s) (omega (arith, length-slice start end s within))
-
-  -- no line ends before i
-  module _ (i : ℕ) (from : start ≤ i) (to : i ≤ end) (none : (j : ℕ) → start ≤ j → j < i → get_or s j 0 ≡ 10 → ⊥) where
-    open_before : Open (take (i - start) (slice start end s))
-    open_before k h e =
-        let u = slice start end s in
-        let l : k < i - start = omega (arith, simp length-take at h) in
-        none (start + k) (omega arith) (omega arith) (sym (at_slice k (omega arith)) ∙ sym (get_or-take (i - start) u k 0 l) ∙ e)
-
-    -- one ends at i
-    pub line_ends : (last : Bool) → i < end → get_or s i 0 ≡ 10 → Ends s start end last (i + 1)
-    line_ends last h e =
-        let u = slice start end s in
-        let j = i - start in
-        let long : j < length u = omega (arith, length-slice start end s within) in
-        let n : start + j ≡ i = omega arith in
-        let m : i + 1 - start ≡ suc j = omega arith in
-        let q : i + 1 ≡ start + suc j = omega arith in
-        let here : get_or u j 0 ≡ 10 = at_slice j (omega arith) ∙ ap (λ k. get_or s k 0) n ∙ e in
-        let whole : u ≡ take j u ++ (10 ∷ drop (suc j) u) = split_at u j 0 long ∙ ap (λ b. take j u ++ (b ∷ drop (suc j) u)) here in
-        let line : take (i + 1 - start) (drop start s) ≡ take j u ++ (10 ∷ []) =
-        ap (λ k. take k (drop start s)) m
-        ∙ take_slice (suc j) (omega arith)
-        ∙ take-suc u j 0 long
-        ∙ ap (λ b. take j u ++ (b ∷ [])) here in
-        let rest : slice (i + 1) end s ≡ drop (suc j) u = ap (λ k. drop k (take end s)) q ∙ sym (drop-drop (suc j) start (take end s)) in
-        record {
-          within = λ _. omega arith;
-          line =
-              λ _ more _.
+    ends : (k : ℕ) → First u k → j ≡ k → Ends u last (Some (j + 1))
+    ends k f same =
+        let n : j + 1 ≡ suc k = omega arith in
+        let whole : u ≡ take k u ++ (10 ∷ drop (suc k) u) = split_at u k 0 f.within ∙ ap (λ b. take k u ++ (b ∷ drop (suc k) u)) f.here in
+        let line : take (suc k) u ≡ take k u ++ (10 ∷ []) = take-suc u k 0 f.within ∙ ap (λ b. take k u ++ (b ∷ [])) f.here in
+        rw n (
+          omega arith,
+          omega (arith, f.within),
+          λ more _.
               ap (λ l. cut (l ++ more)) whole
-              ∙ ap cut (append_assoc (take j u) (10 ∷ drop (suc j) u) more)
-              ∙ cut_line (take j u) (drop (suc j) u ++ more) open_before
-              ∙ ap₂ (λ (l : Line) (m : List ℕ). l ∷ cut (m ++ more)) (sym line) (sym rest);
-          waits = λ k. absurd (omega arith);
-        }
+              ∙ ap cut (append_assoc (take k u) (10 ∷ drop (suc k) u) more)
+              ∙ cut_line (take k u) (drop (suc k) u ++ more) f.before
+              ∙ ap (λ (l : Line). l ∷ cut (drop (suc k) u ++ more)) (sym line),
+        )
 
-  -- no line ends
-  module _ (none : (j : ℕ) → start ≤ j → j < end → get_or s j 0 ≡ 10 → ⊥) where
-    open_all : Open (slice start end s)
-    open_all k h e =
-        let l : start + k < end = omega (arith, length-slice start end s within) in
-        none (start + k) (omega arith) l (sym (at_slice k l) ∙ e)
+-- what stands there is the last line
+pub last_line : (u : List ℕ) (last : Bool) → last ≡ true → 0 < length u → position_from ends_line 0 u ≡ None → Ends u last (Some (length u))
+last_line u last e h p = (
+  h,
+  omega arith,
+  λ more b.
+      let rest : drop (length u) u ≡ [] = drop_of_length-le u {i = length u} (omega arith) in
+      rw (b e, append-nil u, take-length u, rest, cut_none) (cut_last u h (missing u 0 p)),
+)
 
-    pub no_line : (last : Bool) → last ≡ false → Ends s start end last start
-    no_line last e =
-        record {
-          within = λ h. absurd (omega arith);
-          line = λ h. absurd (omega arith);
-          waits = λ _. record { unended = open_all; none = λ p. absurd (no_true (sym e ∙ p)) };
-        }
+pub no_line : (u : List ℕ) (last : Bool) → (last ≡ true → u ≡ []) → position_from ends_line 0 u ≡ None → Ends u last None
+no_line u last e p = record { unended = missing u 0 p; none = e }
 
-    -- what stands before the end is the last line
-    pub last_line : (last : Bool) (r : ℕ) → last ≡ true → start ≤ r → end ≤ r → (start < r → r ≡ end) → Ends s start end last r
-    last_line last r e p q k =
-        let u = slice start end s in
-        let long = length-slice start end s within in
-        record {
-          within = λ h. omega (arith, k h);
-          line =
-              λ h more b.
-              let at_end : r ≡ end = k h in
-              let m : r - start ≡ length u = omega arith in
-              let line : take (r - start) (drop start s) ≡ u =
-              take_slice (r - start) (omega arith) ∙ ap (λ j. take j u) m ∙ take-length u in
-              let rest : slice r end s ≡ [] = ap (λ j. slice j end s) at_end ∙ slice_empty end s in
-              rw (b e, append-nil u, line, rest, cut_none) (cut_last u (omega arith) open_all);
-          waits =
-              λ h.
-              record {
-                unended = open_all;
-                none = λ _. drop_of_length-le (take end s) {i = start} (omega (arith, length-take-le end s within));
-              };
-        }
-
--- ---- bytes moved to the start, n of them so far
-pub record Moved (s s' : List ℕ) (start n : ℕ) : Type 0 where
-  pub long : length s' ≡ length s
-  pub front : take n s' ≡ take n (drop start s)
-  pub back : drop n s' ≡ drop n s
-
-pub moved_none : (s : List ℕ) (start : ℕ) → Moved s s start 0
-moved_none s start = record { long = refl; front = refl; back = refl }
-
-pub moved_more : (s s' : List ℕ) (start n : ℕ) → start + n < length s → Moved s s' start n → Moved s (set s' n (get_or s' (start + n) 0)) start (n + 1)
-moved_more s s' start n h m =
-    let x = get_or s' (start + n) 0 in
-    let k : n + start ≡ start + n = omega arith in
-    let short : n < length s' = omega (arith, m.long) in
-    let deep : n < length (drop start s) = omega (arith, length-drop start s) in
-    let here : x ≡ get_or (drop start s) n 0 =
-    ap (λ j. get_or s' j 0) (sym k)
-    ∙ sym (get_or-drop n s' start 0)
-    ∙ ap (λ l. get_or l start 0) m.back
-    ∙ get_or-drop n s start 0
-    ∙ ap (λ j. get_or s j 0) k
-    ∙ sym (get_or-drop start s n 0) in
-    record {
-      long = length-set s' n x ∙ m.long;
-      front = rw (add-one n, take-suc-set s' n x short, m.front, here) (sym (take-suc (drop start s) n 0 deep));
-      back = rw (add-one n, drop-set-lt (suc n) s' n x (omega arith), ← drop_drop_one n s', m.back, drop_drop_one n s);
-    }
-  where
-    drop_drop_one : (n : ℕ) (l : List ℕ) → drop 1 (drop n l) ≡ drop (suc n) l
-    drop_drop_one n l = drop-drop 1 n l ∙ ap (λ j. drop j l) (add-one n)
-
-pub moved_all : (s s' : List ℕ) (start end n : ℕ) → start ≤ end → end ≤ length s → n ≡ end - start → Moved s s' start n → Shifts s start end n s'
-moved_all s s' start end n h w e m =
-    record {
-      count = e;
-      bytes = m.front ∙ take_slice s start end w n (omega arith) ∙ take_all n (slice start end s) (omega (arith, length-slice start end s w));
-    }
+pub some_bytes : (u : List ℕ) → false ≡ (length u == 0) → 0 < length u
+some_bytes [] e = absurd (no_true e)
+some_bytes (x ∷ u) e = omega arith

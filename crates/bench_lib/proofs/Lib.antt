@@ -1,3 +1,4 @@
-mod Cuts
-mod Serves
-mod Told
+pub mod Cuts
+pub mod Onward
+pub mod Serves
+pub mod Told

@@ -1,29 +1,15 @@
 -- The turns of the loop: what was read and written so far, what is in hand, and that it is what the definition says.
-use Rattle.std.proofs.Common.{◌≡◌, Float, refl, sym, ap, ◌∙◌, subst, arith, Bool, true, false, cond, Option, Some, None, IfSome, List}
-use Rattle.std.proofs.Common.{[], ◌++◌, append_assoc, append-nil, ℕ, ◌≤◌, ◌<◌, length, take, drop, take-append-drop, take-take}
-use Rattle.std.proofs.Math.Seq.{slice}
+use Rattle.std.proofs.Common.{◌≡◌, refl, sym, ap, ◌∙◌, subst, arith, Bool, true, false, cond, Option, Some, None, IfSome, List}
+use Rattle.std.proofs.Common.{[], ◌++◌, append_assoc, append-nil, ℕ, ◌<◌, length, take, drop, take-append-drop}
 use native.Mathlib.Decide.{dec_lt}
 use Rattle.std.specs.Io.KnownBytes.{Keeps, Appends, Consumes, IsAtEnd}
 use Rattle.std.proofs.KnownBytes.{Consumes-nil, Consumes-trans, Consumes-kept, Appends-nil, Appends-trans, Keeps-refl}
-use Rattle.rules.specs.Call.{Run}
-use Rattle.bench_line.specs.Bench.{Rows, State, fresh_run, start, cut, from, bench}
-use Rattle.bench_line.specs.Held.{state_of}
-use Rattle.bench_lib.specs.declared.Progress.{Progress}
-use Rattle.bench_lib.specs.Served.{Open, Waits, Serves, Starts, Lined, rest}
+use Rattle.bench_line.specs.Bench.{State, start, cut, from, bench}
+use Rattle.bench_lib.specs.declared.input.Input.{Input}
+use Rattle.bench_lib.specs.declared.output.Output.{Output}
+use Rattle.bench_lib.specs.Served.{Open, Waits, Serves, Starts, Lined, rest, printed}
 use Rattle.bench_lib.specs.Streams.{ReadsOn, Breaks}
 use Rattle.bench_lib.specs.Whole.{off, nothing, long_bytes}
-
--- the arrays have their lengths
-pub record Arrays (input output kinds ns : List ℕ) (limits times : List Float) (places marks sinces : List ℕ) : Type 0 where
-  pub input_long : 65536 ≡ length input
-  pub output_long : 4096 ≡ length output
-  pub kinds_long : 257 ≡ length kinds
-  pub ns_long : 257 ≡ length ns
-  pub limits_long : 257 ≡ length limits
-  pub times_long : 257 ≡ length times
-  pub places_long : 257 ≡ length places
-  pub marks_long : 257 ≡ length marks
-  pub sinces_long : 257 ≡ length sinces
 
 -- a reader and a writer at the start and now, whether no more comes, the state, and the bytes in hand
 pub record Told (r₀ r w₀ w : Option (List ℕ)) (last : Bool) (s : State) (u : List ℕ) : Type 0 where
@@ -62,19 +48,14 @@ unfolding from
 off_from s u e = off s (cut u) e
 
 -- nothing was read or written yet
-pub told_first : (r w : Option (List ℕ)) (p : Progress) (t : Rows) (input : List ℕ) → Starts p → Told r r w w p.last (state_of p.held t fresh_run) (rest p input)
-told_first r w p t input h =
-    let none : rest p input ≡ [] = ap (λ i. slice i p.end input) h.empty.0 ∙ ap (λ j. slice 0 j input) h.empty.1 in
+pub told_first : (r w : Option (List ℕ)) (s : State) (i : Input) → s ≡ start → Starts i → Told r r w w i.last s (rest i)
+told_first r w s i e h =
     record {
       read = [];
       out = [];
       took = Consumes-nil r;
       wrote = Appends-nil w;
-      serves = record {
-        so =
-            λ more b.
-            ap (λ s. from s more) (sym (h.state t)) ∙ ap (λ x. from (state_of p.held t fresh_run) (x ++ more)) (sym none);
-      };
+      serves = record { so = λ more b. ap (λ s. from s more) (sym e) ∙ ap (λ x. from s (x ++ more)) (sym h.none) };
       ended = λ e. absurd (true_false (sym e ∙ h.more));
     }
 
@@ -88,72 +69,64 @@ module _ {r₀ r w₀ w : Option (List ℕ)} {last : Bool} {s : State} {u : List
       ∙ d.serves.so [] (λ _. refl)
       ∙ ap (λ x. d.out ++ from s x) (append-nil u)
 
-module _ {r₀ r w₀ w : Option (List ℕ)} (w' : Option (List ℕ)) (p : Progress) (t t' : Rows) (c c' : Run) (input : List ℕ) (p' : Progress) (output : List ℕ)
-    (d : Told r₀ r w₀ w p.last (state_of p.held t c) (rest p input)) (l : Lined p t c input p' t' c' output) where
+module _ {r₀ r w₀ w : Option (List ℕ)} (w' : Option (List ℕ)) (s s' : State) (i i' : Input) (o : Output)
+    (d : Told r₀ r w₀ w i.last s (rest i)) (l : Lined s i s' i' o) where
   -- what was printed was written
-  pub told_lined : Appends w w' (take p'.written output) → Told r₀ r w₀ w' p'.last (state_of p'.held t' c') (rest p' input)
+  pub told_lined : Appends w w' (printed o) → Told r₀ r w₀ w' i'.last s' (rest i')
   told_lined a =
-      let out = d.out ++ take p'.written output in
+      let out = d.out ++ printed o in
       record {
         read = d.read;
         out = out;
         took = d.took;
         wrote = Appends-trans _ _ _ _ _ d.wrote a;
         serves =
-            subst (λ b. Serves b start d.read out (state_of p'.held t' c') (rest p' input)) (sym l.last)
+            subst (λ b. Serves b start d.read out s' (rest i')) (sym l.last)
             (record {
               so =
                   λ more b.
-                  d.serves.so more b
-                  ∙ ap (λ x. d.out ++ x) (l.serves.so more b)
-                  ∙ sym (append_assoc d.out (take p'.written output) (from (state_of p'.held t' c') (rest p' input ++ more)));
+                  d.serves.so more b ∙ ap (λ x. d.out ++ x) (l.serves.so more b) ∙ sym (append_assoc d.out (printed o) (from s' (rest i' ++ more)));
             });
         ended = λ e. d.ended (sym l.last ∙ e);
       }
 
   -- a part of it was
-  pub breaks_written : (n : ℕ) → n ≤ p'.written → Appends w w' (take n output) → Breaks r₀ r w₀ w'
-  breaks_written n h a =
-      let k = p'.written in
-      let rest' = from (state_of p'.held t' c') (rest p' input) in
-      let behind = drop n (take k output) in
-      let printed : from (state_of p.held t c) (rest p input) ≡ take k output ++ rest' =
-      ap (from (state_of p.held t c)) (sym (append-nil (rest p input)))
-      ∙ l.serves.so [] (λ _. refl)
-      ∙ ap (λ x. take k output ++ from (state_of p'.held t' c') x) (append-nil (rest p' input)) in
-      let split : take k output ≡ take n output ++ behind =
-      sym (take-append-drop n (take k output)) ∙ ap (λ x. x ++ behind) (take-take n k output h) in
+  pub breaks_written : (n : ℕ) → Appends w w' (take n (printed o)) → Breaks r₀ r w₀ w'
+  breaks_written n a =
+      let out = printed o in
+      let rest' = from s' (rest i') in
+      let behind = drop n out in
+      let prints : from s (rest i) ≡ out ++ rest' =
+      ap (from s) (sym (append-nil (rest i))) ∙ l.serves.so [] (λ _. refl) ∙ ap (λ x. out ++ from s' x) (append-nil (rest i')) in
       record {
         input = d.read;
-        out = d.out ++ take n output;
+        out = d.out ++ take n out;
         left = behind ++ rest';
         took = d.took;
         wrote = Appends-trans _ _ _ _ _ d.wrote a;
         begins =
             begun d
-            ∙ ap (λ x. d.out ++ x) (printed ∙ ap (λ x. x ++ rest') split ∙ append_assoc (take n output) behind rest')
-            ∙ sym (append_assoc d.out (take n output) (behind ++ rest'));
+            ∙ ap (λ x. d.out ++ x) (prints ∙ ap (λ x. x ++ rest') (sym (take-append-drop n out)) ∙ append_assoc (take n out) behind rest')
+            ∙ sym (append_assoc d.out (take n out) (behind ++ rest'));
       }
 
-module _ {r₀ r w₀ w : Option (List ℕ)} (r' : Option (List ℕ)) (p : Progress) (t : Rows) (c : Run) (input : List ℕ) (p' : Progress) (input' : List ℕ)
-    (d : Told r₀ r w₀ w p.last (state_of p.held t c) (rest p input)) (l : p.last ≡ false) (o : ReadsOn r r' p input p' input') where
-  more_of : (more : List ℕ) → from start ((d.read ++ o.on.new) ++ more) ≡ d.out ++ from (state_of p'.held t c) (rest p' input' ++ more)
+module _ {r₀ r w₀ w : Option (List ℕ)} (r' : Option (List ℕ)) (s : State) (i i' : Input)
+    (d : Told r₀ r w₀ w i.last s (rest i)) (l : i.last ≡ false) (o : ReadsOn r r' i i') where
+  more_of : (more : List ℕ) → from start ((d.read ++ o.on.new) ++ more) ≡ d.out ++ from s (rest i' ++ more)
   more_of more =
       let new = o.on.new in
-      let u = rest p input in
+      let u = rest i in
       ap (from start) (append_assoc d.read new more)
       ∙ d.serves.so (new ++ more) (λ e. absurd (true_false (sym e ∙ l)))
-      ∙ ap (λ x. d.out ++ from (state_of p.held t c) x) (sym (append_assoc u new more) ∙ ap (λ x. x ++ more) (sym o.on.bytes))
-      ∙ ap (λ h. d.out ++ from (state_of h t c) (rest p' input' ++ more)) (sym o.on.held)
+      ∙ ap (λ x. d.out ++ from s x) (sym (append_assoc u new more) ∙ ap (λ x. x ++ more) (sym o.on.bytes))
 
   -- a line that takes all the room is malformed, whatever comes behind
-  too_long : Waits (rest p input) p.last → length input' ≡ 65536 → p'.last ≡ true → (length (rest p' input') < length input' → ⊥) → (more : List ℕ)
+  too_long : Waits (rest i) i.last → i'.last ≡ true → (length (rest i') < 65536 → ⊥) → (more : List ℕ)
       → bench ((d.read ++ o.on.new) ++ more) ≡ bench (d.read ++ o.on.new)
-  too_long w k e m more =
+  too_long w e m more =
       let all = d.read ++ o.on.new in
-      let s = state_of p'.held t c in
-      let u = rest p' input' in
-      let same : u ≡ rest p input = o.on.bytes ∙ ap (λ x. rest p input ++ x) (o.on.none e) ∙ append-nil (rest p input) in
+      let u = rest i' in
+      let same : u ≡ rest i = o.on.bytes ∙ ap (λ x. rest i ++ x) (o.on.none e) ∙ append-nil (rest i) in
       bench_from (all ++ more)
       ∙ more_of more
       ∙ ap (λ x. d.out ++ x) (long_bytes s u more (subst Open (sym same) w.unended) (omega arith))
@@ -162,8 +135,8 @@ module _ {r₀ r w₀ w : Option (List ℕ)} (r' : Option (List ℕ)) (p : Progr
       ∙ sym (bench_from all)
 
   -- more came
-  pub told_reads : Waits (rest p input) p.last → length input' ≡ 65536 → Told r₀ r' w₀ w p'.last (state_of p'.held t c) (rest p' input')
-  told_reads w k = record {
+  pub told_reads : Waits (rest i) i.last → Told r₀ r' w₀ w i'.last s (rest i')
+  told_reads w = record {
     read = d.read ++ o.on.new;
     out = d.out;
     took = Consumes-trans _ _ _ _ _ d.took o.took;
@@ -171,9 +144,9 @@ module _ {r₀ r w₀ w : Option (List ℕ)} (r' : Option (List ℕ)) (p : Progr
     serves = record { so = λ more _. more_of more };
     ended =
         λ e.
-        elim (dec_lt (length (rest p' input')) (length input')) [
+        elim (dec_lt (length (rest i')) 65536) [
           | yes m ↦ at_end r' (d.read ++ o.on.new) (o.ended e m)
-          | no m ↦ for_all r' (λ more. bench ((d.read ++ o.on.new) ++ more) ≡ bench (d.read ++ o.on.new)) (too_long w k e m)
+          | no m ↦ for_all r' (λ more. bench ((d.read ++ o.on.new) ++ more) ≡ bench (d.read ++ o.on.new)) (too_long w e m)
         ];
   }
 

@@ -1,10 +1,9 @@
 -- What the loop around one line promises: every byte is served once, in order.
-use Rattle.std.specs.Prelude.{◌≡◌, Bool, true, false, List, [], ◌∷◌, ◌++◌, ℕ, ◌-◌, ◌≤◌, ◌<◌, length, get_or, take, drop}
+use Rattle.std.specs.Prelude.{◌≡◌, Bool, true, false, Option, Some, None, List, [], ◌∷◌, ◌++◌, ℕ, ◌-◌, ◌≤◌, ◌<◌, length, get_or, take, drop}
 use Rattle.std.proofs.Math.Seq.{slice}
-use Rattle.rules.specs.Call.{Run}
-use Rattle.bench_lib.specs.declared.Progress.{Progress}
-use Rattle.bench_line.specs.Bench.{Rows, State, fresh_run, start, cut, from}
-use Rattle.bench_line.specs.Held.{state_of}
+use Rattle.bench_lib.specs.declared.input.Input.{Input}
+use Rattle.bench_lib.specs.declared.output.Output.{Output}
+use Rattle.bench_line.specs.Bench.{State, cut, from}
 
 -- bytes among which no line ends
 abbrev pub Open : List ℕ → Type 0
@@ -19,46 +18,35 @@ pub record Waits (bytes : List ℕ) (last : Bool) : Type 0 where
 abbrev pub Behind : Bool → List ℕ → Type 0
 Behind last more = last ≡ true → more ≡ []
 
--- the line that starts at a place ends at r, or no whole line is there
-pub record Ends (input : List ℕ) (start end : ℕ) (last : Bool) (r : ℕ) : Type 0 where
-  pub within : start < r → r ≤ end
-  pub line : start < r → (more : List ℕ) → Behind last more
-      → cut (slice start end input ++ more) ≡ take (r - start) (drop start input) ∷ cut (slice r end input ++ more)
-  pub waits : r ≤ start → Waits (slice start end input) last
-
--- what is between two places, at the start
-pub record Shifts (input : List ℕ) (start end r : ℕ) (input' : List ℕ) : Type 0 where
-  pub count : r ≡ end - start
-  pub bytes : take r input' ≡ slice start end input
+-- the first line has n bytes, or no whole line is there
+abbrev pub Ends : List ℕ → Bool → Option ℕ → Type 0
+Ends bytes last (Some n) =
+    (0 < n) × (n ≤ length bytes)
+    × ((more : List ℕ) → Behind last more → cut (bytes ++ more) ≡ take n bytes ∷ cut (drop n bytes ++ more))
+Ends bytes last None = Waits bytes last
 
 -- from the state s with the bytes u to come, out was printed; this led to the state s' with the bytes u' to come
 pub record Serves (last : Bool) (s : State) (u out : List ℕ) (s' : State) (u' : List ℕ) : Type 0 where
   pub so : (more : List ℕ) → Behind last more → from s (u ++ more) ≡ out ++ from s' (u' ++ more)
 
--- nothing has come yet
-pub record Starts (p : Progress) : Type 0 where
-  pub state : (t : Rows) → state_of p.held t fresh_run ≡ start
-  pub none : p.held.nodes ≡ 0
-  pub empty : (p.start ≡ 0) × (p.end ≡ 0)
-  pub more : p.last ≡ false
-
--- how far the program has come is within its runs
-pub record Fits (p : Progress) (input : List ℕ) : Type 0 where
-  pub few : p.held.nodes ≤ 257
-  pub ordered : p.start ≤ p.end
-  pub within : p.end ≤ length input
-
 -- the bytes that are still to come
-abbrev pub rest : Progress → List ℕ → List ℕ
-rest p input = slice p.start p.end input
+abbrev pub rest : Input → List ℕ
+rest i = slice i.start i.end i.bytes
+
+-- nothing was read yet
+pub record Starts (i : Input) : Type 0 where
+  pub none : rest i ≡ []
+  pub more : i.last ≡ false
+
+-- what was printed
+abbrev pub printed : Output → List ℕ
+printed o = take o.written o.bytes
 
 -- whole lines were served one after another: all of them, unless a line was malformed or the output has no room for one more line
-pub record Lined (p : Progress) (t : Rows) (c : Run) (input : List ℕ) (p' : Progress) (t' : Rows) (c' : Run) (output : List ℕ) : Type 0 where
-  pub serves : Serves p.last (state_of p.held t c) (rest p input) (take p'.written output) (state_of p'.held t' c') (rest p' input)
-  pub waits : p'.held.on ≡ true → p'.written ≤ 4096 - 45 → Waits (rest p' input) p.last
-  pub last : p'.last ≡ p.last
-  pub fits : Fits p' input
-  pub room : p'.written ≤ length output
+pub record Lined (s : State) (i : Input) (s' : State) (i' : Input) (o : Output) : Type 0 where
+  pub serves : Serves i.last s (rest i) (printed o) s' (rest i')
+  pub waits : s'.on ≡ true → o.written ≤ 4096 - 45 → Waits (rest i') i.last
+  pub last : i'.last ≡ i.last
 
 -- the first k bytes stay
 pub record Fetches (input : List ℕ) (k r : ℕ) (input' : List ℕ) : Type 0 where
@@ -67,9 +55,7 @@ pub record Fetches (input : List ℕ) (k r : ℕ) (input' : List ℕ) : Type 0 w
   pub bytes : take k input' ≡ take k input
 
 -- more bytes came behind those that were there, or these were the last
-pub record ReadOn (p : Progress) (input : List ℕ) (p' : Progress) (input' : List ℕ) : Type 0 where
+pub record ReadOn (i i' : Input) : Type 0 where
   pub new : List ℕ
-  pub bytes : rest p' input' ≡ rest p input ++ new
-  pub none : p'.last ≡ true → new ≡ []
-  pub held : p'.held ≡ p.held
-  pub fits : Fits p' input'
+  pub bytes : rest i' ≡ rest i ++ new
+  pub none : i'.last ≡ true → new ≡ []

@@ -3,7 +3,7 @@
 use Rattle.std.specs.Prelude.{◌≡◌, true, Option, List, ◌++◌, ℕ, ◌<◌, length}
 use Rattle.std.proofs.Math.Seq.{slice}
 use Rattle.std.specs.Io.KnownBytes.{Appends, Consumes, IsAtEnd}
-use Rattle.bench_lib.specs.declared.Progress.{Progress}
+use Rattle.bench_lib.specs.declared.input.Input.{Input}
 use Rattle.bench_line.specs.Bench.{bench}
 use Rattle.bench_lib.specs.Served.{Fetches, ReadOn, rest}
 
@@ -14,10 +14,10 @@ pub record Gives (r r' : Option (List ℕ)) (input : List ℕ) (k e : ℕ) (inpu
   pub ended : e ≡ k → k < length input' → IsAtEnd r'
 
 -- the bytes that came are what the reader gave; those that were there are the last only where it has nothing left, or where they took all the room
-pub record ReadsOn (r r' : Option (List ℕ)) (p : Progress) (input : List ℕ) (p' : Progress) (input' : List ℕ) : Type 0 where
-  pub on : ReadOn p input p' input'
+pub record ReadsOn (r r' : Option (List ℕ)) (i i' : Input) : Type 0 where
+  pub on : ReadOn i i'
   pub took : Consumes r r' on.new
-  pub ended : p'.last ≡ true → length (rest p' input') < length input' → IsAtEnd r'
+  pub ended : i'.last ≡ true → length (rest i') < 65536 → IsAtEnd r'
 
 -- a read or a write failed: out was written, the beginning of what the definition says of what was read
 pub record Breaks (r r' w w' : Option (List ℕ)) : Type 0 where

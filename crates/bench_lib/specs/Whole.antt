@@ -1,8 +1,8 @@
 -- The loop's turns, each as its functions promise it, print what the definition says of all that was read.
-use Rattle.std.specs.Prelude.{◌≡◌, refl, Bool, true, false, cond, List, [], ◌∷◌, ◌++◌, ℕ, suc, ◌<◌, length}
+use Rattle.std.specs.Prelude.{◌≡◌, refl, Bool, true, false, cond, Err, List, [], ◌∷◌, ◌++◌, ℕ, suc, ◌<◌, length}
 use Rattle.std.proofs.Common.{sym, ap, ap₂, ◌∙◌, append_assoc, append-nil, arith, ne_eqb, length-append}
 use Rattle.frames.specs.declared.Frame.TheVariants.{Malformed}
-use Rattle.frames.specs.declared.Reading.{Reading}
+use Rattle.frames.specs.declared.Unread.{Unread}
 use Rattle.frames.specs.Find.{found, statuses_in, leftovers_in}
 use Rattle.frames.specs.Finds.{none_found}
 use Rattle.frames.specs.Lengths.{longest}
@@ -37,7 +37,7 @@ unfolding from
 nothing s = refl
 
 -- ---- a line that is too long
-no_frame : (l : Line) → 20517 < length l → found l ≡ Reading.NoFrame
+no_frame : (l : Line) → 20517 < length l → found l ≡ Err Unread.NoFrame
 no_frame l h = none_found l (λ f xs ys g e. omega (arith, longest f xs ys g, ap length e))
 
 malformed : (s : State) (l : Line) → 20517 < length l → step s l ≡ (stopped s, printed (Malformed (line_number s.lines)))

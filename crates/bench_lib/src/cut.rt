@@ -1,33 +1,14 @@
-// Where the lines are in the bytes that were read.
-ghost use Rattle.std.specs.Prelude.{◌≤◌, length};
-ghost use Rattle.bench_lib.specs.Served.{Ends, Shifts};
+// Where the first line is in the bytes that were read.
+ghost use Rattle.bench_lib.specs.Served.{Ends};
 
-// The place after the line that starts at a place, or that place itself where no whole line is there. What stands before the end
-// is a line too if no more bytes come.
-pub fn line_end(input: &[u8], start: usize, end: usize, last: bool) -> usize
-    requires { end ≤ length input.now }
-    ensures { Ends input.now start end last result }
+// How many bytes the first line has, with its LF; None where no whole line is there. Bytes without an LF are a line too if no
+// more bytes come.
+pub fn line_end(bytes: &[u8], last: bool) -> Option<usize>
+    ensures { Ends bytes.now last result }
 {
-    let mut i = start;
-    while i < end {
-        if input[i] == 10 {
-            return i + 1;
-        }
-        i += 1;
+    match bytes.iter().position(|b| *b == b'\n') {
+        Some(before) => Some(before + 1),
+        None if last && !bytes.is_empty() => Some(bytes.len()),
+        None => None,
     }
-    if last { i } else { start }
-}
-
-// Moves what is between two places to the start, and answers how much it is.
-pub fn shift(input: &mut [u8], start: usize, end: usize) -> usize
-    requires start_le_end { start ≤ end }
-    requires end_in_bounds { end ≤ length input.old }
-    ensures { Shifts input.old start end result input.new }
-{
-    let mut n = 0;
-    while n < end - start {
-        input[n] = input[start + n];
-        n += 1;
-    }
-    n
 }

@@ -3,179 +3,75 @@
 #![tactic(auto)]
 
 mod cut;
+mod fetch;
+mod input;
+mod output;
 
-ghost use Rattle.std.specs.Prelude.{◌≤◌, ℕ, List, length, take, IfOk, OnOk, OnErr, IfSome};
-ghost use Rattle.std.specs.Io.KnownBytes.{Keeps, Appends, Consumes};
-ghost use Rattle.rules.specs.Call.{run};
-ghost use Rattle.bench_line.specs.Bench.{rows, bench};
-ghost use Rattle.bench_line.specs.Held.{Long};
-ghost use Rattle.bench_lib.specs.Served.{Starts, Fits, Lined};
-ghost use Rattle.bench_lib.specs.Streams.{Gives, ReadsOn, Breaks};
+ghost use Rattle.std.specs.Prelude.{◌≤◌, ℕ, List, length, take, OnOk, OnErr, IfSome};
+ghost use Rattle.std.specs.Io.KnownBytes.{Appends, Consumes};
+ghost use Rattle.bench_line.specs.Bench.{bench};
+ghost use Rattle.lent.specs.Lent.{run_in, SameCells};
+ghost use Rattle.bench_line.specs.Held.{state_of, SameRows, SameAnswered};
+ghost use Rattle.bench_lib.specs.Served.{Lined};
+ghost use Rattle.bench_lib.specs.Streams.{Breaks};
 
-use bench_line::{Held, NODES, one};
-use cut::{line_end, shift};
-use rules::Record;
+use bench_line::{Answered, Held, Rows, one};
+use cut::line_end;
+use frames::{ANSWERS, NODES};
+use input::Input;
+use lent::CellsMut;
+use output::Output;
 use std::io;
 use std::io::{ErrorKind, Read, Write};
 
-// The most answers of a tick.
-const ANSWERS: usize = 1024;
-
-// More bytes than the longest line has, and room for many answers.
-const INPUT: usize = 65536;
-
-const OUTPUT: usize = 4096;
-
-// The longest line that is printed.
-const LINE: usize = 45;
-
-// How far the program has come: what is held, the part of the input that is still to be served, whether it is the last, and how
-// many bytes are to be written.
-#[derive(Clone, Copy)]
-struct Progress {
-    held: Held,
-    start: usize,
-    end: usize,
-    last: bool,
-    written: usize,
-}
-
-// Nothing has come yet.
-fn first() -> Progress
-    ensures { Starts result }
-{
-    Progress {
-        held: Held {
-            record: Record {
-                finished: false,
-                ticks: 0,
-            },
-            nodes: 0,
-            begun: false,
-            lines: 0,
-            on: true,
-        },
-        start: 0,
-        end: 0,
-        last: false,
-        written: 0,
-    }
-}
-
-// Serves the lines of a part of the input in order, as long as the output has room.
+// Serves the lines in hand in order, as long as the output has room.
 fn lines(
-    at: Progress,
-    input: &[u8],
-    kinds: &mut [u8],
-    ns: &mut [u16],
-    limits: &mut [f64],
-    times: &mut [f64],
-    places: &mut [u16],
-    marks: &mut [u8],
-    sinces: &mut [u64],
-    output: &mut [u8],
-) -> Progress
-    requires fits { Fits at input.now }
-    requires long { Long 257 (rows kinds.old ns.old limits.old) }
-    requires in_bounds { 4096 ≤ length output.old }
-    ensures { Lined
-        at (rows kinds.old ns.old limits.old)
-        (run times.old places.old marks.old sinces.old) input.now
-        result (rows kinds.new ns.new limits.new)
-        (run times.new places.new marks.new sinces.new) output.new }
+    held: &mut Held,
+    rows: &mut Rows,
+    cells: &mut CellsMut,
+    input: &mut Input,
+    answered: &mut Answered,
+    output: &mut Output,
+)
+    ensures lined { Lined (state_of held.old rows.old (run_in cells.old)) input.old (state_of held.new rows.new (run_in cells.new)) input.new output.new }
+    ensures same_rows { SameRows rows.old rows.new }
+    ensures same_cells { SameCells cells.old cells.new }
+    ensures same_answered { SameAnswered answered.old answered.new }
 {
-    let mut statuses = [0u8; ANSWERS];
-    let mut patterns = [0u64; ANSWERS];
-    let mut leftovers = [0.0f64; ANSWERS];
-    let mut held = at.held;
-    let mut start = at.start;
-    let end = at.end;
-    let last = at.last;
-    let mut written = 0;
-    while held.on {
-        if written > OUTPUT - LINE {
+    output.written = 0;
+    while held.on && output.has_room() {
+        let rest = &input.bytes[input.start..input.end];
+        let Some(n) = line_end(rest, input.last) else {
             break;
-        }
-        let next = line_end(input, start, end, last);
-        if next <= start {
-            break;
-        }
-        let done = one(
+        };
+        let printed = one(
             held,
-            &input[start..next],
-            kinds,
-            ns,
-            limits,
-            times,
-            places,
-            marks,
-            sinces,
-            &mut statuses,
-            &mut patterns,
-            &mut leftovers,
-            &mut output[written..],
+            rows,
+            cells,
+            &rest[..n],
+            answered,
+            &mut output.bytes[output.written..],
         );
-        let after = done.held;
-        held = after;
-        written += done.printed;
-        start = next;
-    }
-    Progress {
-        held,
-        start,
-        end,
-        last,
-        written,
+        output.written += printed;
+        input.start += n;
     }
 }
 
 // Writes what was printed.
-fn flush<W: Write>(to: &mut W, output: &[u8], written: usize) -> io::Result<()>
-    requires { written ≤ length output.now }
-    ensures ok { OnOk result
-        (Appends (W.contents to.old) (W.contents to.new) (take written output.now)) }
-    ensures err { OnErr result ((n : ℕ) × (n ≤ written)
-        × Appends (W.contents to.old) (W.contents to.new) (take n output.now)) }
+fn flush<W: Write>(to: &mut W, printed: &[u8]) -> io::Result<()>
+    ensures ok { OnOk result (Appends (W.contents to.old) (W.contents to.new) printed.now) }
+    ensures err { OnErr result ((n : ℕ) × (n ≤ length printed.now)
+        × Appends (W.contents to.old) (W.contents to.new) (take n printed.now)) }
 {
     let mut done = 0;
-    while done < written {
-        let n = to.write(&output[done..written])?;
+    while done < printed.len() {
+        let n = to.write(&printed[done..])?;
         if n == 0 {
             return Err(io::Error::new(ErrorKind::WriteZero, "nothing more can be written"));
         }
         done += n;
     }
     Ok(())
-}
-
-// Reads bytes behind the first kept ones, and answers where they end.
-fn fetch<R: Read>(from: &mut R, input: &mut [u8], kept: usize) -> io::Result<usize>
-    requires { kept ≤ length input.old }
-    ensures ok { IfOk result
-        (λ end. Gives (R.remaining from.old) (R.remaining from.new) input.old kept end input.new) }
-    ensures err { OnErr result (Keeps (R.remaining from.old) (R.remaining from.new)) }
-{
-    let got = from.read(&mut input[kept..])?;
-    Ok(kept + got)
-}
-
-// What is left is moved to the input's start, and what comes next is put behind it.
-fn read_on<R: Read>(from: &mut R, at: Progress, input: &mut [u8]) -> io::Result<Progress>
-    requires { Fits at input.old }
-    ensures ok { IfOk result
-        (λ p. ReadsOn (R.remaining from.old) (R.remaining from.new) at input.old p input.new) }
-    ensures err { OnErr result (Keeps (R.remaining from.old) (R.remaining from.new)) }
-{
-    let held = at.held;
-    let kept = shift(input, at.start, at.end);
-    let end = fetch(from, input, kept)?;
-    Ok(Progress {
-        held,
-        start: 0,
-        end,
-        last: end == kept,
-        written: 0,
-    })
 }
 
 // Serves the lines of a reader up to its end or the first malformed line. Where a read or a write fails, nothing more is read or
@@ -192,40 +88,44 @@ pub fn between<R: Read, W: Write>(from: &mut R, to: &mut W) -> io::Result<()>
     ensures err { OnErr result (Breaks (R.remaining from.old) (R.remaining from.new)
         (W.contents to.old) (W.contents to.new)) }
 {
-    let mut input = [0u8; INPUT];
-    let mut output = [0u8; OUTPUT];
-    let mut kinds = [0u8; NODES];
-    let mut ns = [0u16; NODES];
-    let mut limits = [0.0f64; NODES];
-    let mut times = [0.0f64; NODES];
-    let mut places = [0u16; NODES];
-    let mut marks = [0u8; NODES];
-    let mut sinces = [0u64; NODES];
-    let mut at = first();
+    let mut held = Held::new();
+    let mut rows = Rows {
+        kinds: &mut [0; NODES],
+        ns: &mut [0; NODES],
+        limits: &mut [0.0; NODES],
+    };
+    let mut cells = CellsMut {
+        times: &mut [0.0; NODES],
+        places: &mut [0; NODES],
+        marks: &mut [0; NODES],
+        sinces: &mut [0; NODES],
+    };
+    let mut input = Input::new();
+    let mut answered = Answered {
+        statuses: &mut [0; ANSWERS],
+        patterns: &mut [0; ANSWERS],
+        leftovers: &mut [0.0; ANSWERS],
+    };
+    let mut output = Output::new();
     // Nothing says that the input ends: so many turns are more than any input needs.
     for _ in 0..u64::MAX {
-        at = lines(
-            at,
-            &input,
-            &mut kinds,
-            &mut ns,
-            &mut limits,
-            &mut times,
-            &mut places,
-            &mut marks,
-            &mut sinces,
+        lines(
+            &mut held,
+            &mut rows,
+            &mut cells,
+            &mut input,
+            &mut answered,
             &mut output,
         );
-        flush(to, &output, at.written)?;
-        let held = at.held;
+        flush(to, &output.bytes[..output.written])?;
         if !held.on {
             return Ok(());
         }
-        if at.written <= OUTPUT - LINE {
-            if at.last {
+        if output.has_room() {
+            if input.last {
                 return Ok(());
             }
-            at = read_on(from, at, &mut input)?;
+            input.read_on(from)?;
         }
     }
     Err(io::Error::new(ErrorKind::TimedOut, "gave up after 2^64 turns"))

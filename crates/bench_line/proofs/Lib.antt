@@ -1,2 +1,2 @@
-mod Came
-mod Puts
+pub mod Came
+pub mod Puts

@@ -2,7 +2,9 @@
 use Rattle.std.proofs.Common.{◌≡◌, ℕ, ◌≤◌, min, List, [], ◌++◌, length, ap, ◌∙◌, arith, le-leb}
 use Rattle.frames.specs.declared.Frame.{Frame}
 use Rattle.frames.specs.declared.Frame.TheVariants.{Node, Asked, Said, Malformed}
-use Rattle.frames.specs.declared.Written.{Written}
+use Rattle.frames.specs.declared.Unwritten.{Unwritten}
+use Rattle.std.specs.Prelude.{Result, Ok}
+use Rattle.std.specs.Result.{result_unwrap_or}
 use Rattle.frames.specs.Hex.{digits}
 use Rattle.frames.specs.Line.{Field, answers_of, fields, kind_of, line, laid, wrote}
 use Rattle.frames.specs.Parts.{size_of}
@@ -21,24 +23,17 @@ module _ (f : Frame) (ss ls room : List ℕ) (none : answers_of f ≡ 0) where
   alike : line f ss ls ≡ printed f
   alike = ap (λ (fs : List Field). digits 2 (kind_of f) ++ fields fs) (body_agree f ss ls [] [] (rw none))
 
-  pub writes : 45 ≤ length room → wrote f ss ls room ≡ (Written.Bytes (length (printed f)), laid (printed f) room)
+  writes : 45 ≤ length room → wrote f ss ls room ≡ (Ok (length (printed f)), laid (printed f) room)
   writes h =
       let l : length (printed f) ≤ length room = omega (arith, length_line f [] [], small f none) in
       let few : answers_of f ≤ min 1024 (min (length ss) (length ls)) = omega (arith, none) in
       rw (alike, le-leb (answers_of f) (min 1024 (min (length ss) (length ls))) few, le-leb (length (printed f)) (length room) l)
 
-  module _ (long : 45 ≤ length room) (r : Written) (room' : List ℕ) (e : ◌≡◌ {A = Written × List ℕ} (r, room') (wrote f ss ls room)) where
-    is_written : ◌≡◌ {A = Written × List ℕ} (r, room') (Written.Bytes (length (printed f)), laid (printed f) room)
-    is_written = e ∙ writes long
-
-    is_bytes : r ≡ Written.Bytes (length (printed f))
-    is_bytes = ap (λ (x : Written × List ℕ). x.0) is_written
-
-    pub prints : (n : ℕ) → r ≡ Written.Bytes n → Prints (printed f) room n room'
-    prints n p = record { count = cc is_bytes; bytes = ap (λ (x : Written × List ℕ). x.1) is_written }
-
-    pub never_none : r ≡ Written.NoFrame → ⊥
-    never_none p = let z : ◌≡◌ {A = ℕ} 0 1 = cc is_bytes in omega arith
-
-    pub never_short : r ≡ Written.TooShort → ⊥
-    never_short p = let z : ◌≡◌ {A = ℕ} 0 1 = cc is_bytes in omega arith
+  pub prints : 45 ≤ length room → (r : Result ℕ Unwritten) (room' : List ℕ) (n : ℕ) → ◌≡◌ {A = Result ℕ Unwritten × List ℕ} (r, room') (wrote f ss ls room)
+      → n ≡ result_unwrap_or r 0 → Prints (printed f) room n room'
+  prints h r room' n e u =
+      let w = e ∙ writes h in
+      record {
+        count = u ∙ ap (λ (x : Result ℕ Unwritten × List ℕ). result_unwrap_or x.0 0) w;
+        bytes = ap (λ (x : Result ℕ Unwritten × List ℕ). x.1) w;
+      }

@@ -16,7 +16,7 @@ fn four(x: usize) -> u16
 pub fn said(call: Call, answer: Answer) -> Frame
     ensures { result ≡ said_of call answer }
 {
-    let told = answer.said();
+    let told = rules::Said::from(answer);
     Frame::Said {
         call,
         no: told.no,

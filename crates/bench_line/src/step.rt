@@ -1,41 +1,17 @@
 // One line: what it asks for is done, and what it prints is put into a room.
 ghost use Rattle.std.specs.Prelude.{◌≡◌, ◌<◌, ◌≤◌, length, take};
 ghost use Rattle.frames.specs.Line.{answers_of};
-ghost use Rattle.rules.specs.Call.{run};
-ghost use Rattle.bench_line.specs.Bench.{rows, event_of, line_number, printed, served};
-ghost use Rattle.bench_line.specs.Held.{state_of, restarts_of, Long, Rooms, Prints, Keeps, Tells, Stops, Leaves, Steps};
+ghost use Rattle.bench_line.specs.Bench.{event_of, printed};
+ghost use Rattle.rules.specs.Call.{Run};
+ghost use Rattle.lent.specs.Lent.{run_in, SameCells};
+ghost use Rattle.bench_line.specs.Held.{state_of, restarts_of, with_row, SameRows, SameAnswered, Prints, Serves, Steps};
 
+use crate::held::{Answered, Held, Rows};
 use crate::said::said;
-use frames::{Call, Event, Frame, Input, Written};
-use rules::{Called, Record};
-
-// Room for every table: one node more than it may have, so that the 257th is refused by the tick.
-pub const NODES: usize = 257;
-
-// What is held between two lines beside the table and the cells: the record, how many nodes there are, whether a tick or a restart
-// came, how many lines came, and whether to go on.
-#[derive(Clone, Copy)]
-pub struct Held {
-    pub record: Record,
-    pub nodes: usize,
-    pub begun: bool,
-    pub lines: u16,
-    pub on: bool,
-}
-
-// What is held after a line, and how many bytes it printed.
-#[derive(Clone, Copy)]
-pub struct Done {
-    pub held: Held,
-    pub printed: usize,
-}
-
-// The number of the line that has come.
-fn number(lines: u16) -> u16
-    ensures { result ≡ line_number lines }
-{
-    std::num::wrapping_add_u16(lines, 1)
-}
+use call::Deep;
+use frames::{Call, Event, Frame, Input, NODES};
+use lent::{Answers, CellsMut, Table};
+use rules::Answer;
 
 // Puts a frame without answers at the start of a room.
 fn put(frame: Frame, room: &mut [u8]) -> usize
@@ -43,13 +19,7 @@ fn put(frame: Frame, room: &mut [u8]) -> usize
     requires in_bounds { 45 ≤ length room.old }
     ensures { Prints (printed frame) room.old result room.new }
 {
-    let statuses = [0u8; 1];
-    let leftovers = [0u64; 1];
-    match writer::write(frame, &statuses, &leftovers, room) {
-        Written::Bytes(n) => n,
-        Written::NoFrame => 0,
-        Written::TooShort => 0,
-    }
+    writer::write(frame, &[], &[], room).unwrap_or(0)
 }
 
 fn event_of(event: Event) -> rules::Event
@@ -61,195 +31,113 @@ fn event_of(event: Event) -> rules::Event
     }
 }
 
-// Keeps a node as the table's next row.
-fn keep(
-    held: Held,
-    kind: u8,
-    n: u16,
-    limit: u64,
-    kinds: &mut [u8],
-    ns: &mut [u16],
-    limits: &mut [f64],
-) -> Done
-    requires nodes_bound { held.nodes < 257 }
-    requires long { Long 257 (rows kinds.old ns.old limits.old) }
-    ensures { Keeps held (rows kinds.old ns.old limits.old)
-        kind n limit
-        result (rows kinds.new ns.new limits.new) }
-{
-    let at = held.nodes;
-    kinds[at] = kind;
-    ns[at] = n;
-    limits[at] = frames::time(limit);
-    let record = held.record;
-    Done {
-        held: Held {
-            record,
-            nodes: at + 1,
-            begun: held.begun,
-            lines: number(held.lines),
-            on: true,
-        },
-        printed: 0,
-    }
-}
-
-// A tick or a restart left this record, and this frame to print.
-fn tell(held: Held, record: Record, frame: Frame, room: &mut [u8]) -> Done
-    requires frame_value { answers_of frame ≡ 0 }
-    requires in_bounds { 45 ≤ length room.old }
-    ensures { Tells held «record» frame room.old result room.new }
-{
-    Done {
-        held: Held {
-            record,
-            nodes: held.nodes,
-            begun: true,
-            lines: number(held.lines),
-            on: true,
-        },
-        printed: put(frame, room),
-    }
-}
-
-// The line is malformed.
-fn stop(held: Held, room: &mut [u8]) -> Done
-    requires { 45 ≤ length room.old }
-    ensures { Stops held room.old result room.new }
-{
-    let record = held.record;
-    let line = number(held.lines);
-    Done {
-        held: Held {
-            record,
-            nodes: held.nodes,
-            begun: held.begun,
-            lines: line,
-            on: false,
-        },
-        printed: put(Frame::Malformed { line }, room),
-    }
-}
-
 fn restarts(call: Call) -> bool
     ensures { result ≡ restarts_of call }
 {
-    match call {
-        Call::Tick => false,
-        Call::Restart => true,
-    }
+    matches!(call, Call::Restart)
 }
 
-// The call that a line asks for, with the first count answers. Nobody sees its spare and its board.
+// Keeps a node as the table's next row.
+fn keep(held: &mut Held, rows: &mut Rows, kind: u8, n: u16, limit: u64)
+    requires { held.old.nodes < 257 }
+    ensures kept { (c : Run) → state_of held.new rows.new c ≡ with_row (state_of held.old rows.old c) kind n limit }
+    ensures same_rows { SameRows rows.old rows.new }
+{
+    let at = held.nodes;
+    rows.kinds[at] = kind;
+    rows.ns[at] = n;
+    rows.limits[at] = frames::time(limit);
+    held.nodes = at + 1;
+}
+
+// The call that a line asks for, with these answers. Nobody sees its spare and its board.
 fn serve(
-    held: Held,
+    held: &mut Held,
+    rows: &Rows,
+    cells: &mut CellsMut,
     call: Call,
     event: Event,
     fuel: u32,
-    count: usize,
-    kinds: &[u8],
-    ns: &[u16],
-    limits: &[f64],
-    times: &mut [f64],
-    places: &mut [u16],
-    marks: &mut [u8],
-    sinces: &mut [u64],
-    statuses: &[u8],
-    leftovers: &[f64],
-) -> Called
-    requires long { Long held.nodes (rows kinds.now ns.now limits.now) }
-    requires count_in_bounds { count ≤ length statuses.now }
-    requires count_in_bounds_2 { count ≤ length leftovers.now }
-    ensures { Leaves
-        (served (state_of held (rows kinds.now ns.now limits.now)
-        (run times.old places.old marks.old sinces.old))
-        call event fuel (take count statuses.now) (take count leftovers.now))
-        result.answer result.record (run times.new places.new marks.new sinces.new) }
+    answers: &Answers,
+) -> Answer
+    ensures served { Serves (state_of held.old rows.now (run_in cells.old)) call event fuel answers.now.statuses.now answers.now.leftovers.now
+        result (state_of held.new rows.now (run_in cells.new)) }
+    ensures same_cells { SameCells cells.old cells.new }
 {
-    let mut spare_times = [0.0f64; NODES];
-    let mut spare_places = [0u16; NODES];
-    let mut spare_marks = [0u8; NODES];
-    let mut spare_sinces = [0u64; NODES];
+    let mut times = [0.0; NODES];
+    let mut places = [0; NODES];
+    let mut marks = [0; NODES];
+    let mut sinces = [0; NODES];
     let mut board = [0u8; NODES];
-    let nodes = held.nodes;
-    let record = held.record;
-    let mut opens = [0u64; 0];
-    let mut counts = [0u32; 0];
-    let mut wholes = [0.0f64; 0];
-    let mut rests = [0.0f64; 0];
-    call::value(
-        record,
-        &kinds[..nodes],
-        &ns[..nodes],
-        &limits[..nodes],
-        times,
-        places,
-        marks,
-        sinces,
-        &mut spare_times,
-        &mut spare_places,
-        &mut spare_marks,
-        &mut spare_sinces,
+    let called = call::value(
+        &mut Deep,
+        held.record,
+        &Table {
+            kinds: &rows.kinds[..held.nodes],
+            ns: &rows.ns[..held.nodes],
+            limits: &rows.limits[..held.nodes],
+        },
+        cells,
+        &mut CellsMut {
+            times: &mut times,
+            places: &mut places,
+            marks: &mut marks,
+            sinces: &mut sinces,
+        },
         &mut board,
         event_of(event),
         fuel,
-        &statuses[..count],
-        &leftovers[..count],
-        &mut opens,
-        &mut counts,
-        &mut wholes,
-        &mut rests,
-        false,
+        answers,
         restarts(call),
-    )
+    );
+    held.record = called.record;
+    held.begun = true;
+    called.answer
 }
 
-// Does what a line asks for.
+// Does what a line asks for, and answers how many bytes it printed.
 pub fn one(
-    held: Held,
+    held: &mut Held,
+    rows: &mut Rows,
+    cells: &mut CellsMut,
     line: &[u8],
-    kinds: &mut [u8],
-    ns: &mut [u16],
-    limits: &mut [f64],
-    times: &mut [f64],
-    places: &mut [u16],
-    marks: &mut [u8],
-    sinces: &mut [u64],
-    statuses: &mut [u8],
-    patterns: &mut [u64],
-    leftovers: &mut [f64],
+    answered: &mut Answered,
     room: &mut [u8],
-) -> Done
-    requires nodes_bound { held.nodes ≤ 257 }
-    requires long { Long 257 (rows kinds.old ns.old limits.old) }
-    requires rooms { Rooms statuses.old patterns.old leftovers.old room.old }
-    ensures { Steps
-        (state_of held (rows kinds.old ns.old limits.old)
-        (run times.old places.old marks.old sinces.old))
-        line.now room.old
-        result (rows kinds.new ns.new limits.new)
-        (run times.new places.new marks.new sinces.new) room.new }
+) -> usize
+    requires { 45 ≤ length room.old }
+    ensures steps { Steps (state_of held.old rows.old (run_in cells.old)) line.now room.old
+        result (state_of held.new rows.new (run_in cells.new)) room.new }
+    ensures same_rows { SameRows rows.old rows.new }
+    ensures same_cells { SameCells cells.old cells.new }
+    ensures same_answered { SameAnswered answered.old answered.new }
 {
-    let nodes = held.nodes;
-    let begun = held.begun;
-    match frames::admit(nodes, begun, frames::read(line, statuses, patterns)) {
-        Input::Node { kind, n, limit } => keep(held, kind, n, limit, kinds, ns, limits),
+    let reading = frames::read(line, answered.statuses, answered.patterns);
+    let input = frames::admit(held.nodes, held.begun, reading);
+    held.lines = held.lines.wrapping_add(1);
+    held.on = true;
+    match input {
+        Input::Node { kind, n, limit } => {
+            keep(held, rows, kind, n, limit);
+            0
+        }
         Input::Asked {
             call,
             event,
             fuel,
             count,
         } => {
-            let given = count as usize;
-            frames::times(given, patterns, leftovers);
-            let called = serve(
-                held, call, event, fuel, given, kinds, ns, limits, times, places, marks, sinces,
-                statuses, leftovers,
-            );
-            let answer = called.answer;
-            let record = called.record;
-            tell(held, record, said(call, answer), room)
+            let count = usize::from(count);
+            frames::times(count, answered.patterns, answered.leftovers);
+            let answers = Answers {
+                statuses: &answered.statuses[..count],
+                leftovers: &answered.leftovers[..count],
+            };
+            let answer = serve(held, rows, cells, call, event, fuel, &answers);
+            put(said(call, answer), room)
         }
-        Input::Malformed => stop(held, room),
+        Input::Malformed => {
+            held.on = false;
+            put(Frame::Malformed { line: held.lines }, room)
+        }
     }
 }

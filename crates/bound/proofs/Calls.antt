@@ -1,5 +1,5 @@
 -- The whole call on a table that is good: what its tree's subtrees need is there, and each way gives the rules' answer.
-use mathlib.Core.Path.{◌≡◌, ◌∙◌}
+use mathlib.Core.Path.{◌≡◌, sym, ◌∙◌}
 use mathlib.Core.Bool.{true, false, cond, ◌&&◌}
 use mathlib.Core.List.{List}
 use Prim.Native.Nat.{ℕ, ◌≤◌}
@@ -9,17 +9,16 @@ use borrow.Author.Tests.{le-leb}
 use lib.Dec.{leb}
 use lib.Ieee.{Float, Format}
 use lib.ListN.{get_or}
-use Rattle.rules.specs.declared.answer.BoundAnswer.{BoundAnswer}
 use Rattle.rules.specs.declared.answer.BoundAnswer.TheVariants as says
 use Rattle.rules.specs.Table.{most_deep, bad, table_within}
 use Rattle.rules.specs.Bound.{cap, num, whole_time, boundable, bound, told, bound_call}
 use Rattle.tables.proofs.Placed.{at_end}
 use Rattle.tables.proofs.Good.{Good}
-use Rattle.limits.specs.declared.ticks.Ticks.{Ticks}
-use Rattle.limits.specs.Ticks.{lim, clipped}
+use Rattle.limits.specs.Ticks.{Ticks, lim, clipped}
 use Rattle.limits.proofs.Laws.{clip_told}
 use Rattle.limits.proofs.WholeTimes.{cap_most}
-use Rattle.bound.specs.Ready.{Step, Room, Ready}
+use Rattle.lent.specs.declared.table.Table.{Table}
+use Rattle.bound.specs.Ready.{Step, Room, Ready, Rooted}
 
 -- ---- the step
 pub step_allowed_lem : (F : Format) (d : ℕ) → (d ≡ 0 → ⊥) → d ≤ cap F → Step d
@@ -60,9 +59,8 @@ module _ (kinds ns : List ℕ) (limits : List Float) (ends : List ℕ) (count : 
 
           pub bounded_told :
               boundable F g.tree ≡ true →
-              (r : Ticks) (a : BoundAnswer) → r ≡ clipped (bound d g.tree) → a ≡ told (lim r) →
-              a ≡ bound_call F kinds ns limits x
-          bounded_told b r a p q = q ∙ rw (good_call, w, ← n, above_zero, b, p) (clip_told (bound d g.tree))
+              (r : Ticks) → r ≡ clipped (bound d g.tree) → told (lim r) ≡ bound_call F kinds ns limits x
+          bounded_told b r p = rw (good_call, w, ← n, above_zero, b, p) (clip_told (bound d g.tree))
 
 -- ---- a table that was found bad
 pub bad_told : (F : Format) (kinds ns : List ℕ) (limits : List Float) (place : ℕ)
@@ -70,3 +68,7 @@ pub bad_told : (F : Format) (kinds ns : List ℕ) (limits : List Float) (place :
     → (x : Float) → says.BadTable place ≡ bound_call F kinds ns limits x
 unfolding bound_call
 bad_told F kinds ns limits place e x = rw (bound_call, e)
+
+-- ---- the rows of a good table are its tree's
+pub rooted : (t : Table) (ends : List ℕ) (count : ℕ) (g : Good most_deep t.kinds.now t.ns.now t.limits.now ends count) → Rooted t ends g.tree
+rooted t ends count g = record { held = g.stands; all = ends_at _ _ _ ends count g ∙ sym g.nodes }

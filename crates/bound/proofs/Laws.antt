@@ -3,7 +3,6 @@ use mathlib.Core.Path.{◌≡◌, refl, sym, ap, subst, ◌∙◌}
 use mathlib.Core.Bool.{Bool, true, false, cond, not, ◌&&◌}
 use mathlib.Core.List.{List}
 use Prim.Native.Nat.{ℕ, suc, ◌+◌, ◌-◌, ◌≤◌, ◌<◌}
-use native.Mathlib.Nat.{le_refl}
 use native.Mathlib.Numerals.{add-one}
 use native.Mathlib.Omega.{arith}
 use borrow.Author.Tests.{leb-true}
@@ -20,8 +19,7 @@ use Rattle.tables.specs.At.{Row, At, Ats}
 use Rattle.tables.proofs.Placed.{size_pos, at_end, ats_end}
 use Rattle.tables.proofs.Rows.{any_default}
 use Rattle.limits.specs.declared.node.Join.{Join}
-use Rattle.limits.specs.declared.ticks.Ticks.{Ticks}
-use Rattle.limits.specs.Ticks.{lim, clipped}
+use Rattle.limits.specs.Ticks.{Ticks, lim, clipped}
 use Rattle.limits.specs.Node.{join_of, none_l, join_l, joined, Alone, Together, row_bounded}
 use Rattle.limits.proofs.Laws.{clip_join}
 use Rattle.bound.proofs.Joins.{onto, onto_all}
@@ -196,12 +194,6 @@ module _ (F : Format) (kinds ns : List ℕ) (limits : List Float) (ends : List �
       pub sofar : Lim
       pub counted : all ≡ clipped sofar
       pub same : onto join d sofar trees ≡ onto join d (none_l join) ts
-
-    pub left_start :
-        (all : Ticks) → all ≡ clipped (none_l join) →
-        (ts : Forest) (stop : ℕ) → Stand F kinds ns limits ends from count₀ ts stop →
-        Left ts stop from count₀ all
-    left_start all e ts stop s = record { trees = ts; stand = s; later = le_refl from; sofar = none_l join; counted = e; same = refl }
 
     pub left_done : (ts : Forest) (stop at left : ℕ) (all : Ticks) → left ≡ 0 → Left ts stop at left all → all ≡ clipped (joined join d ts)
     unfolding onto

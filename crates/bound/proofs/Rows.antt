@@ -1,9 +1,9 @@
 -- A tree has a bound or none exactly where each of its rows allows it.
 use mathlib.Core.Path.{◌≡◌, refl, sym, ap, ◌∙◌}
-use mathlib.Core.Bool.{Bool, true, false, and-false}
+use mathlib.Core.Bool.{Bool, true, false, ◌&&◌, and-false}
 use mathlib.Core.List.{List}
 use mathlib.Core.Logic.{◌⊎◌, inl, inr, ⊎_elim}
-use Prim.Native.Nat.{ℕ, suc, ◌≤◌, ◌<◌}
+use Prim.Native.Nat.{ℕ, zero, suc, ◌≤◌, ◌<◌}
 use native.Mathlib.Nat.{le_refl, le_trans, eq-or-lt_of_le}
 use native.Mathlib.Omega.{arith}
 use borrow.Author.Tests.{ltb-true, ltb-false}
@@ -13,12 +13,14 @@ use lib.ListN.{get_or, length}
 use Rattle.rules.specs.declared.behavior.Kind.{Kind}
 use Rattle.rules.specs.Kinds.{kind_of, children}
 use Rattle.rules.specs.Tree.{zero_time, Tree, node, Forest, [], ◌◂◌, count}
-use Rattle.rules.specs.Table.{cleaned}
+use Rattle.rules.specs.Table.{cleaned, rows}
 use Rattle.rules.specs.Bound.{boundable, boundables}
 use Rattle.tables.specs.At.{Row, At, Ats}
 use Rattle.tables.proofs.Rows.{any_default}
 use Rattle.limits.specs.Node.{row_bounded}
-use Rattle.bound.proofs.Laws.{ends_after, ends_from_lem}
+use Rattle.bound.proofs.Laws.{and_first, and_second, ends_after, ends_from_lem}
+use Rattle.std.specs.List.{zip, list_all}
+use Rattle.lent.specs.Lengths.{rows_length}
 
 either : (a b : ℕ) → (a < b) ⊎ (b ≤ a)
 either a b = go (ltb a b) refl
@@ -76,3 +78,49 @@ module _ (F : Format) (kinds ns : List ℕ) (limits : List Float) where
           (λ (s : i < get_or ends q 0). rw (a_row q t h.0 (le_trans (ends_from_lem F kinds ns limits ends (get_or ends q 0) ts stop h.1) u) i from s e))
           (λ (s : get_or ends q 0 ≤ i). rw (a_row_of (get_or ends q 0) ts stop h.1 u i s to e) (and-false (boundable F t)))
           (either i (get_or ends q 0))
+
+-- ---- the rows one by one, as triples
+module _ (F : Format) where
+  abbrev pub triples : List ℕ → List ℕ → List Float → List ((ℕ × ℕ) × Float)
+  triples ks ns ls = zip (zip ks ns) ls
+
+  abbrev pub triple_bounded : (ℕ × ℕ) × Float → Bool
+  triple_bounded r = row_bounded F (kind_of r.0.0) (children (kind_of r.0.0) r.0.1) (cleaned r.1)
+
+  each :
+      (ks ns : List ℕ) (ls : List Float) (i : ℕ) → i < length (rows ks ns ls) →
+      list_all triple_bounded (triples ks ns ls) ≡ true → row_at F ks ns ls i ≡ true
+  unfolding rows
+  each List.[] ns ls i h e = absurd (omega arith)
+  each (List.◌∷◌ k ks) List.[] ls i h e = absurd (omega arith)
+  each (List.◌∷◌ k ks) (List.◌∷◌ n ns) List.[] i h e = absurd (omega arith)
+  each (List.◌∷◌ k ks) (List.◌∷◌ n ns) (List.◌∷◌ l ls) zero h e = and_first _ _ e
+  each (List.◌∷◌ k ks) (List.◌∷◌ n ns) (List.◌∷◌ l ls) (suc i) h e = each ks ns ls i (omega arith) (and_second _ _ e)
+
+  some :
+      (ks ns : List ℕ) (ls : List Float) → list_all triple_bounded (triples ks ns ls) ≡ false →
+      (i : ℕ) × (i < length (rows ks ns ls)) × (row_at F ks ns ls i ≡ false)
+  unfolding rows
+  some List.[] ns ls e = cc
+  some (List.◌∷◌ k ks) List.[] ls e = cc
+  some (List.◌∷◌ k ks) (List.◌∷◌ n ns) List.[] e = cc
+  some (List.◌∷◌ k ks) (List.◌∷◌ n ns) (List.◌∷◌ l ls) e = go (triple_bounded ((k, n), l)) refl (some ks ns ls) e
+    where
+      go :
+          (b : Bool) → triple_bounded ((k, n), l) ≡ b →
+          (list_all triple_bounded (triples ks ns ls) ≡ false → (i : ℕ) × (i < length (rows ks ns ls)) × (row_at F ks ns ls i ≡ false)) →
+          (b && list_all triple_bounded (triples ks ns ls)) ≡ false →
+          (i : ℕ) × (i < suc (length (rows ks ns ls))) × (row_at F (List.◌∷◌ k ks) (List.◌∷◌ n ns) (List.◌∷◌ l ls) i ≡ false)
+      go false q more f = (0, omega arith, q)
+      go true q more f = let (i, p, g) = more f in (suc i, omega arith, g)
+
+  module _ (kinds ns : List ℕ) (limits : List Float) (ends : List ℕ) (t : Tree) (h : At kinds ns limits ends 0 t) (all : get_or ends 0 0 ≡ length (rows kinds ns limits)) where
+    pub all_told : list_all triple_bounded (triples kinds ns limits) ≡ boundable F t
+    all_told = go (list_all triple_bounded (triples kinds ns limits)) refl
+      where
+        fits : length (rows kinds ns limits) ≤ length limits
+        fits = omega (arith, rows_length kinds ns limits)
+
+        go : (b : Bool) → list_all triple_bounded (triples kinds ns limits) ≡ b → b ≡ boundable F t
+        go true e = sym (all_rows F kinds ns limits ends _ fits 0 t h (omega arith) (λ i p q. each kinds ns limits i (omega arith) e))
+        go false e = let (i, p, f) = some kinds ns limits e in sym (a_row F kinds ns limits ends _ fits 0 t h (omega arith) i (omega arith) (omega arith) f)

@@ -5,11 +5,15 @@ use Prim.Native.Nat.{ℕ, suc, ◌+◌, ◌≤◌, ◌<◌}
 use native.Mathlib.Nat.{zero-add}
 use native.Mathlib.Numerals.{add-one}
 use native.Mathlib.Omega.{arith}
+use lib.Ieee.{Float}
 use lib.ListN.{length, get_or, set, drop, length-set}
 use lib.Seq.{drop-cons, set_at}
+use Rattle.rules.specs.Tree.{zero_time}
+use Rattle.rules.specs.Table.{cleaned}
 use Rattle.branch.specs.declared.write.Cut.{Cut}
 use Rattle.branch.specs.declared.write.Source.{Source}
-use Rattle.branch.specs.Write.{values, source_of, from}
+use Rattle.branch.specs.declared.write.Source.TheVariants.{Old, New}
+use Rattle.branch.specs.Write.{values, source_of, from, at, limit_at}
 use Rattle.branch.proofs.Values.{values_length, values_add}
 
 pub record Filling {A : Type 0} (f : ℕ → A) (start : List A) (n i : ℕ) (l : List A) : Type 0 where
@@ -42,3 +46,8 @@ filling_node cut old new {i = i} long c h e e' = filling_more long c h (e' ∙ a
 
 pub filling_end : {A : Type 0} {f : ℕ → A} {start : List A} {n i : ℕ} {l : List A} → Filling f start n i l → n ≤ i → l ≡ values f 0 n ++ drop n start
 filling_end {n = n} {i = i} c h = let e : n ≡ i = omega (arith, c.within) in rw e c.is
+
+-- a limit of the result
+pub cleaned_from : (old new : List Float) (s : Source) {v w : Float} → w ≡ cleaned v → v ≡ from (at zero_time old) (at zero_time new) s → w ≡ from (limit_at old) (limit_at new) s
+cleaned_from old new (Old j) e e' = e ∙ ap cleaned e'
+cleaned_from old new (New j) e e' = e ∙ ap cleaned e'

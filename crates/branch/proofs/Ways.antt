@@ -9,13 +9,14 @@ use borrow.Author.Tests.{lt-ltb, le-ltb, eq-eqb, ne_eqb}
 use lib.Dec.{eqb}
 use lib.Ieee.{Float}
 use lib.ListN.{get_or}
+use Rattle.std.specs.Bool.{then_some}
+use Rattle.std.specs.Prelude.{None}
 use Rattle.rules.specs.declared.behavior.Kind.{Kind}
 use Rattle.rules.specs.Kinds.{kind_of}
 use Rattle.rules.specs.Tree.{Cell, Tree, node, Forest, [], ◌◂◌, size, marked}
 use Rattle.rules.specs.Exchange.{spot, free, free_in}
 use Rattle.branch.specs.Each.{Each, EachAll}
-use Rattle.branch.specs.Way.{above, above_in, way_at, Node, Stands}
-use Rattle.branch.specs.declared.way.Way.TheVariants.{Held}
+use Rattle.branch.specs.Way.{above, above_in, Node, Stands}
 use Rattle.branch.proofs.Eachs.{size_pos, each_end, eachs_end}
 
 -- what is known of the numbers on the way
@@ -26,7 +27,7 @@ pub record Numbers (at up levels child i : ℕ) : Type 0 where
   pub levels_low : levels ≤ child
 
 -- the root lies in no spot
-pub root : (t : Tree) → Held ≡ way_at (free false t 0) (above t 0)
+pub root : (t : Tree) → None ≡ then_some (free false t 0) (above t 0)
 unfolding free above
 root (node k n l c b ts) = refl
 
@@ -172,7 +173,7 @@ module _ (kinds ns ends places marks : List ℕ) where
       into : Entered t at up levels child i in_spot
       into = enters_by t at up levels child i in_spot g.kids g.stop g.among before
 
-      pub ended : get_or marks child 0 ≡ 1 → Held ≡ way_at (free false t at) (above t at)
+      pub ended : get_or marks child 0 ≡ 1 → None ≡ then_some (free false t at) (above t at)
       ended m =
           let e = into in
           let held : marked e.u ≡ true = marked_by t at up levels child i in_spot e.u e.stands ∙ eq-eqb (get_or marks child 0) 1 m in
@@ -186,7 +187,7 @@ module _ (kinds ns ends places marks : List ℕ) where
             let held : marked e.u ≡ false = marked_by t at up levels child i in_spot e.u e.stands ∙ ne_eqb (get_or marks child 0) 1 live in
             rw held at e.leads
 
-        pub found : {s : Bool} → s ≡ inside in_spot up i → child ≡ at → way_at s levels ≡ way_at (free false t at) (above t at)
+        pub found : {s : Bool} → s ≡ inside in_spot up i → child ≡ at → then_some s levels ≡ then_some (free false t at) (above t at)
         found e z =
             let u = into.u in
             let none : at - child ≡ 0 = omega arith in

@@ -1,12 +1,11 @@
 -- The way from the root down to a node.
-use Rattle.std.specs.Prelude.{◌≡◌, Bool, false, cond, List, ℕ, zero, suc, ◌-◌, ◌<◌, ◌≤◌, ltb, Float, length, get_or}
+use Rattle.std.specs.Prelude.{◌≡◌, false, cond, List, ℕ, zero, suc, ◌-◌, ◌<◌, ◌≤◌, ltb, Float, length, get_or, Option}
+use Rattle.std.specs.Bool.{then_some}
 use Rattle.rules.specs.declared.behavior.Kind.{Kind}
 use Rattle.rules.specs.Kinds.{kind_of}
 use Rattle.rules.specs.Tree.{Cell, Tree, node, Forest, [], ◌◂◌, size}
 use Rattle.rules.specs.Exchange.{free}
 use Rattle.branch.specs.Each.{Each}
-use Rattle.branch.specs.declared.way.Way.{Way}
-use Rattle.branch.specs.declared.way.Way.TheVariants.{Free, Held}
 
 -- how many nodes stand above the node p places behind the root
 unfoldable mutual
@@ -19,9 +18,6 @@ unfoldable mutual
   pub above_in : Forest → ℕ → ℕ
   above_in [] p = 0
   above_in (t ◂ ts) p = cond (ltb p (size t)) (above t p) (above_in ts (p - size t))
-
-abbrev pub way_at : Bool → ℕ → Way
-way_at free n = cond free (Free n) Held
 
 module _ (kinds ns ends places marks : List ℕ) where
   -- what is read of a node on the way
@@ -46,5 +42,5 @@ module _ (kinds ns ends places marks : List ℕ) where
     pub in_marks : size tree ≤ length marks
 
   -- whatever tree stands in the slices, this is the way to its node at a place
-  abbrev pub Leads : ℕ → Way → Type 0
-  Leads at r = (t : Tree) → Stands t → at < size t → r ≡ way_at (free false t at) (above t at)
+  abbrev pub Leads : ℕ → Option ℕ → Type 0
+  Leads at r = (t : Tree) → Stands t → at < size t → r ≡ then_some (free false t at) (above t at)

@@ -2,7 +2,11 @@
 use Rattle.std.specs.Prelude.{cond, ◌≡◌, List, [], ◌∷◌, ◌++◌, ℕ, zero, suc, ◌+◌, ◌-◌, ◌≤◌, ltb, Float, length, get_or, drop}
 use Rattle.rules.specs.Tree.{zero_time}
 use Rattle.rules.specs.Table.{cleaned}
-use Rattle.rules.specs.Exchange.{Room, room, GivenExchange}
+use Rattle.rules.specs.declared.answer.Record.{Record}
+use Rattle.rules.specs.Exchange.{Room, room, GivenExchange, given_exchange}
+use Rattle.lent.specs.declared.table.Table.{Table}
+use Rattle.lent.specs.declared.cells.Cells.{Cells}
+use Rattle.lent.specs.Lent.{run_of}
 use Rattle.branch.specs.declared.write.Cut.{Cut}
 use Rattle.branch.specs.declared.write.Source.{Source}
 use Rattle.branch.specs.declared.write.Source.TheVariants.{Old, New}
@@ -51,6 +55,10 @@ filled_room cut g =
     (filled cut (limit_at g.limits) (limit_at g.new_limits) to.limits) (filled cut (at zero_time g.cells'.times) (always zero_time) to.times)
     (filled cut (at 0 g.cells'.places) (always 0) to.places) (filled cut (at 0 g.cells'.marks) (always 0) to.marks)
     (filled cut (at 0 g.cells'.sinces) (always g.record'.ticks) to.sinces)
+
+-- what an exchange is given
+abbrev pub exchange_of : Record → Table → Cells → ℕ → Table → Room → GivenExchange
+exchange_of r t c at b to = given_exchange r t.kinds.now t.ns.now t.limits.now (run_of c) at b.kinds.now b.ns.now b.limits.now to
 
 -- the slices hold a tree of n nodes, the branch and the result
 pub record Fits (cut : Cut) (g : GivenExchange) : Type 0 where

@@ -6,4 +6,4 @@ mod way;
 pub mod write;
 
 pub use depth::depth_of;
-pub use way::{Way, way_to};
+pub use way::way_to;

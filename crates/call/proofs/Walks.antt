@@ -26,7 +26,7 @@ use Rattle.rules.specs.Call.{Given, Run, run, Left, left, answers, counted, onto
 use Rattle.laws.specs.Shape.{size_shape, depth_shape}
 use Rattle.laws.specs.Memory.{held, with_shape}
 use Rattle.cells.specs.Long.{Long}
-use Rattle.work.specs.declared.result.Result.{Result}
+use Rattle.work.specs.declared.result.Visit.{Visit}
 use Rattle.work.specs.declared.result.Seen.{Seen}
 use Rattle.work.specs.declared.result.Seen.TheVariants.{Stopped, Running, Success, Failure}
 use Rattle.work.specs.Word as word
@@ -178,7 +178,7 @@ module _ {fresh : Bool} {g : Given} {ws₀ : List ℕ} {n : ℕ} (due : Due fres
       (marks_of c l (drop n g.spare.marks) i)
       (onto n c.sinces g.spare.sinces)
 
-  module _ (r : Result) (ws : List ℕ) (ts₀ ts : List Float)
+  module _ (r : Visit) (ws : List ℕ) (ts₀ ts : List Float)
       (starts : Begun fresh g.cells' n ts₀)
       (walk : flat.tick binary64 (lent g.limits g.statuses g.leftovers) most_deep 0 (dt g.event)
       (set (set ws₀ 256 g.fuel) 259 (bit (updates g.event))) (take n ts₀)

@@ -3,176 +3,102 @@
 #![tactic(auto)]
 
 mod enter;
+mod walker;
 
-ghost use Rattle.std.specs.Prelude.{◌≡◌, cond, ◌≤◌};
-ghost use Rattle.rules.specs.Call.{run, given, left};
-ghost use Rattle.rules.specs.Levels.{levels, cleared, flat_left};
-ghost use Rattle.refusals.specs.Due.{call_of, whole_call, entries_of, Due};
+ghost use Rattle.std.specs.Prelude.{◌≡◌, ◌≤◌, is_some};
+ghost use Rattle.rules.specs.Call.{left};
+ghost use Rattle.rules.specs.Levels.{flat_left};
+ghost use Rattle.lent.specs.Lent.{run_in, given_of, SameCells};
+ghost use Rattle.refusals.specs.Due.{call_of, whole_call, Due};
+ghost use Rattle.call.specs.Room.{entries_at, cleared_at, levels_at};
 
-use cells::{clear_times, copy_cells};
+use cells::{clear, copy_cells};
 use enter::enter;
-use refusals::{Gate, checks, entries_of};
+use lent::{Answers, CellsMut, Table};
+use refusals::checks;
 use rules::{Called, Event, Record};
 use settle::settled;
-use told::lent;
+pub use walker::{Deep, Walker};
+use work::Reads;
+
 // The walk in place, with the cells at entry in the spare, and what it leaves.
-fn carry_out(
+fn carry_out<W: Walker>(
+    walker: &mut W,
     record: Record,
-    kinds: &[u8],
-    ns: &[u16],
-    limits: &[f64],
+    table: &Table,
     work: &mut [u32; 260],
-    times: &mut [f64],
-    places: &mut [u16],
-    marks: &mut [u8],
-    sinces: &mut [u64],
-    spare_times: &mut [f64],
-    spare_places: &mut [u16],
-    spare_marks: &mut [u8],
-    spare_sinces: &mut [u64],
+    cells: &mut CellsMut,
+    spare: &mut CellsMut,
     board: &mut [u8],
     event: Event,
     fuel: u32,
-    statuses: &[u8],
-    leftovers: &[f64],
-    opens: &mut [u64],
-    counts: &mut [u32],
-    wholes: &mut [f64],
-    rests: &mut [f64],
+    answers: &Answers,
     n: usize,
-    flat: bool,
     fresh: bool,
 ) -> Called
-    requires due { Due fresh (given «record» kinds.now ns.now limits.now (run times.old places.old marks.old sinces.old)
-        (run spare_times.old spare_places.old spare_marks.old spare_sinces.old) board.old event fuel statuses.now leftovers.now) work.old n }
-    requires bound { 16 ≤ entries_of flat (levels opens.old counts.old wholes.old rests.old) }
-    ensures leftovers_value { call_of fresh (given «record» kinds.now ns.now limits.now (run times.old places.old marks.old sinces.old)
-        (run spare_times.old spare_places.old spare_marks.old spare_sinces.old) board.old event fuel statuses.now
-        leftovers.now) ≡ left result.answer result.record (run times.new places.new marks.new sinces.new) (run spare_times.new
-        spare_places.new spare_marks.new spare_sinces.new) board.new }
-    ensures rests_after { levels opens.new counts.new wholes.new rests.new
-        ≡ cond flat (cleared (levels opens.old counts.old wholes.old rests.old))
-        (levels opens.old counts.old wholes.old rests.old) }
+    requires due { Due fresh (given_of «record» table.now cells.old spare.old board.old event fuel answers.now) work.old n }
+    requires bound { 16 ≤ entries_at (W.room walker.old) }
+    ensures leaves { call_of fresh (given_of «record» table.now cells.old spare.old board.old event fuel answers.now)
+        ≡ left result.answer result.record (run_in cells.new) (run_in spare.new) board.new }
+    ensures room_after { W.room walker.new ≡ cleared_at (W.room walker.old) }
+    ensures same_cells { SameCells cells.old cells.new }
+    ensures same_spare { SameCells spare.old spare.new }
+    ensures same { W.Same walker.old walker.new }
 {
-    copy_cells(
-        times,
-        places,
-        marks,
-        sinces,
-        spare_times,
-        spare_places,
-        spare_marks,
-        spare_sinces,
-        n,
-    );
+    copy_cells(&cells.as_cells(), spare, n);
     if fresh {
-        clear_times(times, n);
+        clear(cells.times, n, 0.0);
     }
-    let result = enter(
-        work, limits, statuses, leftovers, times, opens, counts, wholes, rests, n, event, fuel,
-        flat,
-    );
+    let reads = Reads {
+        limits: table.limits,
+        statuses: answers.statuses,
+        leftovers: answers.leftovers,
+    };
+    let visit = enter(walker, work, &reads, cells.times, n, event, fuel);
     settled(
         record,
-        ns,
+        table.ns,
         work,
-        result,
-        times,
-        places,
-        marks,
-        sinces,
-        spare_times,
+        visit,
+        cells,
+        spare.as_cells().times,
         board,
         n,
         fuel,
-        lent(statuses, leftovers),
+        answers.count(),
     )
 }
 
-// A tick or a restart: the checks, then the walk, of the cells at entry or as from a fresh tree. With `flat` it walks without
-// recursion, in lent room; else it leaves the room as it is, which may be empty.
-pub fn value(
+// A tick or a restart: the checks, then the walk, of the cells at entry or as from a fresh tree. `fresh` stays a flag: the
+// calls' definition (`call_of`) has it so, and three places look at it. A call's values go one by one, what is read and what is
+// written apart: as one struct each function would have to say of every field that it stays.
+pub fn value<W: Walker>(
+    walker: &mut W,
     record: Record,
-    kinds: &[u8],
-    ns: &[u16],
-    limits: &[f64],
-    times: &mut [f64],
-    places: &mut [u16],
-    marks: &mut [u8],
-    sinces: &mut [u64],
-    spare_times: &mut [f64],
-    spare_places: &mut [u16],
-    spare_marks: &mut [u8],
-    spare_sinces: &mut [u64],
+    table: &Table,
+    cells: &mut CellsMut,
+    spare: &mut CellsMut,
     board: &mut [u8],
     event: Event,
     fuel: u32,
-    statuses: &[u8],
-    leftovers: &[f64],
-    opens: &mut [u64],
-    counts: &mut [u32],
-    wholes: &mut [f64],
-    rests: &mut [f64],
-    flat: bool,
+    answers: &Answers,
     fresh: bool,
 ) -> Called
-    ensures { whole_call flat fresh (given «record» kinds.now ns.now limits.now (run times.old places.old marks.old sinces.old)
-        (run spare_times.old spare_places.old spare_marks.old spare_sinces.old) board.old event fuel statuses.now
-        leftovers.now) (levels opens.old counts.old wholes.old rests.old)
-        ≡ flat_left (left result.answer result.record (run times.new places.new marks.new sinces.new) (run spare_times.new
-        spare_places.new spare_marks.new spare_sinces.new) board.new)
-        (levels opens.new counts.new wholes.new rests.new) }
+    ensures leaves { whole_call (is_some (W.room walker.old)) fresh (given_of «record» table.now cells.old spare.old board.old event fuel answers.now)
+        (levels_at (W.room walker.old))
+        ≡ flat_left (left result.answer result.record (run_in cells.new) (run_in spare.new) board.new) (levels_at (W.room walker.new)) }
+    ensures same_cells { SameCells cells.old cells.new }
+    ensures same_spare { SameCells spare.old spare.new }
+    ensures same { W.Same walker.old walker.new }
 {
-    let entries = entries_of(opens, counts, wholes, rests, flat);
+    let entries = walker.entries();
     let mut work = [0u32; 260];
     match checks(
-        record,
-        kinds,
-        ns,
-        limits,
-        &mut work,
-        times,
-        places,
-        marks,
-        sinces,
-        spare_times,
-        spare_places,
-        spare_marks,
-        spare_sinces,
-        board,
-        event,
-        statuses,
-        leftovers,
-        entries,
-        fresh,
+        record, table, &mut work, cells, spare, board, event, answers, entries, fresh,
     ) {
-        Gate::Refused(answer) => Called { answer, record },
-        Gate::Open(n, used) => carry_out(
-            record,
-            kinds,
-            ns,
-            limits,
-            &mut work,
-            times,
-            places,
-            marks,
-            sinces,
-            spare_times,
-            spare_places,
-            spare_marks,
-            spare_sinces,
-            board,
-            used,
-            fuel,
-            statuses,
-            leftovers,
-            opens,
-            counts,
-            wholes,
-            rests,
-            n,
-            flat,
-            fresh,
+        Err(answer) => Called { answer, record },
+        Ok((n, used)) => carry_out(
+            walker, record, table, &mut work, cells, spare, board, used, fuel, answers, n, fresh,
         ),
     }
 }

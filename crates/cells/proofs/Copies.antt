@@ -23,14 +23,8 @@ pub record Copying {A : Type 0} (l start : List A) (n i : ℕ) (m : List A) : Ty
   pub is : m ≡ onto i l start
   pub long : length m ≡ length start
 
-pub copying_start : {A : Type 0} {l start : List A} {n : ℕ} → Copying l start n 0 start
-copying_start = record { within = omega arith; is = refl; long = refl }
-
 pub copying_more : {A : Type 0} {l start : List A} {n i : ℕ} {m m' : List A} (d : A) → (n ≤ length l) × (n ≤ length start) → Copying l start n i m → i < n
     → m' ≡ set m i (get_or l i d) → Copying l start n (i + 1) m'
 copying_more {l} {start} {n} {i} {m} {m'} d long c h e =
     let e' : m' ≡ onto (suc i) l start = rw (e, c.is) (onto_suc i l start d (omega arith) (omega arith)) in
     record { within = omega arith; is = rw add-one e'; long = ap length e' ∙ onto_length (suc i) l start (omega arith) (omega arith) }
-
-pub copying_end : {A : Type 0} {l start : List A} {n i : ℕ} {m : List A} → Copying l start n i m → n ≤ i → m ≡ onto n l start
-copying_end {n} {i} c h = let e : n ≡ i = omega (arith, c.within) in rw e c.is

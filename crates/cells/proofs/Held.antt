@@ -1,7 +1,7 @@
 -- A tree with its cells as it stands in the slices, at most so many levels deep.
 use mathlib.Core.Path.{◌≡◌, refl, sym, ap, subst}
 use mathlib.Core.List.{List}
-use Prim.Native.Nat.{ℕ, zero, suc, ◌≤◌, ◌<◌, min}
+use Prim.Native.Nat.{ℕ, zero, suc, ◌≤◌, ◌<◌}
 use native.Mathlib.Omega.{arith}
 use lib.Ieee.{Float, nan}
 use lib.ListN.{length, get_or, drop}
@@ -15,13 +15,6 @@ use Rattle.tables.proofs.Placed.{ats_end}
 -- ---- the cells
 abbrev pub cell_at : List Float → List ℕ → List ℕ → ℕ → Cell
 cell_at times places marks i = cell_of (get_or times i nan) (get_or places i 0) (get_or marks i 0)
-
-pub length_cells : (xs : List Float) (ps ms : List ℕ) → length (cells xs ps ms) ≡ min (length xs) (min (length ps) (length ms))
-unfolding cells
-length_cells List.[] ps ms = omega arith
-length_cells (List.◌∷◌ x xs) List.[] ms = omega arith
-length_cells (List.◌∷◌ x xs) (List.◌∷◌ p ps) List.[] = omega arith
-length_cells (List.◌∷◌ x xs) (List.◌∷◌ p ps) (List.◌∷◌ m ms) = omega (arith, length_cells xs ps ms)
 
 pub drop_cells :
     (xs : List Float) (ps ms : List ℕ) (i : ℕ) → i < length (cells xs ps ms) →

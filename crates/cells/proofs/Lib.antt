@@ -1,5 +1,6 @@
 pub mod Held
 mod Run
 mod Still
+mod Opens
 mod Turn
 mod Copies

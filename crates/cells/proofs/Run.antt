@@ -2,6 +2,7 @@
 use mathlib.Core.Path.{◌≡◌, refl, sym, ap, subst, ◌∙◌}
 use mathlib.Core.Bool.{Bool, true, false, cond, ◌&&◌, ◌||◌}
 use mathlib.Core.List.{List}
+use Rattle.std.proofs.Common.{Ok, Err}
 use Prim.Native.Nat.{ℕ, zero, suc, ◌+◌, ◌-◌, ◌≤◌, ◌<◌}
 use native.Mathlib.Numerals.{add-one}
 use native.Mathlib.Omega.{arith}
@@ -16,8 +17,7 @@ use Rattle.rules.specs.Tree.{Cell, Tree, node, Forest, [], ◌◂◌}
 use Rattle.rules.specs.Table.{zero_bits}
 use Rattle.rules.specs.Cells.{cell_allowed, ended_in, Found, faulty, none, bad_cell, bad_cells}
 use Rattle.tables.proofs.Placed.{Alike}
-use Rattle.cells.specs.declared.check.Found.TheVariants.{Faulty, Fine}
-use Rattle.cells.specs.Check.{said, still_open}
+use Rattle.cells.specs.Check.{bad_at, said, open_of}
 use Rattle.cells.proofs.Still.{one, top_stays, top_drops}
 use Rattle.cells.proofs.Held.{cell_at, Node, Held, Helds, held_lt, helds_le}
 
@@ -152,7 +152,7 @@ module _ (kinds ns ends : List ℕ) (times : List Float) (places marks : List �
 
   pub finished :
       (stops : List ℕ) (may : List Bool) (open' until at : ℕ) (answer : Found) →
-      Scanned stops may open' until at answer → n ≤ at → Fine ≡ said answer
+      Scanned stops may open' until at answer → n ≤ at → Ok tt ≡ said answer
   finished stops may open' until at answer s h =
       ap said (sym (ends_all stops may until s.frames s.deep at s.zip h) ∙ s.runs)
 
@@ -213,7 +213,7 @@ module _ (kinds ns ends : List ℕ) (times : List Float) (places marks : List �
 
     ready_at :
         (σ : List Frame) (d : ℕ) → d + length σ ≡ 17 → Zip stops may until σ d at → run σ at ≡ answer → at < n →
-        Ready stops may (still_open stops at (length σ)) until at answer
+        Ready stops may (open_of stops at (length σ)) until at answer
     ready_at List.[] d ups z r h = absurd (omega arith)
     ready_at (List.◌∷◌ (frame e m [] stop) List.[]) d ups (w, (s, (y, (f, z)))) r h = absurd (omega arith)
     ready_at (List.◌∷◌ (frame e m (t ◂ us) stop) List.[]) d ups z r h =
@@ -229,7 +229,7 @@ module _ (kinds ns ends : List ℕ) (times : List Float) (places marks : List �
 
     pub ready :
         (open' : ℕ) → Scanned stops may open' until at answer → at < n →
-        Ready stops may (still_open stops at open') until at answer
+        Ready stops may (open_of stops at open') until at answer
     ready open' s h = rw s.level (ready_at s.frames s.deep s.levels s.zip s.runs h)
 
   -- ---- lower frames keep what is known of them
@@ -336,7 +336,7 @@ module _ (kinds ns ends : List ℕ) (times : List Float) (places marks : List �
           let w = r.here.held in
           is ∙ cc
 
-      pub refuses : a ≡ false → Faulty at ≡ said answer
+      pub refuses : a ≡ false → Err (bad_at at) ≡ said answer
       refuses h =
           let bad = run_bad r.e r.m r.k r.n' r.l r.c r.b r.kids r.us r.stop r.frames at (sym same ∙ h) in
           ap said (sym bad ∙ r.runs)

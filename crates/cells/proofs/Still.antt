@@ -7,36 +7,36 @@ use native.Mathlib.Omega.{arith}
 use borrow.Author.Tests.{lt-ltb, le-ltb}
 use lib.Dec.{ltb}
 use lib.ListN.{get_or}
-use Rattle.cells.specs.Check.{still_open}
+use Rattle.cells.specs.Check.{open_of}
 
 below : (i : ℕ) → suc (suc i) - 1 ≡ suc i
 below i = omega arith
 
 module _ (stops : List ℕ) (at : ℕ) where
-  pub one : still_open stops at 1 ≡ 1
-  unfolding still_open
+  pub one : open_of stops at 1 ≡ 1
+  unfolding open_of
   one = refl
 
-  pub top_stays : (i : ℕ) → at < get_or stops (suc i) 0 → still_open stops at (suc (suc i)) ≡ suc (suc i)
-  unfolding still_open
+  pub top_stays : (i : ℕ) → at < get_or stops (suc i) 0 → open_of stops at (suc (suc i)) ≡ suc (suc i)
+  unfolding open_of
   top_stays i h = rw (lt-ltb at (get_or stops (suc i) 0) h)
 
-  pub top_drops : (i : ℕ) → get_or stops (suc i) 0 ≤ at → still_open stops at (suc (suc i)) ≡ still_open stops at (suc i)
-  unfolding still_open
+  pub top_drops : (i : ℕ) → get_or stops (suc i) 0 ≤ at → open_of stops at (suc (suc i)) ≡ open_of stops at (suc i)
+  unfolding open_of
   top_drops i h = rw (le-ltb at (get_or stops (suc i) 0) h)
 
-  pub drops : (left : ℕ) → 1 < left → get_or stops (left - 1) 0 ≤ at → still_open stops at left ≡ still_open stops at (left - 1)
+  pub drops : (left : ℕ) → 1 < left → get_or stops (left - 1) 0 ≤ at → open_of stops at left ≡ open_of stops at (left - 1)
   drops zero h k = absurd (omega arith)
   drops (suc zero) h k = absurd (omega arith)
   drops (suc (suc i)) h k = rw (below i) (top_drops i (rw (below i) at k))
 
-  pub ends : (left : ℕ) → left ≤ 1 → still_open stops at left ≡ left
-  unfolding still_open
+  pub ends : (left : ℕ) → left ≤ 1 → open_of stops at left ≡ left
+  unfolding open_of
   ends zero h = refl
   ends (suc zero) h = refl
   ends (suc (suc i)) h = absurd (omega arith)
 
-  pub all_stay : (left : ℕ) → 1 ≤ left → at < get_or stops (left - 1) 0 → still_open stops at left ≡ left
+  pub all_stay : (left : ℕ) → 1 ≤ left → at < get_or stops (left - 1) 0 → open_of stops at left ≡ left
   all_stay zero h k = absurd (omega arith)
   all_stay (suc zero) h k = one
   all_stay (suc (suc i)) h k = top_stays i (rw (below i) at k)
@@ -46,8 +46,8 @@ module _ (stops : List ℕ) (at : ℕ) where
   by_test false i o g h = (g, omega arith)
 
   -- the first one stays, and none is added
-  pub bounds : (i : ℕ) → 1 ≤ i → (1 ≤ still_open stops at i) × (still_open stops at i ≤ i)
-  unfolding still_open
+  pub bounds : (i : ℕ) → 1 ≤ i → (1 ≤ open_of stops at i) × (open_of stops at i ≤ i)
+  unfolding open_of
   bounds zero h = absurd (omega arith)
   bounds (suc zero) h = (omega arith, omega arith)
-  bounds (suc (suc i)) h = let r = bounds (suc i) (omega arith) in by_test (ltb at (get_or stops (suc i) 0)) i (still_open stops at (suc i)) r.0 r.1
+  bounds (suc (suc i)) h = let r = bounds (suc i) (omega arith) in by_test (ltb at (get_or stops (suc i) 0)) i (open_of stops at (suc i)) r.0 r.1

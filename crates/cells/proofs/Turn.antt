@@ -2,6 +2,7 @@
 use mathlib.Core.Path.{◌≡◌, refl, sym, ap, subst, ◌∙◌}
 use mathlib.Core.Bool.{Bool, true, false, cond}
 use mathlib.Core.List.{List}
+use Rattle.std.proofs.Common.{Ok, Err}
 use Prim.Native.Nat.{ℕ, ◌+◌, ◌-◌, ◌≤◌, ◌<◌}
 use native.Mathlib.Omega.{arith}
 use borrow.Author.Tests.{ltb-true, ltb-false}
@@ -15,9 +16,11 @@ use Rattle.rules.specs.Tree.{Tree, size, depth}
 use Rattle.rules.specs.Cells.{cells, with_cells, cell_allowed, Found, bad_cell}
 use Rattle.tables.specs.At.{At}
 use Rattle.tables.proofs.Placed.{at_end}
-use Rattle.cells.specs.declared.check.Found.TheVariants.{Faulty, Fine}
-use Rattle.cells.specs.Check.{Room, Checks, still_open}
-use Rattle.cells.proofs.Held.{cell_at, length_cells, holds}
+use Rattle.lent.specs.declared.table.Table.{Table}
+use Rattle.lent.specs.declared.cells.Cells.{Cells}
+use Rattle.cells.specs.Check.{Room, Said, bad_at, said, open_of}
+use Rattle.lent.specs.Lengths.{cells_length}
+use Rattle.cells.proofs.Held.{cell_at, holds}
 use Rattle.cells.proofs.Run.{Scanned, Ready, start, ready, within, refuses, opens, passes, never, finished}
 use Rattle.cells.proofs.Still.{all_stay, bounds}
 
@@ -48,6 +51,10 @@ module _ (kinds ns ends : List ℕ) (times : List Float) (places marks : List �
   InAll P =
       (limits : List Float) (t : Tree) → At kinds ns limits ends 0 t → size t ≡ n → depth t ≤ 16 → P (answer times places marks t)
 
+  -- what is said of each
+  abbrev pub Says : Said → Type 0
+  Says r = InAll (λ (o : Found). r ≡ said o)
+
   -- the open nodes, with those of the innermost
   pub record Nodes (stops : List ℕ) (may : List Bool) (open' last : ℕ) (m : Bool) : Type 0 where
     pub some : 1 ≤ open'
@@ -70,38 +77,38 @@ module _ (kinds ns ends : List ℕ) (times : List Float) (places marks : List �
     pub low : at < n
     pub there : InAll (Ready kinds ns ends times places marks n stops may open' until at)
 
-module _ {kinds ns ends : List ℕ} {times : List Float} {places marks : List ℕ} {n : ℕ} where
-  pub starts :
-      {stops : List ℕ} {may : List Bool} → Room kinds ns times places marks n →
-      length stops ≡ 16 → length may ≡ 16 → get_or stops 0 0 ≡ n → get_or may 0 false ≡ false →
-      Turn kinds ns ends times places marks n stops may 1 n false 0 0
-  starts {stops = stops} {may = may} room ls lm s y = record {
-    nodes = record {
-      some = omega arith;
-      room = omega arith;
-      stops_long = ls;
-      may_long = lm;
-      bounded = λ i h. let z : i ≡ 0 = omega arith in rw z (omega arith);
-      last_is = sym s;
-      may_is = sym y;
-    };
-    low = omega arith;
-    scanned = λ limits t h z d.
-        let e : get_or ends 0 0 ≡ n = omega (arith, at_end kinds ns limits t ends 0 h) in
-        let count = length_cells times places marks in
-        let long : get_or ends 0 0 ≤ length (cells times places marks) = omega (arith, room.times_long, room.places_long, room.marks_long) in
-        let held = (holds kinds ns ends times places marks limits t 16 0 d h long).0 in
-        start kinds ns ends times places marks n stops may (with_cells t (cells times places marks)).0 held e s y;
-  }
+pub starts :
+    {t : Table} {c : Cells} (ends : List ℕ) {n : ℕ} {stops : List ℕ} {may : List Bool} → Room t c n →
+    length stops ≡ 16 → length may ≡ 16 → get_or stops 0 0 ≡ n → get_or may 0 false ≡ false →
+    Turn t.kinds.now t.ns.now ends c.times.now c.places.now c.marks.now n stops may 1 n false 0 0
+starts {t} {c} ends {n} {stops = stops} {may = may} room ls lm s y = record {
+  nodes = record {
+    some = omega arith;
+    room = omega arith;
+    stops_long = ls;
+    may_long = lm;
+    bounded = λ i h. let z : i ≡ 0 = omega arith in rw z (omega arith);
+    last_is = sym s;
+    may_is = sym y;
+  };
+  low = omega arith;
+  scanned = λ limits tree h z d.
+      let e : get_or ends 0 0 ≡ n = omega (arith, at_end t.kinds.now t.ns.now limits tree ends 0 h) in
+      let count = cells_length c.times.now c.places.now c.marks.now in
+      let long : get_or ends 0 0 ≤ length (cells c.times.now c.places.now c.marks.now) = omega (arith, room.times_long, room.places_long, room.marks_long) in
+      let held = (holds t.kinds.now t.ns.now ends c.times.now c.places.now c.marks.now limits tree 16 0 d h long).0 in
+      start t.kinds.now t.ns.now ends c.times.now c.places.now c.marks.now n stops may (with_cells tree (cells c.times.now c.places.now c.marks.now)).0 held e s y;
+}
 
+module _ {kinds ns ends : List ℕ} {times : List Float} {places marks : List ℕ} {n : ℕ} where
   module _
       {stops : List ℕ} {may : List Bool} {open' last : ℕ} {m : Bool} {until at : ℕ}
       (v : Turn kinds ns ends times places marks n stops may open' last m until at) where
-    pub done : n ≤ at → Checks kinds ns ends times places marks n Fine
+    pub done : n ≤ at → Says kinds ns ends times places marks n (Ok tt)
     done h limits t a z d =
         finished kinds ns ends times places marks n stops may open' until at (answer times places marks t) (v.scanned limits t a z d) h
 
-    module _ {o : ℕ} (os : o ≡ still_open stops at open') where
+    module _ {o : ℕ} (os : o ≡ open_of stops at open') where
       pub some_left : (1 ≤ o) × (o ≤ open')
       some_left =
           let b = bounds stops at open' v.nodes.some in
@@ -147,17 +154,17 @@ module _ {kinds ns ends : List ℕ} {times : List Float} {places marks : List �
       is' : a ≡ cell_allowed (ltb at until) (get_or may (open' - 1) false) k (get_or ns at 0) (cell_at times places marks at)
       is' = is ∙ ap (λ (x : Bool). cell_allowed (ltb at until) x k (get_or ns at 0) (cell_at times places marks at)) v.nodes.may_is
 
-      pub refused : a ≡ false → Checks kinds ns ends times places marks n (Faulty at)
+      pub refused : a ≡ false → Says kinds ns ends times places marks n (Err (bad_at at))
       refused h limits t x z d =
           refuses kinds ns ends times places marks n stops may open' until at (answer times places marks t) (v.there limits t x z d) k kind a is' h
 
       module _ (taken : a ≡ true) {s : ℕ} (ss : s ≡ get_or ends at 0) where
-        pub too_deep : at + 1 < s → 16 ≤ open' → Checks kinds ns ends times places marks n (Faulty at)
+        pub too_deep : at + 1 < s → 16 ≤ open' → Says kinds ns ends times places marks n (Err (bad_at at))
         too_deep h g limits t x z d =
             let right = answer times places marks t in
             absurd (never kinds ns ends times places marks n stops may open' until at right (v.there limits t x z d) k kind a is' taken (omega arith) g)
 
-        pub too_wide : n < s → Checks kinds ns ends times places marks n (Faulty at)
+        pub too_wide : n < s → Says kinds ns ends times places marks n (Err (bad_at at))
         too_wide h limits t x z d =
             absurd (omega (arith, within kinds ns ends times places marks n stops may open' until at (answer times places marks t) (v.there limits t x z d)))
 

@@ -1,46 +1,60 @@
 -- What the check of the cells asks and answers.
-use Rattle.std.specs.Prelude.{◌≡◌, refl, List, Bool, cond, false, ℕ, zero, suc, ◌≤◌, eqb, ltb, Float, length, get_or}
+use Rattle.std.specs.Prelude.{◌≡◌, refl, List, map, Bool, false, cond, ℕ, zero, suc, ◌≤◌, ltb, Float, length, get_or, Result, Ok, Err}
 use Rattle.rules.specs.Tree.{Tree, size, depth}
 use Rattle.rules.specs.Cells.{cells, with_cells, Found, faulty, none, bad_cell}
 use Rattle.tables.specs.At.{At}
-use Rattle.cells.specs.declared.check.Found.{Found as Said}
-use Rattle.cells.specs.declared.check.Found.TheVariants.{Faulty, Fine}
+use Rattle.lent.specs.declared.table.Table.{Table}
+use Rattle.lent.specs.declared.cells.Cells.{Cells}
+use Rattle.cells.specs.declared.check.BadCell.{BadCell}
+use Rattle.cells.specs.declared.check.Open.{Open}
 
 -- the slices hold n nodes with their cells
-pub record Room (kinds ns : List ℕ) (times : List Float) (places marks : List ℕ) (n : ℕ) : Type 0 where
+pub record Room (t : Table) (c : Cells) (n : ℕ) : Type 0 where
   pub nodes : n ≤ 256
-  pub kinds_long : n ≤ length kinds
-  pub ns_long : n ≤ length ns
-  pub times_long : n ≤ length times
-  pub places_long : n ≤ length places
-  pub marks_long : n ≤ length marks
+  pub kinds_long : n ≤ length t.kinds.now
+  pub ns_long : n ≤ length t.ns.now
+  pub times_long : n ≤ length c.times.now
+  pub places_long : n ≤ length c.places.now
+  pub marks_long : n ≤ length c.marks.now
+
+abbrev pub Said : Type 0
+Said = Result (Unit {0}) BadCell
+
+abbrev pub bad_at : ℕ → BadCell
+bad_at p = record { 0 = p }
 
 abbrev pub said : Found → Said
-said (faulty p) = Faulty p
-said (none p) = Fine
+said (faulty p) = Err (bad_at p)
+said (none p) = Ok tt
 
-pub said_faulty : (o : Found) (r : Said) (p : ℕ) → r ≡ said o → r ≡ Faulty p → o ≡ faulty p
-said_faulty (faulty q) r p e h = cc
-said_faulty (none q) r p e h = cc
+pub said_faulty : (o : Found) (r : Said) (b : BadCell) → r ≡ said o → r ≡ Err b → o ≡ faulty b.0
+said_faulty (faulty q) r b e h = cc
+said_faulty (none q) r b e h = cc
 
-pub said_fine : (o : Found) (r : Said) → r ≡ said o → r ≡ Fine → (q : ℕ) × (o ≡ none q)
+pub said_fine : (o : Found) (r : Said) → r ≡ said o → r ≡ Ok tt → (q : ℕ) × (o ≡ none q)
 said_fine (faulty q) r e h = (0, cc)
 said_fine (none q) r e h = (q, refl)
 
 -- whatever tree of n nodes stands in the table, its smallest bad cell is found
-abbrev pub Checks : List ℕ → List ℕ → List ℕ → List Float → List ℕ → List ℕ → ℕ → Said → Type 0
-Checks kinds ns ends times places marks n r = (limits : List Float) (t : Tree)
-    → At kinds ns limits ends 0 t
-    → size t ≡ n
-    → depth t ≤ 16
-    → r ≡ said (bad_cell false false 0 (with_cells t (cells times places marks)).0)
+abbrev pub Checks : Table → List ℕ → Cells → ℕ → Said → Type 0
+Checks t ends c n r = (limits : List Float) (tree : Tree)
+    → At t.kinds.now t.ns.now limits ends 0 tree
+    → size tree ≡ n
+    → depth tree ≤ 16
+    → r ≡ said (bad_cell false false 0 (with_cells tree (cells c.times.now c.places.now c.marks.now)).0)
+
+-- where the open nodes end, and which of them have children that may be marked
+abbrev pub stops_of : List Open → List ℕ
+stops_of os = map (λ (o : Open). o.stop) os
+
+abbrev pub may_of : List Open → List Bool
+may_of os = map (λ (o : Open). o.may_end) os
 
 -- the open nodes that do not end at a place; the first one stays
-unfoldable pub still_open : List ℕ → ℕ → ℕ → ℕ
-still_open stops at zero = zero
-still_open stops at (suc zero) = 1
-still_open stops at (suc (suc i)) = cond (ltb at (get_or stops (suc i) 0)) (suc (suc i)) (still_open stops at (suc i))
+unfoldable pub open_of : List ℕ → ℕ → ℕ → ℕ
+open_of stops at zero = zero
+open_of stops at (suc zero) = 1
+open_of stops at (suc (suc i)) = cond (ltb at (get_or stops (suc i) 0)) (suc (suc i)) (open_of stops at (suc i))
 
--- the first bad cell, where 256 is none so far
-abbrev pub first_of : ℕ → Bool → ℕ → ℕ
-first_of s fine q = cond fine s (cond (eqb s 256) q s)
+abbrev pub still_open : List Open → ℕ → ℕ → ℕ
+still_open os at i = open_of (stops_of os) at i

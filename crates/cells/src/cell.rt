@@ -11,10 +11,7 @@ use tables::{elapsed, zero_bits};
 fn at_start(time: f64, place: u16) -> bool
     ensures { result ≡ zero_bits time && eqb place 0 }
 {
-    if !zero_bits(time) {
-        return false;
-    }
-    place == 0
+    zero_bits(time) && place == 0
 }
 
 // Only Wait and Timeout have an elapsed time.
@@ -32,13 +29,11 @@ fn time_allowed(kind: Kind, time: f64) -> bool
 fn place_allowed(kind: Kind, n: u16, place: u16) -> bool
     ensures { result ≡ leb place (last_place kind n) }
 {
-    if place == 0 {
-        return true;
-    }
-    place <= kind.last_place(n)
+    place == 0 || place <= kind.last_place(n)
 }
 
 // `ended`: below a child that has ended; `may_end`: a child of WhenAll or WhenAny.
+#[tactic(auto, unfolding(rules::specs::Cells::cell_allowed))]
 pub fn cell_allowed(
     ended: bool,
     may_end: bool,
@@ -51,22 +46,11 @@ pub fn cell_allowed(
     ensures { result ≡ cell_allowed ended may_end kind n (cell_of time place mark) }
 {
     if ended {
-        if !at_start(time, place) {
-            return false;
-        }
-        return mark == 0;
+        return at_start(time, place) && mark == 0;
     }
-    if mark == 0 {
-        if !time_allowed(kind, time) {
-            return false;
-        }
-        return place_allowed(kind, n, place);
+    match mark {
+        0 => time_allowed(kind, time) && place_allowed(kind, n, place),
+        1 => may_end && at_start(time, place),
+        _ => false,
     }
-    if !may_end {
-        return false;
-    }
-    if mark != 1 {
-        return false;
-    }
-    at_start(time, place)
 }

@@ -11,14 +11,14 @@ use Rattle.rules.specs.declared.behavior.Kind.TheVariants.{Wait, WaitForever, Ac
 use Rattle.rules.specs.declared.behavior.Kind.TheVariants.{MemorylessSequence, MemorylessSelector, While, WhileAll, WhenAll, WhenAny, After, Race}
 use Rattle.rules.specs.Tree.{zero_time}
 use Rattle.rules.specs.Levels.{Levels}
+use Rattle.work.specs.declared.result.Seen.{Seen}
 use Rattle.work.specs.declared.result.Seen.TheVariants.{Stopped}
 use Rattle.work.specs.Word.{kind_in}
 use Rattle.work.specs.Array.{word_at, fuel_of}
 use Rattle.work.specs.Flat.{Out, out, Lent, Visitor, seen, is_leaf, leaf, visit_leaf, visit, by_kind, tick, visiting}
 use Rattle.work.proofs.VisitLaws.{visit_leaf_lem, visit_node, tick_zero, tick_spent, tick_on}
 use Rattle.turns.specs.declared.level.Level.{Level}
-use Rattle.turns.specs.declared.level.Turn.{Turn}
-use Rattle.turns.specs.Levels.{goes, resumed_by}
+use Rattle.turns.specs.Levels.{resumed_by}
 use Rattle.engine.specs.Stands.{above, through, around}
 
 not_so : ◌≡◌ {A = Bool} false true → ⊥
@@ -88,23 +88,23 @@ module _ (F : Format) (T : Lent) (n : ℕ) (x : Float) (q : ℕ) (ws : List ℕ)
           let some : 16 - n ≡ 0 → ⊥ = (λ z. omega arith) in
           visit_node F T q x ws ts (tick F T (16 - n)) k (seen q o) c h (tick_on F T q x ws ts (16 - n) k o (seen q o) some f c (rw (m, ← a) e) refl)
 
-      module _ (t : Turn) (ws₂ : List ℕ) (ts₂ : List Float) (e : by_kind F T v k q x ws₁ ts ≡ goes (resumed_by F T) v t ws₂ ts₂) where
-        pub down_done : t.due ≡ false → (ws₃ : List ℕ) → seen q (out t.seen t.left ws₂ ts₂) ≡ out t.seen t.left ws₃ ts₂ → due_now ≡ out t.seen t.left ws₃ ts₂
-        down_done z ws₃ s = down_on (out t.seen t.left ws₂ ts₂) (e ∙ rw z) ∙ s
+      module _ (ws₂ : List ℕ) (ts₂ : List Float) where
+        pub down_done : (s : Seen) (l : Float) → by_kind F T v k q x ws₁ ts ≡ out s l ws₂ ts₂ → (ws₃ : List ℕ) → seen q (out s l ws₂ ts₂) ≡ out s l ws₃ ts₂
+            → due_now ≡ out s l ws₃ ts₂
+        down_done s l e ws₃ shown = down_on (out s l ws₂ ts₂) e ∙ shown
 
-        pub down_due : t.due ≡ true → t.level.node ≡ q
-            → due_now ≡ above F T n t.level (visiting F T (16 - suc n) t.level.child t.left ws₂ ts₂)
-        down_due z p =
+        pub down_due : (i : Level) (y : Float) → by_kind F T v k q x ws₁ ts ≡ resumed_by F T v i (v i.child y ws₂ ts₂) → i.node ≡ q
+            → due_now ≡ above F T n i (visiting F T (16 - suc n) i.child y ws₂ ts₂)
+        down_due i y e p =
             let m : 16 - suc n ≡ 15 - n = omega arith in
-            rw m (down_on (resumed_by F T v t.level (v t.level.child t.left ws₂ ts₂)) (e ∙ rw z)
-            ∙ ap (λ (j : ℕ). seen j (resumed_by F T v t.level (v t.level.child t.left ws₂ ts₂))) (sym p))
+            rw m (down_on (resumed_by F T v i (v i.child y ws₂ ts₂)) e ∙ ap (λ (j : ℕ). seen j (resumed_by F T v i (v i.child y ws₂ ts₂))) (sym p))
 
 -- ---- up
-module _ (F : Format) (T : Lent) (m : ℕ) (e : Level) (r : Levels) (o : Out) (t : Turn) (ws : List ℕ) (ts : List Float)
-    (a : resumed_by F T (visiting F T (15 - m)) e o ≡ goes (resumed_by F T) (visiting F T (15 - m)) t ws ts) (p : t.level.node ≡ e.node) where
-  pub up_due : t.due ≡ true → around F T (suc m) e r o ≡ around F T (suc m) t.level r (visiting F T (16 - suc m) t.level.child t.left ws ts)
-  up_due z = let k : 16 - suc m ≡ 15 - m = omega arith in rw (k, a, z, p)
+module _ (F : Format) (T : Lent) (m : ℕ) (e : Level) (r : Levels) (o : Out) (ws : List ℕ) (ts : List Float) where
+  pub up_due : (i : Level) (y : Float) → let v = visiting F T (15 - m) in resumed_by F T v e o ≡ resumed_by F T v i (v i.child y ws ts) → i.node ≡ e.node
+      → around F T (suc m) e r o ≡ around F T (suc m) i r (visiting F T (16 - suc m) i.child y ws ts)
+  up_due i y a p = let k : 16 - suc m ≡ 15 - m = omega arith in rw (k, a, p)
 
-  pub up_done : t.due ≡ false → (ws₁ : List ℕ) → seen e.node (out t.seen t.left ws ts) ≡ out t.seen t.left ws₁ ts
-      → around F T (suc m) e r o ≡ through F T m r (out t.seen t.left ws₁ ts)
-  up_done z ws₁ s = ap (through F T m r) (rw (a, z) s)
+  pub up_done : (s : Seen) (l : Float) → resumed_by F T (visiting F T (15 - m)) e o ≡ out s l ws ts → (ws₁ : List ℕ) → seen e.node (out s l ws ts) ≡ out s l ws₁ ts
+      → around F T (suc m) e r o ≡ through F T m r (out s l ws₁ ts)
+  up_done s l a ws₁ shown = ap (through F T m r) (rw a shown)

@@ -16,10 +16,10 @@ use Rattle.work.specs.declared.result.Seen.{Seen}
 use Rattle.work.specs.declared.result.Seen.TheVariants.{Stopped}
 use Rattle.work.specs.Word.{kind_in}
 use Rattle.work.specs.Array.{word_at, fuel_of}
-use Rattle.work.specs.Flat.{Out, out, Lent, lent, Visitor, result_of, and_then, seen, is_leaf, is_decorator, decorated, decorator, by_kind, visiting}
+use Rattle.work.specs.Flat.{Out, out, Lent, lent, Visitor, and_then, seen, is_leaf, is_decorator, decorated, decorator, by_kind, visiting}
 use Rattle.work.proofs.KindLaws.{decorator_case}
 use Rattle.turns.specs.declared.level.Level.{Level}
-use Rattle.turns.specs.Levels.{Fine, Sound, goes, resumed_as, resumed_by, due_turn, done_turn}
+use Rattle.turns.specs.Levels.{Fine, Sound, resumed_as, resumed_by}
 use Rattle.engine.specs.Stands.{kind_as, node_as, level_at, put_at, through, decorator_level}
 use Rattle.engine.specs.Climbs.{Downs, Next, decorator_at, Opens, Closes}
 use Rattle.engine.proofs.Ways.{WayDown, Deeper, deeper_one, way_done, way_deeper}
@@ -29,9 +29,13 @@ module _ (F : Format) (T : Lent) (v : Visitor) (p : ℕ) (x : Float) (ws : List 
   abbrev by_rule : Kind → Out
   by_rule k = by_kind F T v k p x ws ts
 
-  decorator_opens : p < 255 → (k : Kind) → is_decorator k ≡ true → by_rule k ≡ goes (resumed_by F T) v (due_turn (decorator_level k p x) x) ws ts
+  -- its child is due
+  abbrev opened_level : Kind → Out
+  opened_level k = let e = decorator_level k p x in resumed_by F T v e (v e.child x ws ts)
+
+  decorator_opens : p < 255 → (k : Kind) → is_decorator k ≡ true → by_rule k ≡ opened_level k
   unfolding by_kind decorator
-  decorator_opens h = decorator_case (λ k. by_rule k ≡ goes (resumed_by F T) v (due_turn (decorator_level k p x) x) ws ts)
+  decorator_opens h = decorator_case (λ k. by_rule k ≡ opened_level k)
       (rw (lt-ltb p 255 h)) (rw (lt-ltb p 255 h)) (rw (lt-ltb p 255 h))
 
   decorator_ends : 255 ≤ p → (k : Kind) → is_decorator k ≡ true → by_rule k ≡ out Stopped zero_time ws ts
@@ -66,14 +70,12 @@ module _ {F : Format} {T : Lent} {n₀ : ℕ} {e₀ : Level} {x₀ : Float} {r�
   used = set ws 256 (fuel_of ws - 1)
 
   pub way_last : 255 ≤ e.child → Downs F T n₀ e₀ x₀ r₀ ws₀ ts₀ n e Stopped zero_time r used ts
-  way_last h = way_done w refl (no_leaf k d) few f used refl (done_turn e (result_of Stopped zero_time)) used ts
-      (λ T v. decorator_ends F T v e.child x used ts h k d) refl refl used (λ l ts. refl) refl
+  way_last h = way_done w refl (no_leaf k d) few f used refl used ts refl Stopped zero_time (λ T v. decorator_ends F T v e.child x used ts h k d) used (λ l ts. refl) refl
 
   pub way_decorator : e.child < 255 → {r' : Levels} → Deeper n e r r' → WayDown F T n₀ e₀ x₀ r₀ ws₀ ts₀ (n + 1) (decorator_at used e.child x) x r' used ts
   way_decorator h deep = rw (kind_kept ws (fuel_of ws - 1) e.child (omega arith))
-      (way_deeper w refl (no_leaf k d) few f used refl (due_turn (decorator_level k e.child x) x) used ts
-      (λ T v. decorator_opens F T v e.child x used ts h k d) refl refl
-      (record { kind = refl; node = refl; sound = λ _. decorator_sound e.child x h k d }) deep)
+      (way_deeper w refl (no_leaf k d) few f used refl used ts refl (decorator_level k e.child x) x (λ T v. decorator_opens F T v e.child x used ts h k d)
+      (record { kind = refl; node = refl; sound = decorator_sound e.child x h k d }) deep)
 
 -- from the decorator at p₀ to the one at p, whatever is lent
 pub record WayOpen (F : Format) (n₀ p₀ : ℕ) (x : Float) (r₀ : Levels) (ws₀ : List ℕ) (n p : ℕ) (r : Levels) (ws : List ℕ) : Type 0 where

@@ -1,13 +1,13 @@
 -- What a way down and a way up have kept so far.
 use mathlib.Core.Path.{◌≡◌, refl, sym, ap, ◌∙◌, subst}
-use mathlib.Core.Bool.{Bool, true, false}
+use mathlib.Core.Bool.{true, false}
 use mathlib.Core.List.{List}
 use Prim.Native.Nat.{ℕ, zero, suc, ◌+◌, ◌-◌, ◌≤◌, ◌<◌}
 use native.Mathlib.Numerals.{add-one}
 use native.Mathlib.Decide.{dec_lt}
 use native.Mathlib.Omega.{arith}
 use lib.Ieee.{Float, Format}
-use lib.ListN.{get_or, set}
+use lib.ListN.{set}
 use Rattle.rules.specs.declared.behavior.Kind.{Kind}
 use Rattle.rules.specs.Tree.{zero_time}
 use Rattle.rules.specs.Levels.{Levels, entries, cleared}
@@ -15,13 +15,14 @@ use Rattle.work.specs.declared.result.Seen.{Seen}
 use Rattle.work.specs.declared.result.Seen.TheVariants.{Stopped}
 use Rattle.work.specs.Word.{kind_in}
 use Rattle.work.specs.Array.{word_at, fuel_of}
-use Rattle.work.specs.Flat.{Out, out, Lent, lent, Visitor, seen, is_leaf, visit_leaf, by_kind, visit, tick, visiting}
+use Rattle.work.specs.Flat.{Out, out, Lent, Visitor, result_of, seen, is_leaf, visit_leaf, by_kind, visit, tick, visiting}
 use Rattle.turns.specs.declared.level.Level.{Level}
-use Rattle.turns.specs.declared.level.Turn.{Turn}
-use Rattle.turns.specs.Levels.{Sound, KeepsSound, goes, resumed_by, entered_level}
+use Rattle.turns.specs.Levels.{Sound, StaysSound, resumed_by, entered_level}
 use Rattle.turns.proofs.FuelLaws.{fuel_used, leaf_less}
-use Rattle.engine.specs.Stands.{node_as, level_at, put_at, through, around, Held}
-use Rattle.engine.specs.Climbs.{due_at, Downs, Closes, Ups}
+use Rattle.engine.specs.declared.climb.Risen.{Risen}
+use Rattle.engine.specs.declared.climb.Risen.TheVariants.{Due, Done}
+use Rattle.engine.specs.Stands.{Placed, level_at, put_at, through, around, Held}
+use Rattle.engine.specs.Climbs.{due_at, risen_at, Downs, Closes, Ups}
 use Rattle.engine.proofs.StandLaws.{put_long, put_same, put_other, put_cleared, around_stopped, around_deeper, around_kept, around_put}
 use Rattle.engine.proofs.ClimbLaws.{visit_root, down_leaf, down_spent, down_deep, down_done, down_due, up_due, up_done}
 
@@ -45,9 +46,6 @@ pub record WayUp
 pub record Deeper (n : ℕ) (e : Level) (r r' : Levels) : Type 0 where
   pub none : n ≡ 0 → r' ≡ r
   pub one : (m : ℕ) → n ≡ suc m → r' ≡ put_at r m e
-
-pub not_due : ◌≡◌ {A = Bool} false true → ⊥
-not_due e = let z : ◌≡◌ {A = ℕ} 0 1 = cc in omega arith
 
 pub deeper_none : {n : ℕ} {e : Level} {r r' : Levels} → n ≤ 0 → r' ≡ r → Deeper n e r r'
 deeper_none h z = record { none = λ _. z; one = λ m k. absurd (omega arith) }
@@ -142,33 +140,30 @@ module _ {F : Format} {T : Lent} {n₀ : ℕ} {e₀ : Level} {x₀ : Float} {r�
     pub way_deep : 16 ≤ n → To Stopped zero_time ws ts
     way_deep z = gives (down_deep F T n x e.child ws ts k c h z) (λ g. absurd (g refl))
 
-    module _ (d : n < 16) (f : fuel_of ws ≡ 0 → ⊥) (ws₁ : List ℕ) (a : ws₁ ≡ set ws 256 (fuel_of ws - 1)) (t : Turn) (ws₂ : List ℕ) (ts₂ : List Float)
-        (o : (T : Lent) (v : Visitor) → by_kind F T v k e.child x ws₁ ts ≡ goes (resumed_by F T) v t ws₂ ts₂) (g : fuel_of ws₂ ≡ fuel_of ws₁) where
-      abbrev opens_so : by_kind F T (visiting F T (15 - n)) k e.child x ws₁ ts ≡ goes (resumed_by F T) (visiting F T (15 - n)) t ws₂ ts₂
-      opens_so = o T (visiting F T (15 - n))
-
+    module _ (d : n < 16) (f : fuel_of ws ≡ 0 → ⊥) (ws₁ : List ℕ) (a : ws₁ ≡ set ws 256 (fuel_of ws - 1)) (ws₂ : List ℕ) (ts₂ : List Float) (g : fuel_of ws₂ ≡ fuel_of ws₁) where
       used : fuel_of ws₂ < fuel_of ws
       used = omega (arith, g, ap fuel_of a, fuel_used ws f)
 
-      pub way_done : t.due ≡ false → (ws₃ : List ℕ) → ((l : Float) (ts : List Float) → seen e.child (out t.seen l ws₂ ts) ≡ out t.seen l ws₃ ts) → fuel_of ws₃ ≡ fuel_of ws₂
-          → To t.seen t.left ws₃ ts₂
-      way_done z ws₃ s same = gives (down_done F T n x e.child ws ts k c h d f ws₁ a t ws₂ ts₂ opens_so z ws₃ (s t.left ts₂)) (λ _. omega (arith, same, used))
+      pub way_done : (s : Seen) (l : Float) → ((T : Lent) (v : Visitor) → by_kind F T v k e.child x ws₁ ts ≡ out s l ws₂ ts₂)
+          → (ws₃ : List ℕ) → ((l : Float) (ts : List Float) → seen e.child (out s l ws₂ ts) ≡ out s l ws₃ ts) → fuel_of ws₃ ≡ fuel_of ws₂ → To s l ws₃ ts₂
+      way_done s l o ws₃ shown same =
+          gives (down_done F T n x e.child ws ts k c h d f ws₁ a ws₂ ts₂ s l (o T (visiting F T (15 - n))) ws₃ (shown l ts₂)) (λ _. omega (arith, same, used))
 
-      pub way_deeper : t.due ≡ true → KeepsSound (entered_level k e.child x) t → {r' : Levels} → Deeper n e r r'
-          → WayDown F T n₀ e₀ x₀ r₀ ws₀ ts₀ (n + 1) t.level t.left r' ws₂ ts₂
-      way_deeper z keeps {r'} deep =
-          let on = down_due F T n x e.child ws ts k c h d f ws₁ a t ws₂ ts₂ opens_so z keeps.node in
+      pub way_deeper : (i : Level) (y : Float) → ((T : Lent) (v : Visitor) → by_kind F T v k e.child x ws₁ ts ≡ resumed_by F T v i (v i.child y ws₂ ts₂))
+          → StaysSound (entered_level k e.child x) i → {r' : Levels} → Deeper n e r r' → WayDown F T n₀ e₀ x₀ r₀ ws₀ ts₀ (n + 1) i y r' ws₂ ts₂
+      way_deeper i y o keeps {r'} deep =
+          let on = down_due F T n x e.child ws ts k c h d f ws₁ a ws₂ ts₂ i y (o T (visiting F T (15 - n))) keeps.node in
           rw add-one (record {
             same = w.same ∙ ap (around F T n e r) on
-                ∙ around_deeper F T n e t.level r r' _ w.held.few w.held.room (λ l. (w.held.inner l).fine) deep.none deep.one;
-            held = held_deeper n e r r' deep w.held t.level d (keeps.sound z);
+                ∙ around_deeper F T n e i r r' _ w.held.few w.held.room (λ l. (w.held.inner l).fine) deep.none deep.one;
+            held = held_deeper n e r r' deep w.held i d keeps.sound;
             behind = deeper_behind n e r r' deep w.held ∙ w.behind;
             fuel = omega (arith, used, w.fuel);
           })
 
 -- ---- up
 -- a node in an entry has a word
-pub held_placed : {n : ℕ} {e : Level} {r : Levels} → Held n e r → (j : ℕ) → j < n - 1 → node_as (get_or r.opens j 0) < 256
+pub held_placed : {n : ℕ} {e : Level} {r : Levels} → Held n e r → Placed (n - 1) r
 unfolding level_at
 held_placed h j l = let fine = (h.outer j l).fine in omega (arith, fine.node_in, fine.child_in)
 
@@ -192,51 +187,40 @@ module _ {F : Format} {T : Lent}
     {n₀ : ℕ} {e₀ : Level} {s₀ : Seen} {l₀ : Float} {r : Levels} {ws₀ : List ℕ} {ts₀ : List Float} {n : ℕ} {e : Level} {s : Seen} {l : Float} {ws : List ℕ} {ts : List Float}
     (w : WayUp F T n₀ e₀ s₀ l₀ r ws₀ ts₀ n e s l ws ts) where
   -- the walk has stopped
-  pub way_stopped : s ≡ Stopped → Ups F T r n₀ e₀ s₀ l₀ ws₀ ts₀ false n e s l ws ts
-  way_stopped z = record {
-    on = λ d. absurd (not_due d);
-    over = λ _. w.same ∙ around_stopped F T n e r s l ws ts z;
-    held = λ d. absurd (not_due d);
-    going = λ d. absurd (not_due d);
-    fuel = w.fuel;
-  }
+  pub way_stopped : s ≡ Stopped → Ups F T r n₀ e₀ s₀ l₀ ws₀ ts₀ (Done (result_of s l)) ws ts
+  way_stopped z = record { same = w.same ∙ around_stopped F T n e r s l ws ts z; held = tt; going = tt; fuel = w.fuel }
 
-  module _ (some : 0 < n) (going : s ≡ Stopped → ⊥) (t : Turn) (ws₁ : List ℕ) (ts₁ : List Float)
-      (o : (a : List ℕ) (b : List Float) (tk : Visitor) → let U = lent T.limits a b in let v = visit F U tk in
-      resumed_by F U v e (out s l ws ts) ≡ goes (resumed_by F U) v t ws₁ ts₁)
-      (keeps : KeepsSound e t) (g : fuel_of ws₁ ≤ fuel_of ws) where
+  module _ (some : 0 < n) (going : s ≡ Stopped → ⊥) (ws₁ : List ℕ) (ts₁ : List Float) (g : fuel_of ws₁ ≤ fuel_of ws) where
     abbrev m : ℕ
     m = n - 1
 
     suc_m : n ≡ suc m
     suc_m = omega arith
 
-    abbrev goes_so : resumed_by F T (visiting F T (15 - m)) e (out s l ws ts) ≡ goes (resumed_by F T) (visiting F T (15 - m)) t ws₁ ts₁
-    goes_so = o T.statuses T.leftovers (tick F T (15 - m))
-
-    pub way_due : t.due ≡ true → Ups F T r n₀ e₀ s₀ l₀ ws₀ ts₀ true n t.level s t.left ws₁ ts₁
-    way_due z = record {
-      on = λ _. w.same ∙ turned_up;
-      over = λ d. absurd (not_due (sym d));
-      held = λ _. record {
+    pub way_due : (i : Level) (y : Float) → ((tk : Visitor) → let v = visit F T tk in resumed_by F T v e (out s l ws ts) ≡ resumed_by F T v i (v i.child y ws₁ ts₁))
+        → StaysSound e i → Ups F T r n₀ e₀ s₀ l₀ ws₀ ts₀ (Due (record { deep = n; level = i }) y) ws₁ ts₁
+    way_due i y o keeps = record {
+      same = w.same ∙ turned_up;
+      held = record {
         few = w.held.few;
-        due_in = (keeps.sound z).fine.child_in;
-        inner = λ _. keeps.sound z;
+        due_in = keeps.sound.fine.child_in;
+        inner = λ _. keeps.sound;
         outer = w.held.outer;
         room = w.held.room;
       };
-      going = λ _ d. going (w.going d);
+      going = λ d. going (w.going d);
       fuel = omega (arith, g, w.fuel);
     }
       where
-        turned_up : around F T n e r (out s l ws ts) ≡ around F T n t.level r (visiting F T (16 - n) t.level.child t.left ws₁ ts₁)
-        turned_up = rw suc_m (up_due F T m e r (out s l ws ts) t ws₁ ts₁ goes_so keeps.node z)
+        turned_up : around F T n e r (out s l ws ts) ≡ around F T n i r (visiting F T (16 - n) i.child y ws₁ ts₁)
+        turned_up = rw suc_m (up_due F T m e r (out s l ws ts) ws₁ ts₁ i y (o (tick F T (15 - m))) keeps.node)
 
-    pub way_up : t.due ≡ false → (ws₂ : List ℕ) → ((l : Float) (ts : List Float) → seen e.node (out t.seen l ws₁ ts) ≡ out t.seen l ws₂ ts) → fuel_of ws₂ ≡ fuel_of ws₁
-        → {n' : ℕ} {s' : Seen} {l' : Float} {ws₃ : List ℕ} {ts₃ : List Float} → Closes F T.limits r.opens r.wholes m t.seen t.left ws₂ ts₁ n' s' l' ws₃ ts₃
+    pub way_up : (s₁ : Seen) (l₁ : Float) → ((tk : Visitor) → resumed_by F T (visit F T tk) e (out s l ws ts) ≡ out s₁ l₁ ws₁ ts₁)
+        → (ws₂ : List ℕ) → ((l : Float) (ts : List Float) → seen e.node (out s₁ l ws₁ ts) ≡ out s₁ l ws₂ ts) → fuel_of ws₂ ≡ fuel_of ws₁
+        → {n' : ℕ} {s' : Seen} {l' : Float} {ws₃ : List ℕ} {ts₃ : List Float} → Closes F T.limits r.opens r.wholes m s₁ l₁ ws₂ ts₁ n' s' l' ws₃ ts₃
         → {e' : Level} → (0 < n' → e' ≡ level_at r (n' - 1)) → (n' ≤ 0 → e' ≡ e)
         → WayUp F T n₀ e₀ s₀ l₀ r ws₀ ts₀ n' e' s' l' ws₃ ts₃
-    way_up z ws₂ shown same {n'} {s'} {l'} {ws₃} {ts₃} closed {e'} p q = record {
+    way_up s₁ l₁ o ws₂ shown same {n'} {s'} {l'} {ws₃} {ts₃} closed {e'} p q = record {
       same = w.same ∙ turned_up ∙ closed.same T.statuses r.counts T.leftovers r.rests ∙ around_kept F T n' e' r (out s' l' ws₃ ts₃) inside;
       held = held_out n n' e e' r w.held (omega (arith, closed.few)) p q;
       fuel = omega (arith, closed.fuel, same, g, w.fuel);
@@ -246,16 +230,16 @@ module _ {F : Format} {T : Lent}
         inside : (j : ℕ) → n' ≡ suc j → e' ≡ level_at r j
         inside j d = let k : n' - 1 ≡ j = omega arith in rw k at (p (omega arith))
 
-        turned_up : around F T n e r (out s l ws ts) ≡ through F T m r (out t.seen t.left ws₂ ts₁)
-        turned_up = subst (λ (k : ℕ). around F T k e r (out s l ws ts) ≡ through F T m r (out t.seen t.left ws₂ ts₁)) (sym suc_m)
-            (up_done F T m e r (out s l ws ts) t ws₁ ts₁ goes_so keeps.node z ws₂ (shown t.left ts₁))
+        turned_up : around F T n e r (out s l ws ts) ≡ through F T m r (out s₁ l₁ ws₂ ts₁)
+        turned_up = subst (λ (k : ℕ). around F T k e r (out s l ws ts) ≡ through F T m r (out s₁ l₁ ws₂ ts₁)) (sym suc_m)
+            (up_done F T m e r (out s l ws ts) ws₁ ts₁ s₁ l₁ (o (tick F T (15 - m))) ws₂ (shown l₁ ts₁))
 
 -- ---- round: down to a result, and up to where a child is due or to the end
-module _ {F : Format} {T : Lent} {n₀ : ℕ} {e₀ : Level} {x₀ : Float} {r₀ : Levels} {ws₀ : List ℕ} {ts₀ : List Float} {n : ℕ} {e : Level} {x : Float} {r : Levels} {ws : List ℕ} {ts : List Float}
-    {n₁ : ℕ} {e₁ : Level} {s₁ : Seen} {l₁ : Float} {r₁ : Levels} {ws₁ : List ℕ} {ts₁ : List Float} {due : Bool} {n₂ : ℕ} {e₂ : Level} {s₂ : Seen} {l₂ : Float} {ws₂ : List ℕ} {ts₂ : List Float}
-    (w : WayDown F T n₀ e₀ x₀ r₀ ws₀ ts₀ n e x r ws ts) (d : Downs F T n e x r ws ts n₁ e₁ s₁ l₁ r₁ ws₁ ts₁) (u : Ups F T r₁ n₁ e₁ s₁ l₁ ws₁ ts₁ due n₂ e₂ s₂ l₂ ws₂ ts₂) where
-  pub round_over : due ≡ false → due_at F T n₀ e₀ x₀ r₀ ws₀ ts₀ ≡ out s₂ l₂ ws₂ ts₂
-  round_over z = w.same ∙ d.same ∙ u.over z
+pub round_over : {F : Format} {T : Lent} {n₀ : ℕ} {e₀ : Level} {x₀ : Float} {r₀ : Levels} {ws₀ : List ℕ} {ts₀ : List Float} {n : ℕ} {e : Level} {x : Float} {r : Levels} {ws : List ℕ} {ts : List Float}
+    {n₁ : ℕ} {e₁ : Level} {s₁ : Seen} {l₁ : Float} {r₁ : Levels} {ws₁ : List ℕ} {ts₁ : List Float} {u : Risen} {ws₂ : List ℕ} {ts₂ : List Float}
+    → WayDown F T n₀ e₀ x₀ r₀ ws₀ ts₀ n e x r ws ts → Downs F T n e x r ws ts n₁ e₁ s₁ l₁ r₁ ws₁ ts₁ → Ups F T r₁ n₁ e₁ s₁ l₁ ws₁ ts₁ u ws₂ ts₂
+    → due_at F T n₀ e₀ x₀ r₀ ws₀ ts₀ ≡ risen_at F T u r₁ ws₂ ts₂
+round_over w d u = w.same ∙ d.same ∙ u.same
 
 -- the root is due, with no node open
 pub root_due : (F : Format) (T : Lent) (e : Level) (x : Float) (r : Levels) (ws : List ℕ) (ts : List Float) → e.child ≡ 0 → tick F T 16 0 x ws ts ≡ due_at F T 0 e x r ws ts

@@ -1,7 +1,6 @@
 -- What the ways down and up keep.
-use Rattle.std.specs.Prelude.{◌≡◌, Bool, true, false, List, ℕ, ◌+◌, ◌-◌, ◌<◌, ◌≤◌, Float}
+use Rattle.std.specs.Prelude.{◌≡◌, true, List, ℕ, ◌+◌, ◌-◌, ◌<◌, ◌≤◌, Float}
 use Rattle.std.specs.Float.{Format}
-use Rattle.rules.specs.Tree.{zero_time}
 use Rattle.rules.specs.Levels.{Levels, levels, cleared}
 use Rattle.work.specs.declared.result.Seen.{Seen}
 use Rattle.work.specs.declared.result.Seen.TheVariants.{Stopped}
@@ -10,10 +9,9 @@ use Rattle.work.specs.Array.{word_at, fuel_of}
 use Rattle.work.specs.Flat.{Out, out, Lent, lent, is_decorator, visiting}
 use Rattle.turns.specs.declared.level.Level.{Level}
 use Rattle.engine.specs.declared.climb.Stand.{Stand}
+use Rattle.engine.specs.declared.climb.Risen.{Risen}
+use Rattle.engine.specs.declared.climb.Risen.TheVariants.{Due, Done}
 use Rattle.engine.specs.Stands.{decorator_level, through, around, Held}
-
-abbrev pub stopped_at : ℕ → Level → Stand
-stopped_at n e = record { due = false; deep = n; level = e; seen = Stopped; left = zero_time }
 
 -- so many nodes are open, and the child of the innermost is due with x; or it has given a result
 abbrev pub due_at : Format → Lent → ℕ → Level → Float → Levels → List ℕ → List Float → Out
@@ -60,13 +58,22 @@ pub record Closes
       through F T n r (out s l ws ts) ≡ through F T n' r (out s' l' ws' ts')
   pub fuel : fuel_of ws' ≡ fuel_of ws
 
+-- what comes of where a way up ends: a child is due, or that is the result
+abbrev pub risen_at : Format → Lent → Risen → Levels → List ℕ → List Float → Out
+risen_at F T (Due t x) r ws ts = due_at F T t.deep t.level x r ws ts
+risen_at F T (Done v) r ws ts = out v.seen v.left ws ts
+
+-- what holds of where a child is due
+abbrev pub IfDue : (Stand → Type 0) → Risen → Type 0
+IfDue P (Due t x) = P t
+IfDue P (Done v) = Unit {0}
+
 -- up from where a child has given a result to where one is due, or to the end
 pub record Ups
     (F : Format) (T : Lent) (r : Levels)
     (n : ℕ) (e : Level) (s : Seen) (l : Float) (ws : List ℕ) (ts : List Float)
-    (due : Bool) (n' : ℕ) (e' : Level) (s' : Seen) (l' : Float) (ws' : List ℕ) (ts' : List Float) : Type 0 where
-  pub on : due ≡ true → given_at F T n e s l r ws ts ≡ due_at F T n' e' l' r ws' ts'
-  pub over : due ≡ false → given_at F T n e s l r ws ts ≡ out s' l' ws' ts'
-  pub held : due ≡ true → Held n' e' r
-  pub going : due ≡ true → s ≡ Stopped → ⊥
+    (u : Risen) (ws' : List ℕ) (ts' : List Float) : Type 0 where
+  pub same : given_at F T n e s l r ws ts ≡ risen_at F T u r ws' ts'
+  pub held : IfDue (λ t. Held t.deep t.level r) u
+  pub going : IfDue (λ t. s ≡ Stopped → ⊥) u
   pub fuel : fuel_of ws' ≤ fuel_of ws

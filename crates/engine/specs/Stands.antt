@@ -58,6 +58,10 @@ module _ (F : Format) (T : Lent) where
 abbrev pub decorator_level : Kind → ℕ → Float → Level
 decorator_level k p dt = record { kind = k; node = p; child = p + 1; next = 0; stop = 0; index = 0; count = 0; whole = dt; rest = dt }
 
+-- the nodes in the first n entries have a word
+abbrev pub Placed : ℕ → Levels → Type 0
+Placed n r = (j : ℕ) → j < n → node_as (get_or r.opens j 0) < 256
+
 -- so many open nodes fit into the room
 pub record Held (n : ℕ) (e : Level) (r : Levels) : Type 0 where
   pub few : n ≤ 16

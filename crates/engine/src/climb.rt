@@ -1,41 +1,36 @@
 // Down from one open node to the next until there is a result, and up with it until a child is due.
 ghost use Rattle.std.specs.Prelude.{◌≡◌, List, ◌<◌, ◌≤◌, Float};
 ghost use Rattle.std.specs.Float.{binary64};
-ghost use Rattle.rules.specs.Levels.{levels, entries, cleared};
+ghost use Rattle.rules.specs.Levels.{entries, cleared};
+ghost use Rattle.lent.specs.Lent.{levels_in, SameRoom};
 ghost use Rattle.work.specs.Array.{fuel_of};
-ghost use Rattle.work.specs.Flat.{out, lent, tick};
+ghost use Rattle.work.specs.Flat.{out, lent_in, tick};
 ghost use Rattle.work.specs.Flat as flat;
 ghost use Rattle.engine.specs.Stands.{Held};
-ghost use Rattle.engine.specs.Climbs.{Downs, Ups, stopped_at};
+ghost use Rattle.engine.specs.Climbs.{Downs, Ups};
 
 use crate::decorators::{close_decorators, decorating, open_decorators};
 use crate::room::{keep, kept};
 use leaves::visit_leaf;
+use lent::Room;
 use rules::Kind;
-use turns::{Level, entered, opened, resumed};
-use work::{FUEL, Result, Seen, decorates, is_leaf, kind_of, put_seen};
+use turns::{Level, Turn, entered, opened, resumed};
+use work::{FUEL, Reads, Seen, Visit, decorates, is_leaf, kind_of, put_seen, stopped};
 
 // Where a walk stands: so many nodes are open, the innermost of which is `level`; the others are in the room.
-// Its child is due, with what is left as its dt, or there is a result.
 #[derive(Clone, Copy)]
 pub struct Stand {
-    pub due: bool,
     pub deep: usize,
     pub level: Level,
-    pub seen: Seen,
-    pub left: f64,
 }
 
-fn stopped_at(deep: usize, level: Level) -> Stand
-    ensures { result ≡ stopped_at deep level }
-{
-    Stand {
-        due: false,
-        deep,
-        level,
-        seen: Seen::Stopped,
-        left: 0.0,
-    }
+// Where a way up ends.
+#[derive(Clone, Copy)]
+pub enum Risen {
+    // The child of the innermost node is due, with what is left as its dt.
+    Due(Stand, f64),
+    // The outermost node has given its own result, or the walk has stopped.
+    Done(Visit),
 }
 
 // A status goes onto the board; where the walk has stopped, there is none.
@@ -53,74 +48,60 @@ pub fn show(work: &mut [u32; 260], p: usize, seen: Seen)
 // The child of the innermost node is visited; nodes are opened until one gives a result.
 fn down(
     work: &mut [u32; 260],
-    limits: &&[f64],
-    statuses: &&[u8],
-    leftovers: &&[f64],
+    reads: &Reads,
     times: &mut [f64],
-    opens: &mut [u64],
-    counts: &mut [u32],
-    wholes: &mut [f64],
-    rests: &mut [f64],
+    room: &mut Room,
     stand: Stand,
-) -> Stand
-    requires { Held stand.deep stand.level (levels opens.old counts.old wholes.old rests.old) }
-    ensures { Downs binary64 (lent limits.now.now statuses.now.now leftovers.now.now)
-        stand.deep stand.level stand.left
-        (levels opens.old counts.old wholes.old rests.old) work.old times.old
-        result.deep result.level result.seen result.left
-        (levels opens.new counts.new wholes.new rests.new) work.new times.new }
+    dt: f64,
+) -> (Stand, Visit)
+    requires { Held stand.deep stand.level (levels_in room.old) }
+    ensures downs { Downs binary64 (lent_in reads.now)
+        stand.deep stand.level dt (levels_in room.old) work.old times.old
+        result.0.deep result.0.level result.1.seen result.1.left (levels_in room.new) work.new times.new }
+    ensures same_room { SameRoom room.old room.new }
 {
-    let mut deep = stand.deep;
-    let mut level = stand.level;
-    let mut rest = stand.left;
+    let mut at = stand;
+    let mut rest = dt;
     loop {
-        let q = level.child;
+        let q = at.level.child;
         let kind = kind_of(work[q]);
         if is_leaf(kind) {
-            let result = visit_leaf(work, limits, statuses, leftovers, times, kind, q, rest);
-            let seen = result.seen;
-            return Stand {
-                due: false,
-                deep,
-                level,
-                seen,
-                left: result.left,
-            };
+            return (at, visit_leaf(work, reads, times, kind, q, rest));
         }
         let fuel = work[FUEL];
         if fuel == 0 {
-            return stopped_at(deep, level);
+            return (at, stopped());
         }
-        if 16 <= deep {
-            return stopped_at(deep, level);
+        if 16 <= at.deep {
+            return (at, stopped());
         }
         work[FUEL] = fuel - 1;
-        if 0 < deep {
-            keep(opens, counts, wholes, rests, deep - 1, level);
+        if 0 < at.deep {
+            keep(room, at.deep - 1, at.level);
         }
         if decorates(kind) {
             if 255 <= q {
-                return stopped_at(deep, level);
+                return (at, stopped());
             }
-            let p = open_decorators(work, opens, counts, wholes, rests, deep + 1, q, rest);
-            deep += 1 + p - q;
-            level = decorating(kind_of(work[p]), p, rest);
+            let p = open_decorators(work, room, at.deep + 1, q, rest);
+            at = Stand {
+                deep: at.deep + 1 + p - q,
+                level: decorating(kind_of(work[p]), p, rest),
+            };
         } else {
-            let turn = opened(work, times, kind, q, rest);
-            if !turn.due {
-                let seen = turn.seen;
-                show(work, q, seen);
-                return Stand {
-                    due: false,
-                    deep,
-                    level,
-                    seen,
-                    left: turn.left,
-                };
+            match opened(work, times, kind, q, rest) {
+                Turn::Due(level, left) => {
+                    at = Stand {
+                        deep: at.deep + 1,
+                        level,
+                    };
+                    rest = left;
+                }
+                Turn::Done(visit) => {
+                    show(work, q, visit.seen);
+                    return (at, visit);
+                }
             }
-            deep += 1;
-            level = turn.level;
-            rest = turn.left;
         }
     }
 }
@@ -128,116 +109,70 @@ fn down(
 // A result goes up until a child is due, or the outermost node has given its own.
 fn up(
     work: &mut [u32; 260],
-    limits: &&[f64],
-    statuses: &&[u8],
-    leftovers: &&[f64],
+    reads: &Reads,
     times: &mut [f64],
-    opens: &[u64],
-    counts: &[u32],
-    wholes: &[f64],
-    rests: &[f64],
+    room: &Room,
     stand: Stand,
-) -> Stand
-    requires { Held stand.deep stand.level (levels opens.now counts.now wholes.now rests.now) }
-    ensures { Ups binary64 (lent limits.now.now statuses.now.now leftovers.now.now)
-        (levels opens.now counts.now wholes.now rests.now)
-        stand.deep stand.level stand.seen stand.left work.old times.old
-        result.due result.deep result.level result.seen result.left work.new times.new }
+    given: Visit,
+) -> Risen
+    requires { Held stand.deep stand.level (levels_in room.now) }
+    ensures { Ups binary64 (lent_in reads.now) (levels_in room.now)
+        stand.deep stand.level given.seen given.left work.old times.old
+        result work.new times.new }
 {
-    let mut deep = stand.deep;
-    let mut level = stand.level;
-    let mut seen = stand.seen;
-    let mut left = stand.left;
-    while 0 < deep {
-        if let Seen::Stopped = seen {
-            return Stand {
-                due: false,
-                deep,
-                level,
-                seen,
-                left,
-            };
+    let mut at = stand;
+    let mut visit = given;
+    while 0 < at.deep {
+        if let Seen::Stopped = visit.seen {
+            return Risen::Done(visit);
         }
-        let turn = resumed(work, limits, times, level, Result { seen, left });
-        if turn.due {
-            let next = turn.level;
-            return Stand {
-                due: true,
-                deep,
-                level: next,
-                seen,
-                left: turn.left,
-            };
-        }
-        let given = turn.seen;
-        show(work, level.node, given);
-        let closed = close_decorators(
-            work,
-            limits,
-            times,
-            opens,
-            wholes,
-            deep - 1,
-            Result {
-                seen: given,
-                left: turn.left,
-            },
-        );
-        deep = closed.deep;
-        seen = closed.seen;
-        left = closed.left;
-        if 0 < deep {
-            level = kept(opens, counts, wholes, rests, deep - 1);
+        match resumed(work, reads, times, at.level, visit) {
+            Turn::Due(level, left) => {
+                return Risen::Due(Stand { level, ..at }, left);
+            }
+            Turn::Done(own) => {
+                show(work, at.level.node, own.seen);
+                let (deep, closed) = close_decorators(work, reads, times, room, at.deep - 1, own);
+                at.deep = deep;
+                visit = closed;
+                if 0 < deep {
+                    at.level = kept(room, deep - 1);
+                }
+            }
         }
     }
-    Stand {
-        due: false,
-        deep,
-        level,
-        seen,
-        left,
-    }
+    Risen::Done(visit)
 }
 
 // The walk from the root.
 pub fn climb(
     work: &mut [u32; 260],
-    limits: &&[f64],
-    statuses: &&[u8],
-    leftovers: &&[f64],
+    reads: &Reads,
     times: &mut [f64],
-    opens: &mut [u64],
-    counts: &mut [u32],
-    wholes: &mut [f64],
-    rests: &mut [f64],
+    room: &mut Room,
     dt: f64,
-) -> Result
-    requires { 16 ≤ entries (levels opens.old counts.old wholes.old rests.old) }
-    ensures times_value { tick binary64 (lent limits.now.now statuses.now.now leftovers.now.now) 16 0 dt work.old
-        times.old ≡ out result.seen result.left work.new times.new }
-    ensures rests_unchanged { cleared (levels opens.new counts.new wholes.new rests.new)
-        ≡ cleared (levels opens.old counts.old wholes.old rests.old) }
+) -> Visit
+    requires { 16 ≤ entries (levels_in room.old) }
+    ensures times_value { tick binary64 (lent_in reads.now) 16 0 dt work.old times.old ≡ out result.seen result.left work.new times.new }
+    ensures rests_unchanged { cleared (levels_in room.new) ≡ cleared (levels_in room.old) }
+    ensures room_bound { 16 ≤ entries (levels_in room.new) }
+    ensures same_room { SameRoom room.old room.new }
 {
     let mut stand = Stand {
-        due: true,
         deep: 0,
         level: entered(Kind::Race, 0, dt),
-        seen: Seen::Running,
-        left: dt,
     };
+    let mut rest = dt;
     loop {
-        let given = down(
-            work, limits, statuses, leftovers, times, opens, counts, wholes, rests, stand,
-        );
-        stand = up(
-            work, limits, statuses, leftovers, times, opens, counts, wholes, rests, given,
-        );
-        if !stand.due {
-            let seen = stand.seen;
-            return Result {
-                seen,
-                left: stand.left,
-            };
+        let (given, visit) = down(work, reads, times, room, stand, rest);
+        match up(work, reads, times, room, given, visit) {
+            Risen::Due(next, left) => {
+                stand = next;
+                rest = left;
+            }
+            Risen::Done(result) => {
+                return result;
+            }
         }
     }
 }

@@ -1,42 +1,37 @@
 // The lent room: an entry for each level, in four slices. The kind of an open node, its places and its index
-// stand in one number, the kind in the lowest eight bits.
+// stand in one number, the kind in the lowest eight bits: the C interface lends such numbers.
 ghost use Rattle.std.specs.Prelude.{◌≡◌, ◌≤◌, ◌<◌};
-ghost use Rattle.rules.specs.Levels.{levels, entries, cleared};
+ghost use Rattle.rules.specs.Levels.{entries, cleared};
+ghost use Rattle.lent.specs.Lent.{levels_in, SameRoom};
 ghost use Rattle.turns.specs.Levels.{Fine};
 ghost use Rattle.engine.specs.Stands.{packed_in, kind_as, node_as, unpacked_from, level_at, put_at};
 
-use cells::{clear_counts, clear_opens, clear_times};
+use cells::clear;
+use lent::Room;
 use rules::Kind;
 use turns::Level;
 
 // All sixteen entries are made zero.
-pub fn clear(opens: &mut [u64], counts: &mut [u32], wholes: &mut [f64], rests: &mut [f64])
-    requires { 16 ≤ entries (levels opens.old counts.old wholes.old rests.old) }
-    ensures { levels opens.new counts.new wholes.new rests.new
-        ≡ cleared (levels opens.old counts.old wholes.old rests.old) }
+pub fn clear_room(room: &mut Room)
+    requires { 16 ≤ entries (levels_in room.old) }
+    ensures cleared { levels_in room.new ≡ cleared (levels_in room.old) }
+    ensures same_room { SameRoom room.old room.new }
 {
-    clear_opens(opens, 16);
-    clear_counts(counts, 16);
-    clear_times(wholes, 16);
-    clear_times(rests, 16);
-}
-
-fn wide(x: usize) -> u64
-    ensures { result ≡ x }
-{
-    x as u64
+    clear(room.opens, 16, 0);
+    clear(room.counts, 16, 0);
+    clear(room.wholes, 16, 0.0);
+    clear(room.rests, 16, 0.0);
 }
 
 fn packed(level: Level) -> u64
     requires { Fine level }
     ensures { result ≡ packed_in level }
 {
-    let kind = level.kind;
-    let stop = wide(level.stop) + 512 * level.index as u64;
-    let next = wide(level.next) + 512 * stop;
-    let child = wide(level.child) + 512 * next;
-    let node = wide(level.node) + 512 * child;
-    kind.number() as u64 + 256 * node
+    let stop = level.stop as u64 + 512 * u64::from(level.index);
+    let next = level.next as u64 + 512 * stop;
+    let child = level.child as u64 + 512 * next;
+    let node = level.node as u64 + 512 * child;
+    u64::from(u8::from(level.kind)) + 256 * node
 }
 
 pub fn kind_in(x: u64) -> Kind
@@ -72,28 +67,26 @@ fn unpacked(x: u64, count: u32, whole: f64, rest: f64) -> Level
     }
 }
 
-pub fn keep(
-    opens: &mut [u64],
-    counts: &mut [u32],
-    wholes: &mut [f64],
-    rests: &mut [f64],
-    at: usize,
-    level: Level,
-)
-    requires at_bound { at < entries (levels opens.old counts.old wholes.old rests.old) }
+pub fn keep(room: &mut Room, at: usize, level: Level)
+    requires at_bound { at < entries (levels_in room.old) }
     requires fine { Fine level }
-    ensures { levels opens.new counts.new wholes.new rests.new
-        ≡ put_at (levels opens.old counts.old wholes.old rests.old) at level }
+    ensures put { levels_in room.new ≡ put_at (levels_in room.old) at level }
+    ensures same_room { SameRoom room.old room.new }
 {
-    opens[at] = packed(level);
-    counts[at] = level.count;
-    wholes[at] = level.whole;
-    rests[at] = level.rest;
+    room.opens[at] = packed(level);
+    room.counts[at] = level.count;
+    room.wholes[at] = level.whole;
+    room.rests[at] = level.rest;
 }
 
-pub fn kept(opens: &[u64], counts: &[u32], wholes: &[f64], rests: &[f64], at: usize) -> Level
-    requires { at < entries (levels opens.now counts.now wholes.now rests.now) }
-    ensures { result ≡ level_at (levels opens.now counts.now wholes.now rests.now) at }
+pub fn kept(room: &Room, at: usize) -> Level
+    requires { at < entries (levels_in room.now) }
+    ensures { result ≡ level_at (levels_in room.now) at }
 {
-    unpacked(opens[at], counts[at], wholes[at], rests[at])
+    unpacked(
+        room.opens[at],
+        room.counts[at],
+        room.wholes[at],
+        room.rests[at],
+    )
 }

@@ -19,19 +19,15 @@ use Rattle.rules.specs.Exchange.{listed, code_in, number_in, limit_in, time_in, 
 use Rattle.laws.specs.Shape.{size_shape, depth_shape}
 use Rattle.laws.specs.Memory.{held, held_shape}
 use Rattle.laws.specs.Tables.{tabled}
-use Rattle.cells.specs.Long.{cells_length}
-use Rattle.branch.specs.declared.way.Way.{Way}
-use Rattle.branch.specs.declared.way.Way.TheVariants.{Free, Held}
+use Rattle.lent.specs.Lengths.{cells_length}
+use Rattle.std.specs.Bool.{then_some}
+use Rattle.std.specs.Option.{ok_or}
+use Rattle.std.specs.Prelude.{Option, Some, None, Result, Ok, Err, IsErrAnd}
 use Rattle.branch.specs.declared.write.Cut.{Cut}
 use Rattle.branch.specs.Each.{Each, Any}
-use Rattle.branch.specs.Way.{above, way_at, Node, Stands, Lies, Leads}
+use Rattle.branch.specs.Way.{above, Node, Stands, Lies, Leads}
 use Rattle.branch.specs.Depth.{Depth}
 use Rattle.branch.specs.Write.{values, source_of, from, at, limit_at, always, filled, Fits, filled_room}
-use Rattle.exchange.specs.declared.gate.Plan.{Plan}
-use Rattle.exchange.specs.declared.gate.Plan.TheVariants.{Open}
-use Rattle.exchange.specs.declared.gate.Plan.TheVariants as plan
-use Rattle.exchange.specs.declared.gate.Gate.{Gate}
-use Rattle.exchange.specs.declared.gate.Gate.TheVariants as gate
 use Rattle.exchange.specs.Due.{Due, Passed, Planned}
 use Rattle.branch.proofs.Eachs.{each_map}
 use Rattle.exchange.proofs.Levels.{size_replaced, depth_low, depth_high, above_low, branch_end, branch_fits}
@@ -39,29 +35,34 @@ use Rattle.exchange.proofs.Standing.{Fresh, fresh_stands, Stood, stands}
 use Rattle.exchange.proofs.Columns.{Known, Cuts, column, since_column}
 
 -- ---- what the checks of tables and cells leave, told by their answer
-module _ (g : GivenExchange) (ends new_ends : List ℕ) {r : Gate} (p : Passed g ends new_ends r) where
-  pub refused : {a : Exchanged} → r ≡ gate.Refused a → exchange_call g ≡ not_exchanged g a
+module _ (g : GivenExchange) (ends new_ends : List ℕ) {r : Result (ℕ × ℕ) Exchanged} (p : Passed g ends new_ends r) where
+  pub refused : {a : Exchanged} → r ≡ Err a → exchange_call g ≡ not_exchanged g a
   refused e = rw e at p
 
-  pub opened : {n m : ℕ} → r ≡ gate.Open n m → Due g ends new_ends n m
+  pub opened : {n m : ℕ} → r ≡ Ok (n, m) → Due g ends new_ends n m
   opened e = rw e at p
 
--- ---- what the plan says
-module _ (g : GivenExchange) {r : Plan} (p : Planned g r) where
-  pub not_planned : {a : Exchanged} → r ≡ plan.Refused a → exchange_call g ≡ not_exchanged g a
-  not_planned e = rw e at p
-
-  pub is_planned : {cut : Cut} → r ≡ Open cut → Planned g (Open cut)
-  is_planned e = rw e at p
+-- ---- what `?` makes of a refusal
+pub not_planned : (g : GivenExchange) (r : Result Cut Exchanged) (a : Exchanged) → IsErrAnd r (λ e. e ≡ a) → exchange_call g ≡ not_exchanged g a → Planned g r
+not_planned g (Ok x) a h is = absurd h
+not_planned g (Err x) a h is = rw h is
 
 -- ---- what the way says
-way_free : (b : Bool) (n a : ℕ) (r : Way) → r ≡ way_at b n → r ≡ Free a → (b ≡ true) × (a ≡ n)
+way_free : (b : Bool) (n a : ℕ) (r : Option ℕ) → r ≡ then_some b n → r ≡ Some a → (b ≡ true) × (a ≡ n)
 way_free true n a r e h = (refl, cc)
 way_free false n a r e h = (cc, cc)
 
-way_held : (b : Bool) (n : ℕ) (r : Way) → r ≡ way_at b n → r ≡ Held → b ≡ false
+way_held : (b : Bool) (n : ℕ) (r : Option ℕ) → r ≡ then_some b n → r ≡ None → b ≡ false
 way_held true n r e h = cc
 way_held false n r e h = refl
+
+pub is_free : (o : Option ℕ) (e : Exchanged) (r : Result ℕ Exchanged) (a : ℕ) → r ≡ ok_or o e → r ≡ Ok a → o ≡ Some a
+is_free (Some x) e r a h is = cc
+is_free None e r a h is = cc
+
+pub is_held : (o : Option ℕ) (e : Exchanged) (r : Result ℕ Exchanged) (a : Exchanged) → r ≡ ok_or o e → r ≡ Err a → (o ≡ None) × (a ≡ e)
+is_held (Some x) e r a h is = (cc, cc)
+is_held None e r a h is = (refl, cc)
 
 -- ---- room for so many nodes is in each slice
 in_first : (n a b : ℕ) → n ≤ min a b → n ≤ a
@@ -150,14 +151,14 @@ module _ {g : GivenExchange} {ends new_ends : List ℕ} {n m : ℕ} (d : Due g e
   pub ends_low : get_or ends g.place 0 ≤ n
   ends_low = omega (arith, ends_at, held_size, branch_fits t g.place inside)
 
-  module _ {r : Way} (k : Leads g.kinds g.ns ends g.cells'.places g.cells'.marks g.place r) where
-    way : r ≡ way_at (free false t g.place) (above t g.place)
+  module _ {r : Option ℕ} (k : Leads g.kinds g.ns ends g.cells'.places g.cells'.marks g.place r) where
+    way : r ≡ then_some (free false t g.place) (above t g.place)
     way = k t on_way inside
 
-    pub state_held : r ≡ Held → exchange_call g ≡ not_exchanged g StateHeld
+    pub state_held : r ≡ None → exchange_call g ≡ not_exchanged g StateHeld
     state_held e = d.is ∙ rw (replacing, lt-ltb g.place (size t) inside, way_held (free false t g.place) (above t g.place) r way e)
 
-    module _ {a : ℕ} (e : r ≡ Free a) where
+    module _ {a : ℕ} (e : r ≡ Some a) where
       way_is : (free false t g.place ≡ true) × (a ≡ above t g.place)
       way_is = way_free (free false t g.place) (above t g.place) a r way e
 
@@ -277,7 +278,7 @@ module _ {g : GivenExchange} {ends new_ends : List ℕ} {n m : ℕ} (d : Due g e
                 to_sinces = roomy.sinces;
               }
 
-              pub planned : Planned g (Open cut)
+              pub planned : Planned g (Ok cut)
               planned =
                   let done = ap (left_exchange (Done cut.nodes)) filled_room_lem in
                   (fits, refl, writes ∙ rw (written, fits_table) (rw (result_size, le-leb cut.nodes (room_length to) enough) done))

@@ -5,22 +5,32 @@ use mathlib.Core.List.{List}
 use Prim.Native.Nat.{ℕ, ◌≤◌, ◌<◌}
 use borrow.Author.Tests.{le-ltb}
 use lib.Dec.{leb}
-use Rattle.rules.specs.declared.exchanged.Exchanged.TheVariants.{Finished, BadTable, BadBranch, TooShort, BadCell, NoNode}
+use Rattle.rules.specs.declared.exchanged.Exchanged.TheVariants as exchanged
+use Rattle.rules.specs.declared.exchanged.Exchanged.TheVariants.{Finished, BadTable, BadBranch, TooShort, NoNode}
 use Rattle.rules.specs.Tree.{Tree, size}
 use Rattle.rules.specs.Table.{most_deep, bad, table_within}
 use Rattle.rules.specs.Cells.{bad_cell}
 use Rattle.rules.specs.Call.{run_length}
+use Rattle.rules.specs.Exchange as exchange
 use Rattle.rules.specs.Exchange.{GivenExchange, not_exchanged, replacing, on_trees, on_branch, exchange_call}
 use Rattle.laws.specs.Shape.{size_shape}
 use Rattle.laws.specs.Memory.{held, held_shape}
-use Rattle.cells.specs.declared.check.Found.{Found as Said}
-use Rattle.cells.specs.declared.check.Found.TheVariants.{Faulty, Fine}
+use Rattle.std.specs.Prelude.{Result, Ok, Err, IsErrAnd}
+use Rattle.rules.specs.declared.exchanged.Exchanged.{Exchanged}
+use Rattle.rules.specs.declared.answer.Record.{Record}
+use Rattle.lent.specs.declared.table.Table.{Table}
+use Rattle.lent.specs.declared.cells.Cells.{Cells}
+use Rattle.cells.specs.declared.check.BadCell.{BadCell}
+use Rattle.branch.specs.Write.{exchange_of}
 use Rattle.tables.proofs.Good.{Good}
-use Rattle.cells.specs.Check.{Room, Checks, said, said_faulty, said_fine}
+use Rattle.cells.specs.Check.{Room, Checks, Said, said, said_faulty, said_fine}
 use Rattle.cells.specs.Long.{long}
-use Rattle.exchange.specs.Due.{Due}
+use Rattle.exchange.specs.Due.{Due, Passed}
 
-module _ (g : GivenExchange) where
+module _ (rec : Record) (table : Table) (c : Cells) (at : ℕ) (branch : Table) (to : exchange.Room) where
+  abbrev g : GivenExchange
+  g = exchange_of rec table c at branch to
+
   -- ---- 3
   pub bad_table : (p : ℕ) → table_within most_deep g.kinds g.ns g.limits ≡ bad p → exchange_call g ≡ not_exchanged g (BadTable p)
   unfolding exchange_call
@@ -41,7 +51,7 @@ module _ (g : GivenExchange) where
       too_short e = both ∙ rw (on_trees, old.sized, e)
 
       module _ (enough : leb n (run_length g.cells') ≡ true) where
-        pub room : Room g.kinds g.ns g.cells'.times g.cells'.places g.cells'.marks n
+        pub room : Room table c n
         room =
             let l = long n g.cells' enough in
             record { nodes = old.few; kinds_long = old.in_kinds; ns_long = old.in_ns; times_long = l.times; places_long = l.places; marks_long = l.marks }
@@ -50,14 +60,14 @@ module _ (g : GivenExchange) where
         t = held old.tree g.cells'
 
         -- ---- 9
-        module _ {r : Said} (k : Checks g.kinds g.ns ends g.cells'.times g.cells'.places g.cells'.marks n r) where
+        module _ {r : Said} (k : Checks table ends c n r) where
           says : r ≡ said (bad_cell false false 0 t)
           says = k g.limits old.tree old.stands old.sized old.levels
 
-          pub bad_cell_lem : (p : ℕ) → r ≡ Faulty p → exchange_call g ≡ not_exchanged g (BadCell p)
-          bad_cell_lem p h = both ∙ rw (on_trees, old.sized, enough, said_faulty (bad_cell false false 0 t) r p says h)
+          pub bad_cell_lem : (b : BadCell) → r ≡ Err b → exchange_call g ≡ not_exchanged g (exchanged.BadCell b.0)
+          bad_cell_lem b h = both ∙ rw (on_trees, old.sized, enough, said_faulty (bad_cell false false 0 t) r b says h)
 
-          module _ (fine : r ≡ Fine) where
+          module _ (fine : r ≡ Ok tt) where
             passed : exchange_call g ≡ cond g.record'.finished (not_exchanged g Finished) (replacing g t new.tree)
             passed = both ∙ rw (on_trees, old.sized, enough, (said_fine (bad_cell false false 0 t) r says fine).1)
 
@@ -80,3 +90,8 @@ module _ (g : GivenExchange) where
               due h =
                   let l = long n g.cells' enough in
                   record { old = old; new = new; in_times = l.times; in_places = l.places; in_marks = l.marks; in_sinces = l.sinces; inside = h; is = left }
+
+-- ---- what `?` makes of a refusal
+pub told : (g : GivenExchange) (ends new_ends : List ℕ) (r : Result (ℕ × ℕ) Exchanged) (a : Exchanged) → IsErrAnd r (λ e. e ≡ a) → exchange_call g ≡ not_exchanged g a → Passed g ends new_ends r
+told g ends new_ends (Ok x) a h is = absurd h
+told g ends new_ends (Err x) a h is = rw h is

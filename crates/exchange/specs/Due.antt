@@ -1,14 +1,12 @@
 -- What the checks leave of an exchange: a refusal, or what is to be written.
-use Rattle.std.specs.Prelude.{◌≡◌, List, ℕ, ◌≤◌, ◌<◌, length}
+use Rattle.std.specs.Prelude.{◌≡◌, List, ℕ, ◌≤◌, ◌<◌, length, Result, Ok, Err}
 use Rattle.rules.specs.Table.{most_deep}
 use Rattle.rules.specs.Exchange.{GivenExchange, left_exchange, not_exchanged, replacing, exchange_call}
+use Rattle.rules.specs.declared.exchanged.Exchanged.{Exchanged}
 use Rattle.rules.specs.declared.exchanged.Exchanged.TheVariants.{Done}
 use Rattle.laws.specs.Memory.{held}
 use Rattle.tables.proofs.Good.{Good}
-use Rattle.exchange.specs.declared.gate.Gate.{Gate}
-use Rattle.exchange.specs.declared.gate.Gate.TheVariants as gate
-use Rattle.exchange.specs.declared.gate.Plan.{Plan}
-use Rattle.exchange.specs.declared.gate.Plan.TheVariants as plan
+use Rattle.branch.specs.declared.write.Cut.{Cut}
 use Rattle.branch.specs.Write.{Fits, filled_room}
 
 -- 17 is passed: the tree of n nodes with its cells and the branch of m are all that is left of the call
@@ -22,10 +20,11 @@ pub record Due (g : GivenExchange) (ends new_ends : List ℕ) (n m : ℕ) : Type
   pub inside : g.place < n
   pub is : exchange_call g ≡ replacing g (held old.tree g.cells') new.tree
 
-abbrev pub Passed : GivenExchange → List ℕ → List ℕ → Gate → Type 0
-Passed g ends new_ends (gate.Refused a) = exchange_call g ≡ not_exchanged g a
-Passed g ends new_ends (gate.Open n m) = Due g ends new_ends n m
+-- a refusal, or how many nodes the tree and the branch have
+abbrev pub Passed : GivenExchange → List ℕ → List ℕ → Result (ℕ × ℕ) Exchanged → Type 0
+Passed g ends new_ends (Err a) = exchange_call g ≡ not_exchanged g a
+Passed g ends new_ends (Ok (n, m)) = Due g ends new_ends n m
 
-abbrev pub Planned : GivenExchange → Plan → Type 0
-Planned g (plan.Refused a) = exchange_call g ≡ not_exchanged g a
-Planned g (plan.Open cut) = Fits cut g × (cut.at ≡ g.place) × (exchange_call g ≡ left_exchange (Done cut.nodes) (filled_room cut g))
+abbrev pub Planned : GivenExchange → Result Cut Exchanged → Type 0
+Planned g (Err a) = exchange_call g ≡ not_exchanged g a
+Planned g (Ok cut) = Fits cut g × (cut.at ≡ g.place) × (exchange_call g ≡ left_exchange (Done cut.nodes) (filled_room cut g))

@@ -1,15 +1,14 @@
 -- A pattern's time, a time's pattern, and a run of them.
 use mathlib.Core.Path.{◌≡◌, refl, sym, ap, subst, ◌∙◌}
-use mathlib.Core.Bool.{Bool, true, false, not}
+use mathlib.Core.Bool.{Bool, true, not}
 use mathlib.Core.List.{List, [], ◌∷◌}
 use Prim.Native.Nat.{ℕ, zero, suc, ◌+◌, ◌%◌, ◌≤◌, ◌<◌, min}
 use native.Mathlib.Numerals.{add-one}
 use native.Mathlib.Omega.{arith}
 use borrow.Author.Tests.{lt-ltb, le-ltb}
 use lib.Dec.{T}
-use lib.Ieee.{Float, nan, inf, fin, binary64, is_nan, of_bits, to_bits, nan_bits, ne, div}
+use lib.Ieee.{Float, nan, inf, fin, binary64, is_nan, of_bits, to_bits, nan_bits}
 use lib.Ieee.Bits.{nan_bits_is, nan_bits_above}
-use lib.Ieee.Compare.{differs_from_itself, nan_differs}
 use lib.ListN.{length, get_or, set}
 use Rattle.frames.specs.Times.{timed}
 
@@ -19,12 +18,6 @@ is_nan_lem nan e = refl
 is_nan_lem (inf s) e = absurd (subst T (sym e) tt)
 is_nan_lem (fin s m e) q = absurd (subst T (sym q) tt)
 
-pub time_defined : (x : Float) → ne x x ≡ false → T (not (is_nan x))
-unfolding is_nan
-time_defined nan e = subst T (sym nan_differs ∙ e) tt
-time_defined (inf s) e = tt
-time_defined (fin s m e) q = tt
-
 -- a pattern above an infinity's, the sign left out
 pub time_nan : (n : ℕ) → 0x7ff0_0000_0000_0000 < n % 0x8000_0000_0000_0000 → nan ≡ of_bits binary64 n
 time_nan n h = sym (is_nan_lem (of_bits binary64 n) (sym (nan_bits_is binary64 n) ∙ nan_bits_above binary64 n ∙ lt-ltb _ _ h))
@@ -32,13 +25,13 @@ time_nan n h = sym (is_nan_lem (of_bits binary64 n) (sym (nan_bits_is binary64 n
 pub pattern_defined : (n : ℕ) → n % 0x8000_0000_0000_0000 ≤ 0x7ff0_0000_0000_0000 → T (not (nan_bits binary64 n))
 pattern_defined n h = subst (λ (b : Bool). T (not b)) (sym (nan_bits_above binary64 n ∙ le-ltb _ _ h)) tt
 
-pub zero_by_zero : div binary64 (of_bits binary64 0) (of_bits binary64 0) ≡ nan
-unfolding div of_bits
-zero_by_zero = refl
+pub the_nan : of_bits binary64 0x7ff8_0000_0000_0000 ≡ nan
+unfolding of_bits
+the_nan = refl
 
-pub nan_pattern : (x : Float) → ne x x ≡ true → 0x7ff8_0000_0000_0000 ≡ to_bits binary64 x
+pub nan_pattern : (x : Float) → is_nan x ≡ true → 0x7ff8_0000_0000_0000 ≡ to_bits binary64 x
 unfolding to_bits
-nan_pattern x e = sym (ap (to_bits binary64) (differs_from_itself x (subst T (sym e) tt)))
+nan_pattern x e = sym (ap (to_bits binary64) (is_nan_lem x e))
 
 -- ---- a run
 length_timed : (n : ℕ) (bs : List ℕ) (ts : List Float) → length (timed n bs ts) ≡ length ts

@@ -1,62 +1,91 @@
--- A line's answers, read one after another.
-use mathlib.Core.Path.{◌≡◌, refl, sym, ap, ◌∙◌}
-use mathlib.Core.List.{List, [], ◌∷◌, ◌++◌, append_assoc, append-nil}
-use Prim.Native.Nat.{ℕ, ◌+◌, ◌<◌}
+-- A line's answers, taken one after another.
+use mathlib.Core.Path.{◌≡◌, refl, sym, ap, subst, ◌∙◌}
+use mathlib.Core.List.{List, [], ◌∷◌, ◌++◌}
+use Prim.Native.Nat.{ℕ, zero, suc, ◌+◌, ◌-◌, ◌<◌, min}
+use native.Mathlib.Nat.{add-zero, zero-add}
 use native.Mathlib.Omega.{arith}
-use lib.ListN.{length, drop, set, length-append, get_or-append}
+use lib.ListN.{length, drop, set, length-append, get_or-append, drop_of_length-le}
 use lib.Seq.{get_or_at, get_or-set_same, get_or-set_other, drop-set-lt, drop-drop}
-use Rattle.frames.specs.Line.{Field, Fit, fields, answers}
-use Rattle.frames.specs.Parts.{FieldAt, Skips, Filled}
-use Rattle.frames.specs.Answers.{pair, Agree, answers_more, answers_more_then, answers_agree, fit_both, fit_left, fit_right}
-use Rattle.frames.specs.declared.hex.Part.{Part}
-use Rattle.frames.proofs.Bodies.{chain_back, chain_on}
+use Rattle.std.specs.Prelude.{Some, None}
+use Rattle.std.proofs.Math.Decide.{dec_le}
+use Rattle.frames.specs.Line.{Field, Fit, answers}
+use Rattle.frames.specs.Parts.{AnswerAt, Skips, ahead}
+use Rattle.frames.specs.Answers.{pair, Agree, answers_more, answers_agree, fit_both, fit_left, fit_right}
+use Rattle.frames.proofs.Fields.{widths_of, ahead_both, ahead_same}
 
-pub none_yet : (l : List ℕ) (at : ℕ) → Skips l at 0 at
-none_yet l at = record { sound = λ fs e. ([], [], refl, refl, tt, e); whole = λ xs ys fs _ e. e }
+pub answers_widths : (k i : ℕ) (a b c d : List ℕ) → widths_of (answers k i a b) ≡ widths_of (answers k i c d)
+answers_widths zero i a b c d = refl
+answers_widths (suc k) i a b c d = ap (λ (l : List ℕ). 2 ∷ 16 ∷ l) (answers_widths k (suc i) a b c d)
+
+answers_split : (k m i : ℕ) (a b : List ℕ) → answers (k + m) i a b ≡ answers k i a b ++ answers m (i + k) a b
+answers_split zero m i a b = rw (zero-add m, add-zero i)
+answers_split (suc k) m i a b =
+    let e : suc k + m ≡ suc (k + m) = omega arith in
+    let j : i + suc k ≡ suc i + k = omega arith in
+    rw (e, j) (ap (λ (fs : List Field). pair i a b ++ fs) (answers_split k m (suc i) a b))
+
+-- one answer more was taken
+pub taken_more : (s r r' : List ℕ) (p : ℕ × ℕ) (fs gs : List Field) → gs ≡ fs ++ ((2, p.0) ∷ (16, p.1) ∷ []) → Fit fs → s ≡ ahead fs r
+    → AnswerAt r (Some p) r' → Fit gs × (s ≡ ahead gs r')
+taken_more s r r' p fs gs g f e a =
+    let q = (2, p.0) ∷ (16, p.1) ∷ [] in (
+      subst Fit (sym g) (fit_both fs q f (a.0, (a.1, tt))),
+      e ∙ ap (ahead fs) a.2 ∙ sym (ahead_both fs q r') ∙ ap (λ (l : List Field). ahead l r') (sym g),
+    )
+
+-- no answer more stands there
+pub taken_all : (s r r' : List ℕ) (k n : ℕ) (a b : List ℕ) → k < n → Fit (answers k 0 a b) → s ≡ ahead (answers k 0 a b) r → AnswerAt r None r'
+    → (xs ys t : List ℕ) → Fit (answers n 0 xs ys) → s ≡ ahead (answers n 0 xs ys) t → ⊥
+taken_all s r r' k n a b h f e none xs ys t g q =
+    let m : ℕ = n - suc k in
+    let all : n ≡ k + suc m = omega arith in
+    let parts : answers n 0 xs ys ≡ answers k 0 xs ys ++ answers (suc m) k xs ys =
+    ap (λ (j : ℕ). answers j 0 xs ys) all ∙ answers_split k (suc m) 0 xs ys ∙ ap (λ (j : ℕ). answers k 0 xs ys ++ answers (suc m) j xs ys) (zero-add k) in
+    let fit = subst Fit parts g in
+    let there = fit_right (answers k 0 xs ys) (answers (suc m) k xs ys) fit in
+    let same =
+    ahead_same (answers k 0 a b) (answers k 0 xs ys) r (ahead (answers (suc m) k xs ys) t) (answers_widths k 0 a b xs ys) f
+    (fit_left (answers k 0 xs ys) (answers (suc m) k xs ys) fit)
+    (sym e ∙ q ∙ ap (λ (l : List Field). ahead l t) parts ∙ ahead_both (answers k 0 xs ys) (answers (suc m) k xs ys) t) in
+    none _ _ (ahead (answers m (suc k) xs ys) t) there.0 there.1.0 same.1
 
 append_agree : (k x : ℕ) (xs : List ℕ) → length xs ≡ k → Agree k (xs ++ (x ∷ [])) xs
 append_agree k x xs e j h = get_or-append xs (x ∷ []) 0 j (omega arith)
 
--- one answer more stands there
-pub skips_more : (l : List ℕ) (from i at : ℕ) (s t : Part) → Skips l from i at → FieldAt l at 2 s → FieldAt l s.next 16 t
-    → Skips l from (i + 1) t.next
-skips_more l from i at s t h fs ft =
-    record {
-      sound =
-          λ more e.
-          let r = h.sound ((2, s.value) ∷ (16, t.value) ∷ more) (chain_back l at t.next ((2, s) ∷ (16, t) ∷ []) more (fs, (ft, refl)) e) in
-          let xs = r.0 in
-          let ys = r.1 in
-          let xs' = xs ++ (s.value ∷ []) in
-          let ys' = ys ++ (t.value ∷ []) in
-          let p : answers (i + 1) 0 xs' ys' ≡ answers i 0 xs ys ++ ((2, s.value) ∷ (16, t.value) ∷ []) =
-          answers_more i xs' ys'
-          ∙ ap (λ (fs : List Field). fs ++ pair i xs' ys')
-          (answers_agree i xs' ys' xs ys (append_agree i s.value xs r.2) (append_agree i t.value ys r.3))
-          ∙ rw (get_or_at xs s.value [] 0 i r.2, get_or_at ys t.value [] 0 i r.3) in (
-            xs',
-            ys',
-            length-append xs (s.value ∷ []) ∙ ap (λ (k : ℕ). k + 1) r.2,
-            length-append ys (t.value ∷ []) ∙ ap (λ (k : ℕ). k + 1) r.3,
-            rw p (fit_both (answers i 0 xs ys) ((2, s.value) ∷ (16, t.value) ∷ []) r.4 (fs.small, (ft.small, tt))),
-            r.5 ∙ ap fields (sym (ap (λ (fs : List Field). fs ++ more) p ∙ append_assoc (answers i 0 xs ys) ((2, s.value) ∷ (16, t.value) ∷ []) more)),
-          );
-      whole =
-          λ xs ys more f e.
-          let g : Fit (answers i 0 xs ys ++ pair i xs ys) = rw (answers_more i xs ys) at f in
-          let d = h.whole xs ys (pair i xs ys ++ more) (fit_left (answers i 0 xs ys) (pair i xs ys) g) (e ∙ ap fields (answers_more_then i xs ys more)) in
-          (chain_on l at t.next ((2, s) ∷ (16, t) ∷ []) (pair i xs ys) more (fs, (ft, refl)) (fit_right (answers i 0 xs ys) (pair i xs ys) g) d).1;
-    }
+pub none_skipped : (s : List ℕ) → Skips s 0 (Some tt) s
+none_skipped s = ([], [], refl, refl, tt, refl)
 
--- the answers that were taken, up to a place
-pub record Taken (l : List ℕ) (k at : ℕ) (ss ss' ls ls' : List ℕ) : Type 0 where
+pub skipped_more : (s r r' : List ℕ) (k : ℕ) (p : ℕ × ℕ) → Skips s k (Some tt) r → AnswerAt r (Some p) r' → Skips s (k + 1) (Some tt) r'
+skipped_more s r r' k p h a =
+    let xs = h.0 in
+    let ys = h.1 in
+    let xs' = xs ++ (p.0 ∷ []) in
+    let ys' = ys ++ (p.1 ∷ []) in
+    let same : answers (k + 1) 0 xs' ys' ≡ answers k 0 xs ys ++ ((2, p.0) ∷ (16, p.1) ∷ []) =
+    answers_more k xs' ys'
+    ∙ ap (λ (fs : List Field). fs ++ pair k xs' ys') (answers_agree k xs' ys' xs ys (append_agree k p.0 xs h.2) (append_agree k p.1 ys h.3))
+    ∙ rw (get_or_at xs p.0 [] 0 k h.2, get_or_at ys p.1 [] 0 k h.3) in
+    let more = taken_more s r r' p (answers k 0 xs ys) (answers (k + 1) 0 xs' ys') same h.4 h.5 a in (
+      xs',
+      ys',
+      length-append xs (p.0 ∷ []) ∙ ap (λ (k : ℕ). k + 1) h.2,
+      length-append ys (p.1 ∷ []) ∙ ap (λ (k : ℕ). k + 1) h.3,
+      more.0,
+      more.1,
+    )
+
+pub skipped_not : (s r r' : List ℕ) (k n : ℕ) → k < n → Skips s k (Some tt) r → AnswerAt r None r' → Skips s n None r'
+skipped_not s r r' k n l h none xs ys t g q = taken_all s r r' k n h.0 h.1 l h.4 h.5 none xs ys t g q
+
+-- the answers that were taken, up to the run r
+pub record Taken (s : List ℕ) (k : ℕ) (ss ss' ls ls' r : List ℕ) : Type 0 where
   pub statuses : drop k ss' ≡ drop k ss
   pub leftovers : drop k ls' ≡ drop k ls
-  pub whole : (xs ys : List ℕ) (fs : List Field) → Fit (answers k 0 xs ys) → drop 36 l ≡ fields (answers k 0 xs ys ++ fs)
-      → (drop at l ≡ fields fs) × (answers k 0 ss' ls' ≡ answers k 0 xs ys)
+  pub fit : Fit (answers k 0 ss' ls')
+  pub there : s ≡ ahead (answers k 0 ss' ls') r
 
-pub none_taken : (l ss ls : List ℕ) → Taken l 0 36 ss ss ls ls
-none_taken l ss ls = record { statuses = refl; leftovers = refl; whole = λ xs ys fs _ e. (e, refl) }
+pub none_taken : (s ss ls : List ℕ) → Taken s 0 ss ss ls ls s
+none_taken s ss ls = record { statuses = refl; leftovers = refl; fit = tt; there = refl }
 
 set_agree : (i v : ℕ) (a : List ℕ) → Agree i (set a i v) a
 set_agree i v a j h = get_or-set_other a i j v 0 (λ e. omega arith)
@@ -64,35 +93,22 @@ set_agree i v a j h = get_or-set_other a i j v 0 (λ e. omega arith)
 drop_more : (i v : ℕ) (a b : List ℕ) → drop i a ≡ drop i b → drop (i + 1) (set a i v) ≡ drop (i + 1) b
 drop_more i v a b e = drop-set-lt (i + 1) a i v (omega arith) ∙ sym (drop-drop 1 i a) ∙ ap (drop 1) e ∙ drop-drop 1 i b
 
-pub take_more : (l : List ℕ) (i at : ℕ) (ss ss' ls ls' : List ℕ) (s t : Part) → i < length ss' → i < length ls' → Taken l i at ss ss' ls ls'
-    → FieldAt l at 2 s → FieldAt l s.next 16 t
-    → Taken l (i + 1) t.next ss (set ss' i s.value) ls (set ls' i t.value)
-take_more l i at ss ss' ls ls' s t hs hl h fs ft =
-    let a = set ss' i s.value in
-    let b = set ls' i t.value in
-    record {
-      statuses = drop_more i s.value ss' ss h.statuses;
-      leftovers = drop_more i t.value ls' ls h.leftovers;
-      whole =
-          λ xs ys more f e.
-          let g : Fit (answers i 0 xs ys ++ pair i xs ys) = rw (answers_more i xs ys) at f in
-          let d = h.whole xs ys (pair i xs ys ++ more) (fit_left (answers i 0 xs ys) (pair i xs ys) g) (e ∙ ap fields (answers_more_then i xs ys more)) in
-          let r = chain_on l at t.next ((2, s) ∷ (16, t) ∷ []) (pair i xs ys) more (fs, (ft, refl)) (fit_right (answers i 0 xs ys) (pair i xs ys) g) d.0 in
-          let p : pair i a b ≡ pair i xs ys = rw (get_or-set_same ss' i s.value 0 hs, get_or-set_same ls' i t.value 0 hl) r.0 in (
-            r.1,
-            answers_more i a b
-                ∙ ap (λ (fs : List Field). fs ++ pair i a b)
-                (answers_agree i a b ss' ls' (set_agree i s.value ss') (set_agree i t.value ls') ∙ d.1)
-                ∙ ap (λ (fs : List Field). answers i 0 xs ys ++ fs) p
-                ∙ sym (answers_more i xs ys),
-          );
-    }
+pub one_taken : (s : List ℕ) (i : ℕ) (ss ss' ls ls' r r' : List ℕ) (p : ℕ × ℕ) → i < length ss' → i < length ls' → Taken s i ss ss' ls ls' r
+    → AnswerAt r (Some p) r' → Taken s (i + 1) ss (set ss' i p.0) ls (set ls' i p.1) r'
+one_taken s i ss ss' ls ls' r r' p hs hl h a =
+    let xs = set ss' i p.0 in
+    let ys = set ls' i p.1 in
+    let same : answers (i + 1) 0 xs ys ≡ answers i 0 ss' ls' ++ ((2, p.0) ∷ (16, p.1) ∷ []) =
+    answers_more i xs ys
+    ∙ ap (λ (fs : List Field). fs ++ pair i xs ys) (answers_agree i xs ys ss' ls' (set_agree i p.0 ss') (set_agree i p.1 ls'))
+    ∙ rw (get_or-set_same ss' i p.0 0 hs, get_or-set_same ls' i p.1 0 hl) in
+    let more = taken_more s r r' p (answers i 0 ss' ls') (answers (i + 1) 0 xs ys) same h.fit h.there a in
+    record { statuses = drop_more i p.0 ss' ss h.statuses; leftovers = drop_more i p.1 ls' ls h.leftovers; fit = more.0; there = more.1 }
 
-pub all_taken : (l : List ℕ) (k i at : ℕ) (ss ss' ls ls' : List ℕ) → i ≡ k → Taken l i at ss ss' ls ls' → Filled l k ss ss' ls ls'
-all_taken l k i at ss ss' ls ls' e h =
-    rw (← e)
-    (record {
-      statuses = h.statuses;
-      leftovers = h.leftovers;
-      same = λ xs ys f p. (h.whole xs ys [] f (p ∙ ap fields (sym (append-nil (answers i 0 xs ys))))).1;
-    })
+-- a line that is shorter has no answers
+pub drop_front : (l : List ℕ) → drop (min (length l) 36) l ≡ drop 36 l
+drop_front l =
+    elim (dec_le 36 (length l)) [
+      | yes h ↦ let e : min (length l) 36 ≡ 36 = omega arith in ap (λ (k : ℕ). drop k l) e
+      | no h ↦ drop_of_length-le l {i = min (length l) 36} (omega arith) ∙ sym (drop_of_length-le l {i = 36} (omega arith))
+    ]

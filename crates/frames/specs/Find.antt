@@ -1,10 +1,10 @@
 -- The frame whose line some bytes are, as a function of the bytes: fields are taken by their widths, and the frame that they say is the
 -- bytes' own only if its line is those bytes again. `Finds` shows that every frame is found from its line, and from no other bytes.
-use Rattle.std.specs.Prelude.{Bool, true, false, cond, ◌&&◌, ◌||◌, List, [], ◌∷◌, ℕ, zero, suc, ◌+◌, ◌-◌, ◌*◌, ◌^◌, leb, ltb, eqb, take, drop}
+use Rattle.std.specs.Prelude.{Bool, true, false, cond, Result, Ok, Err, ◌&&◌, ◌||◌, List, [], ◌∷◌, ℕ, zero, suc, ◌+◌, ◌-◌, ◌*◌, ◌^◌, leb, ltb, eqb, take, drop}
 use Rattle.frames.specs.Line.{Field, body, answers_of, line}
 use Rattle.frames.specs.Back.{frame_of}
 use Rattle.frames.specs.declared.Frame.{Frame}
-use Rattle.frames.specs.declared.Reading.{Reading}
+use Rattle.frames.specs.declared.Unread.{Unread}
 
 -- the number of a digit, and of digits behind a number
 abbrev pub nibble : ℕ → ℕ
@@ -76,6 +76,6 @@ abbrev pub is_line : Frame → List ℕ → List ℕ → List ℕ → Bool
 is_line f ss ls l = leb (answers_of f) 1024 && fitting (body f ss ls) && same (line f ss ls) l
 
 -- the frame whose line l is, or that it is no frame's
-unfoldable pub found : List ℕ → Reading
+unfoldable pub found : List ℕ → Result Frame Unread
 unfolding statuses_in leftovers_in
-found l = cond (is_line (frame_in l) (statuses_in l) (leftovers_in l) l) (Reading.Is (frame_in l)) Reading.NoFrame
+found l = cond (is_line (frame_in l) (statuses_in l) (leftovers_in l) l) (Ok (frame_in l)) (Err Unread.NoFrame)

@@ -1,5 +1,5 @@
 -- Every frame is found from its line, and from no other bytes; and what reading answers is what is found.
-use Rattle.std.specs.Prelude.{◌≡◌, refl, Bool, false, ◌&&◌, List, [], ◌∷◌, ◌++◌, map, ℕ, zero, suc, ◌+◌, ◌*◌, ◌/◌, ◌%◌, ◌^◌, ◌≤◌, ◌<◌, ltb, eqb, length, take, drop}
+use Rattle.std.specs.Prelude.{◌≡◌, refl, Bool, false, Result, Ok, Err, ◌&&◌, List, [], ◌∷◌, ◌++◌, map, ℕ, zero, suc, ◌+◌, ◌*◌, ◌/◌, ◌%◌, ◌^◌, ◌≤◌, ◌<◌, ltb, eqb, length, take, drop}
 use Rattle.std.proofs.Common.{sym, ap₂, subst, ◌∙◌, inl, inr, append-nil, arith, le-leb, leb-true, lt-ltb, ltb-true, le-ltb, eq-eqb, eqb-true, take_at, drop_at, drop-cons, get_or-take}
 use Rattle.std.proofs.Math.Path.{ap}
 use Rattle.std.proofs.Math.Bool.{true, cond}
@@ -15,7 +15,7 @@ use Rattle.frames.specs.declared.Call.{Call}
 use Rattle.frames.specs.declared.Call.TheVariants.{Tick, Restart}
 use Rattle.frames.specs.declared.Frame.{Frame}
 use Rattle.frames.specs.declared.Frame.TheVariants.{Node, Asked, Said, Malformed}
-use Rattle.frames.specs.declared.Reading.{Reading}
+use Rattle.frames.specs.declared.Unread.{Unread}
 
 -- ---- digits are read back
 numeral_last : (v b : ℕ) (bs : List ℕ) → numeral v (bs ++ (b ∷ [])) ≡ numeral v bs * 16 + nibble b
@@ -170,13 +170,13 @@ module _ (f : Frame) (ss ls : List ℕ) (g : Good f ss ls) where
       ∙ body_agree f (take k ss) (take k ls) ss ls
       (answers_agree k (take k ss) (take k ls) ss ls (λ j h. get_or-take k ss j 0 h) (λ j h. get_or-take k ls j 0 h))
 
-  pub found_line : found (line f ss ls) ≡ Reading.Is f
+  pub found_line : found (line f ss ls) ≡ Ok f
   unfolding found
   found_line =
       let l = line f ss ls in
       let e : is_line f (statuses_in l) (leftovers_in l) l ≡ true =
       rw (le-leb (answers_of f) 1024 g.few, body_line, fit_fitting (body f ss ls) g.fit) (same_self l) in
-      ap (λ x. cond (is_line x (statuses_in l) (leftovers_in l) l) (Reading.Is x) Reading.NoFrame) frame_line ∙ rw e
+      ap (λ x. cond (is_line x (statuses_in l) (leftovers_in l) l) (Ok x) (Err Unread.NoFrame)) frame_line ∙ rw e
 
 -- ---- and from no other bytes
 tested : (l : List ℕ) → is_line (frame_in l) (statuses_in l) (leftovers_in l) l ≡ true
@@ -196,18 +196,18 @@ tested l e =
       same_same (line f (statuses_in l) (leftovers_in l)) l p.1,
     )
 
-is_found : (b : Bool) (f g : Frame) → cond b (Reading.Is f) Reading.NoFrame ≡ Reading.Is g → (b ≡ true) × (f ≡ g)
+is_found : (b : Bool) (f g : Frame) → cond b (Ok f) (Err Unread.NoFrame) ≡ Ok g → (b ≡ true) × (f ≡ g)
 is_found true f g e = (refl, cc)
 is_found false f g e = absurd (let z : ◌≡◌ {A = ℕ} 0 1 = cc in omega arith)
 
-pub found_good : (l : List ℕ) (f : Frame) → found l ≡ Reading.Is f
+pub found_good : (l : List ℕ) (f : Frame) → found l ≡ Ok f
     → Good f (statuses_in l) (leftovers_in l) × (line f (statuses_in l) (leftovers_in l) ≡ l)
 unfolding found
 found_good l f e =
     let p = is_found _ (frame_in l) f e in
     subst (λ x. Good x (statuses_in l) (leftovers_in l) × (line x (statuses_in l) (leftovers_in l) ≡ l)) p.1 (tested l p.0)
 
-pub none_found : (l : List ℕ) → ((f : Frame) (xs ys : List ℕ) → Good f xs ys → line f xs ys ≡ l → ⊥) → found l ≡ Reading.NoFrame
+pub none_found : (l : List ℕ) → ((f : Frame) (xs ys : List ℕ) → Good f xs ys → line f xs ys ≡ l → ⊥) → found l ≡ Err Unread.NoFrame
 unfolding found
 none_found l h =
     rw (by_test (is_line (frame_in l) (statuses_in l) (leftovers_in l) l) refl)
@@ -217,12 +217,12 @@ none_found l h =
     by_test false e = refl
 
 -- ---- what reading answers is what is found
-pub read_found : (l ss ls : List ℕ) (r : Reading) (ss' ls' : List ℕ) → 1024 ≤ length ss → 1024 ≤ length ls → Reads l ss ls r ss' ls' → found l ≡ r
-read_found l ss ls (Reading.Is f) ss' ls' a b p = ap found (sym p.1) ∙ found_line f ss' ls' p.0
-read_found l ss ls Reading.NoFrame ss' ls' a b p = none_found l p.0
-read_found l ss ls Reading.TooShort ss' ls' a b p = let t = p.0 in absurd (omega (arith, t.3.few, t.5))
+pub read_found : (l ss ls : List ℕ) (r : Result Frame Unread) (ss' ls' : List ℕ) → 1024 ≤ length ss → 1024 ≤ length ls → Reads l ss ls r ss' ls' → found l ≡ r
+read_found l ss ls (Ok f) ss' ls' a b p = ap found (sym p.1) ∙ found_line f ss' ls' p.0
+read_found l ss ls (Err Unread.NoFrame) ss' ls' a b p = none_found l p.0
+read_found l ss ls (Err Unread.TooShort) ss' ls' a b p = let t = p.0 in absurd (omega (arith, t.3.few, t.5))
 
-pub read_answers : (l ss ls : List ℕ) (f : Frame) (ss' ls' : List ℕ) → Reads l ss ls (Reading.Is f) ss' ls'
+pub read_answers : (l ss ls : List ℕ) (f : Frame) (ss' ls' : List ℕ) → Reads l ss ls (Ok f) ss' ls'
     → (statuses_in l ≡ take (answers_of f) ss') × (leftovers_in l ≡ take (answers_of f) ls')
 read_answers l ss ls f ss' ls' p = (
   ap statuses_in (sym p.1) ∙ statuses_line f ss' ls' p.0,

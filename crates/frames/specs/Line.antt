@@ -1,5 +1,5 @@
 -- The line of each frame, as a run of bytes, and what reading and writing are by it.
-use Rattle.std.specs.Prelude.{◌≡◌, cond, List, [], ◌∷◌, ◌++◌, ℕ, zero, suc, ◌^◌, ◌≤◌, ◌<◌, min, leb, length, get_or, drop}
+use Rattle.std.specs.Prelude.{◌≡◌, cond, Result, Ok, Err, List, [], ◌∷◌, ◌++◌, ℕ, zero, suc, ◌^◌, ◌≤◌, ◌<◌, min, leb, length, get_or, drop}
 use Rattle.frames.specs.Hex.{digits}
 use Rattle.frames.specs.declared.Call.{Call}
 use Rattle.frames.specs.declared.Call.TheVariants.{Tick, Restart}
@@ -7,8 +7,8 @@ use Rattle.frames.specs.declared.Event.{Event}
 use Rattle.frames.specs.declared.Event.TheVariants.{Other, Update}
 use Rattle.frames.specs.declared.Frame.{Frame}
 use Rattle.frames.specs.declared.Frame.TheVariants.{Node, Asked, Said, Malformed}
-use Rattle.frames.specs.declared.Reading.{Reading}
-use Rattle.frames.specs.declared.Written.{Written}
+use Rattle.frames.specs.declared.Unread.{Unread}
+use Rattle.frames.specs.declared.Unwritten.{Unwritten}
 
 -- a field: how many digits, and the number
 abbrev pub Field : Type 0
@@ -90,12 +90,12 @@ Kept k a b = (length a ≡ length b) × (drop k a ≡ drop k b)
 
 -- what reading l may answer, with what the two slices hold then: the frame whose line l is, with its answers in front of what was there;
 -- that l is no frame's line; or that there is no room for its answers
-abbrev pub Reads : List ℕ → List ℕ → List ℕ → Reading → List ℕ → List ℕ → Type 0
-Reads l ss ls (Reading.Is f) ss' ls' =
+abbrev pub Reads : List ℕ → List ℕ → List ℕ → Result Frame Unread → List ℕ → List ℕ → Type 0
+Reads l ss ls (Ok f) ss' ls' =
     Good f ss' ls' × (line f ss' ls' ≡ l) × Kept (answers_of f) ss' ss × Kept (answers_of f) ls' ls
-Reads l ss ls Reading.NoFrame ss' ls' =
+Reads l ss ls (Err Unread.NoFrame) ss' ls' =
     ((f : Frame) (xs ys : List ℕ) → Good f xs ys → line f xs ys ≡ l → ⊥) × (ss' ≡ ss) × (ls' ≡ ls)
-Reads l ss ls Reading.TooShort ss' ls' =
+Reads l ss ls (Err Unread.TooShort) ss' ls' =
     ((f : Frame) × (xs : List ℕ) × (ys : List ℕ) × Good f xs ys × (line f xs ys ≡ l) × (min (length ss) (length ls) < answers_of f))
     × (ss' ≡ ss) × (ls' ≡ ls)
 
@@ -104,10 +104,10 @@ abbrev pub laid : List ℕ → List ℕ → List ℕ
 laid l room = l ++ drop (length l) room
 
 -- what writing f with the answers in ss and ls answers, and what the room holds then: no such frame or too little room leave it as it was
-abbrev pub wrote : Frame → List ℕ → List ℕ → List ℕ → Written × List ℕ
+abbrev pub wrote : Frame → List ℕ → List ℕ → List ℕ → Result ℕ Unwritten × List ℕ
 wrote f ss ls room =
     cond (leb (answers_of f) (min 1024 (min (length ss) (length ls))))
     (cond (leb (length (line f ss ls)) (length room))
-    (Written.Bytes (length (line f ss ls)), laid (line f ss ls) room)
-    (Written.TooShort, room))
-    (Written.NoFrame, room)
+    (Ok (length (line f ss ls)), laid (line f ss ls) room)
+    (Err Unwritten.TooShort, room))
+    (Err Unwritten.NoFrame, room)

@@ -1,5 +1,5 @@
 -- Reading and writing undo each other: a line is one frame's, and what is written reads back.
-use Rattle.std.specs.Prelude.{◌≡◌, refl, Bool, true, false, cond, List, [], ◌∷◌, ◌++◌, ℕ, zero, suc, ◌+◌, ◌-◌, ◌/◌, ◌%◌, ◌^◌, ◌≤◌, ◌<◌, min, leb, length, get_or, take, drop}
+use Rattle.std.specs.Prelude.{◌≡◌, refl, Bool, true, false, cond, Result, Ok, Err, List, [], ◌∷◌, ◌++◌, ℕ, zero, suc, ◌+◌, ◌-◌, ◌/◌, ◌%◌, ◌^◌, ◌≤◌, ◌<◌, min, leb, length, get_or, take, drop}
 use Rattle.std.proofs.Common.{sym, ap, ap₂, subst, ◌∙◌, ⊎_elim, eq-or-lt_of_le, arith, le-leb, lit<, take_at, drop_at, get_or-drop, ext_get_or}
 use Rattle.std.proofs.Math.Decide.{dec_lt}
 use Rattle.frames.specs.Hex.{digit, digits}
@@ -8,8 +8,8 @@ use Rattle.frames.specs.Line.{Field, Fit, Good, Kept, Reads, fields, kind_of, fr
 use Rattle.frames.specs.Answers.{Agree, answers_agree}
 use Rattle.frames.specs.Back.{value, frame_of, frame_of_lem, kind_small}
 use Rattle.frames.specs.declared.Frame.{Frame}
-use Rattle.frames.specs.declared.Reading.{Reading}
-use Rattle.frames.specs.declared.Written.{Written}
+use Rattle.frames.specs.declared.Unread.{Unread}
+use Rattle.frames.specs.declared.Unwritten.{Unwritten}
 
 -- bytes that are above a space and LF, as digits are
 abbrev Above : List ℕ → Type 0
@@ -43,7 +43,7 @@ field_end xs ys (f ∷ fs) [] p q e = run_end xs ys 32 10 (digits f.0 f.1 ++ fie
 field_end xs ys (f ∷ fs) (g ∷ gs) p q e =
     run_end xs ys 32 32 (digits f.0 f.1 ++ fields fs) (digits g.0 g.1 ++ fields gs) p q (lit< tt) (lit< tt) e
 
-field_one : (w w' v v' : ℕ) → v < 16 ^ w → v' < 16 ^ w' → digits w v ≡ digits w' v' → (w ≡ w') × (v ≡ v')
+pub field_one : (w w' v v' : ℕ) → v < 16 ^ w → v' < 16 ^ w' → digits w v ≡ digits w' v' → (w ≡ w') × (v ≡ v')
 field_one w w' v v' h h' e =
     let p : w ≡ w' = sym (length_digits w v) ∙ ap length e ∙ length_digits w' v' in
     (p, digits_one w v v' h (subst (λ (k : ℕ). v' < 16 ^ k) (sym p) h') (e ∙ ap (λ (k : ℕ). digits k v') (sym p)))
@@ -110,50 +110,49 @@ same_slice k a a' c p q h =
     ])
 
 -- reading has one outcome
-pub one_reading : (l ss ls : List ℕ) (r r' : Reading) (a b a' b' : List ℕ) → Reads l ss ls r a b → Reads l ss ls r' a' b'
+pub one_reading : (l ss ls : List ℕ) (r r' : Result Frame Unread) (a b a' b' : List ℕ) → Reads l ss ls r a b → Reads l ss ls r' a' b'
     → (r ≡ r') × (a ≡ a') × (b ≡ b')
-one_reading l ss ls (Reading.Is f) (Reading.Is g) a b a' b' p q =
+one_reading l ss ls (Ok f) (Ok g) a b a' b' p q =
     let h = line_one f g a b a' b' p.0 q.0 (p.1 ∙ sym q.1) in (
-      ap (λ (x : Frame). Reading.Is x) h.0,
+      ap (λ (x : Frame). Ok x) h.0,
       same_slice (answers_of f) a a' ss p.2 (rw h.0 q.2) h.1,
       same_slice (answers_of f) b b' ls p.3 (rw h.0 q.3) h.2,
     )
-one_reading l ss ls (Reading.Is f) Reading.NoFrame a b a' b' p q = absurd (q.0 f a b p.0 p.1)
-one_reading l ss ls (Reading.Is f) Reading.TooShort a b a' b' p q =
+one_reading l ss ls (Ok f) (Err Unread.NoFrame) a b a' b' p q = absurd (q.0 f a b p.0 p.1)
+one_reading l ss ls (Ok f) (Err Unread.TooShort) a b a' b' p q =
     let t = q.0 in
     let h = line_one f t.0 a b t.1 t.2 p.0 t.3 (p.1 ∙ sym t.4) in
     absurd (omega (arith, ap answers_of h.0, t.5, p.0.statuses, p.0.leftovers, p.2.0, p.3.0))
-one_reading l ss ls Reading.NoFrame (Reading.Is g) a b a' b' p q = absurd (p.0 g a' b' q.0 q.1)
-one_reading l ss ls Reading.NoFrame Reading.NoFrame a b a' b' p q = (refl, p.1 ∙ sym q.1, p.2 ∙ sym q.2)
-one_reading l ss ls Reading.NoFrame Reading.TooShort a b a' b' p q = let t = q.0 in absurd (p.0 t.0 t.1 t.2 t.3 t.4)
-one_reading l ss ls Reading.TooShort (Reading.Is g) a b a' b' p q =
+one_reading l ss ls (Err Unread.NoFrame) (Ok g) a b a' b' p q = absurd (p.0 g a' b' q.0 q.1)
+one_reading l ss ls (Err Unread.NoFrame) (Err Unread.NoFrame) a b a' b' p q = (refl, p.1 ∙ sym q.1, p.2 ∙ sym q.2)
+one_reading l ss ls (Err Unread.NoFrame) (Err Unread.TooShort) a b a' b' p q = let t = q.0 in absurd (p.0 t.0 t.1 t.2 t.3 t.4)
+one_reading l ss ls (Err Unread.TooShort) (Ok g) a b a' b' p q =
     let t = p.0 in
     let h = line_one g t.0 a' b' t.1 t.2 q.0 t.3 (q.1 ∙ sym t.4) in
     absurd (omega (arith, ap answers_of h.0, t.5, q.0.statuses, q.0.leftovers, q.2.0, q.3.0))
-one_reading l ss ls Reading.TooShort Reading.NoFrame a b a' b' p q = let t = p.0 in absurd (q.0 t.0 t.1 t.2 t.3 t.4)
-one_reading l ss ls Reading.TooShort Reading.TooShort a b a' b' p q = (refl, p.1 ∙ sym q.1, p.2 ∙ sym q.2)
+one_reading l ss ls (Err Unread.TooShort) (Err Unread.NoFrame) a b a' b' p q = let t = p.0 in absurd (q.0 t.0 t.1 t.2 t.3 t.4)
+one_reading l ss ls (Err Unread.TooShort) (Err Unread.TooShort) a b a' b' p q = (refl, p.1 ∙ sym q.1, p.2 ∙ sym q.2)
 
-number_of : Written → ℕ
-number_of (Written.Bytes n) = suc n
-number_of Written.NoFrame = 0
-number_of Written.TooShort = 0
+number_of : Result ℕ Unwritten → ℕ
+number_of (Ok n) = suc n
+number_of (Err e) = 0
 
 bytes_one : (b c : Bool) (m n : ℕ) (u room room' : List ℕ)
-    → ◌≡◌ {A = Written × List ℕ} (cond b (cond c (Written.Bytes m, u) (Written.TooShort, room)) (Written.NoFrame, room)) (Written.Bytes n, room')
+    → ◌≡◌ {A = Result ℕ Unwritten × List ℕ} (cond b (cond c (Ok m, u) (Err Unwritten.TooShort, room)) (Err Unwritten.NoFrame, room)) (Ok n, room')
     → (n ≡ m) × (room' ≡ u)
 unfolding number_of
 bytes_one true true m n u room room' e =
-    let q : suc m ≡ suc n = ap (λ (p : Written × List ℕ). number_of p.0) e in
-    (omega arith, sym (ap (λ (p : Written × List ℕ). p.1) e))
+    let q : suc m ≡ suc n = ap (λ (p : Result ℕ Unwritten × List ℕ). number_of p.0) e in
+    (omega arith, sym (ap (λ (p : Result ℕ Unwritten × List ℕ). p.1) e))
 bytes_one true false m n u room room' e =
-    let q : 0 ≡ suc n = ap (λ (p : Written × List ℕ). number_of p.0) e in absurd (omega arith)
+    let q : 0 ≡ suc n = ap (λ (p : Result ℕ Unwritten × List ℕ). number_of p.0) e in absurd (omega arith)
 bytes_one false c m n u room room' e =
-    let q : 0 ≡ suc n = ap (λ (p : Written × List ℕ). number_of p.0) e in absurd (omega arith)
+    let q : 0 ≡ suc n = ap (λ (p : Result ℕ Unwritten × List ℕ). number_of p.0) e in absurd (omega arith)
 
 -- what was written reads back as the frame that it was written from, with its answers
-pub written_reads : (f : Frame) (ss ls room : List ℕ) (n : ℕ) (room' : List ℕ) → Good f ss ls → wrote f ss ls room ≡ (Written.Bytes n, room')
-    → (xs ys : List ℕ) → answers_of f ≤ length xs → answers_of f ≤ length ys → (r : Reading) (xs' ys' : List ℕ)
-    → Reads (take n room') xs ys r xs' ys' → (r ≡ Reading.Is f) × Agree (answers_of f) ss xs' × Agree (answers_of f) ls ys'
+pub written_reads : (f : Frame) (ss ls room : List ℕ) (n : ℕ) (room' : List ℕ) → Good f ss ls → wrote f ss ls room ≡ (Ok n, room')
+    → (xs ys : List ℕ) → answers_of f ≤ length xs → answers_of f ≤ length ys → (r : Result Frame Unread) (xs' ys' : List ℕ)
+    → Reads (take n room') xs ys r xs' ys' → (r ≡ Ok f) × Agree (answers_of f) ss xs' × Agree (answers_of f) ls ys'
 written_reads f ss ls room n room' g w xs ys ha hb r xs' ys' h = back r (rw t at h)
   where
     m : ℕ
@@ -165,19 +164,19 @@ written_reads f ss ls room n room' g w xs ys ha hb r xs' ys' h = back r (rw t at
     t : take n room' ≡ line f ss ls
     t = ap₂ take e.0 e.1 ∙ take_at (line f ss ls) (drop m room) m refl
 
-    back : (r : Reading) → Reads (line f ss ls) xs ys r xs' ys' → (r ≡ Reading.Is f) × Agree (answers_of f) ss xs' × Agree (answers_of f) ls ys'
-    back (Reading.Is k) p =
+    back : (r : Result Frame Unread) → Reads (line f ss ls) xs ys r xs' ys' → (r ≡ Ok f) × Agree (answers_of f) ss xs' × Agree (answers_of f) ls ys'
+    back (Ok k) p =
         let q = line_one f k ss ls xs' ys' g p.0 (sym p.1) in
-        (ap (λ (x : Frame). Reading.Is x) (sym q.0), q.1, q.2)
-    back Reading.NoFrame p = absurd (p.0 f ss ls g refl)
-    back Reading.TooShort p =
+        (ap (λ (x : Frame). Ok x) (sym q.0), q.1, q.2)
+    back (Err Unread.NoFrame) p = absurd (p.0 f ss ls g refl)
+    back (Err Unread.TooShort) p =
         let u = p.0 in
         let q = line_one f u.0 ss ls u.1 u.2 g u.3 (sym u.4) in
         absurd (omega (arith, ap answers_of q.0, u.5))
 
 -- what was read is written back as the line that it was read from
-pub read_writes : (l ss ls : List ℕ) (f : Frame) (ss' ls' room : List ℕ) → Reads l ss ls (Reading.Is f) ss' ls' → length l ≤ length room
-    → wrote f ss' ls' room ≡ (Written.Bytes (length l), laid l room)
+pub read_writes : (l ss ls : List ℕ) (f : Frame) (ss' ls' room : List ℕ) → Reads l ss ls (Ok f) ss' ls' → length l ≤ length room
+    → wrote f ss' ls' room ≡ (Ok (length l), laid l room)
 read_writes l ss ls f ss' ls' room p h =
     let g = p.0 in
     rw (
@@ -187,7 +186,7 @@ read_writes l ss ls f ss' ls' room p h =
     )
 
 -- so no two lines read as one frame with the same answers
-pub no_two_lines : (l m ss ls xs ys : List ℕ) (f : Frame) (ss' ls' xs' ys' : List ℕ) → Reads l ss ls (Reading.Is f) ss' ls'
-    → Reads m xs ys (Reading.Is f) xs' ys' → Agree (answers_of f) ss' xs' → Agree (answers_of f) ls' ys' → l ≡ m
+pub no_two_lines : (l m ss ls xs ys : List ℕ) (f : Frame) (ss' ls' xs' ys' : List ℕ) → Reads l ss ls (Ok f) ss' ls'
+    → Reads m xs ys (Ok f) xs' ys' → Agree (answers_of f) ss' xs' → Agree (answers_of f) ls' ys' → l ≡ m
 no_two_lines l m ss ls xs ys f ss' ls' xs' ys' p q a b =
     sym p.1 ∙ ap (λ (fs : List Field). digits 2 (kind_of f) ++ fields fs) (body_agree f ss' ls' xs' ys' (answers_agree (answers_of f) ss' ls' xs' ys' a b)) ∙ q.1

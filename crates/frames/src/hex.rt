@@ -1,81 +1,80 @@
-// Fields of hexadecimal digits in a line: a number of so many digits, with a space in front.
-ghost use Rattle.std.specs.Prelude.{◌+◌, ◌≤◌, ◌<◌};
-ghost use Rattle.frames.specs.Parts.{Nibble, Number, FieldAt};
+// Numbers of lower-case hexadecimal digits, taken from the front of what is left of a line.
+ghost use Rattle.std.specs.Prelude.{◌≡◌, ◌≤◌};
+ghost use Rattle.frames.specs.Line.{fields};
+ghost use Rattle.frames.specs.Parts.{Nibble, Number, FieldAt, AnswerAt, Skips, Ends};
 
-// A number that stands in a line, and the place after it. Where none stands there next is past the line's end,
-// so that nothing stands at next either.
-#[derive(Clone, Copy)]
-pub struct Part {
-    pub value: u64,
-    pub next: usize,
+// The bytes of a line that were not taken yet.
+#[derive(Drop)]
+pub struct Rest<'a> {
+    pub bytes: &'a [u8],
 }
 
-// The number of a lower-case digit, and 16 for any other byte.
-fn nibble(b: u8) -> u64
+// The number of a digit.
+fn nibble(b: u8) -> Option<u64>
     ensures { Nibble b result }
 {
-    if b < 48 {
-        return 16;
+    match b {
+        b'0'..=b'9' => Some(u64::from(b - b'0')),
+        b'a'..=b'f' => Some(u64::from(b - b'a') + 10),
+        _ => None,
     }
-    if b < 58 {
-        return (b - 48) as u64;
-    }
-    if b < 97 {
-        return 16;
-    }
-    if b < 103 {
-        return (b - 87) as u64;
-    }
-    16
 }
 
-// The number of the width digits at a place.
-pub fn number(line: &[u8], at: usize, width: usize) -> Part
-    requires width_nonzero { 0 < width }
-    requires width_bound { width ≤ 16 }
-    ensures { Number line.now at width result }
-{
-    let none = Part {
-        value: 0,
-        next: line.len() + 1,
-    };
-    if line.len() < at {
-        return none;
-    }
-    if line.len() - at < width {
-        return none;
-    }
-    let mut value: u64 = 0;
-    let mut i = 0;
-    while i < width {
-        let d = nibble(line[at + i]);
-        if d > 15 {
-            return none;
+impl<'a> Rest<'a> {
+    // Takes a number of so many digits.
+    pub fn number(&mut self, width: usize) -> Option<u64>
+        requires { width ≤ 16 }
+        ensures { Number self.old.bytes.now width result self.new.bytes.now }
+    {
+        let (digits, rest) = self.bytes.split_at_checked(width)?;
+        let mut value = 0;
+        for digit in digits {
+            value = value * 16 + nibble(*digit)?;
         }
-        value = value * 16 + d;
-        i += 1;
+        self.bytes = rest;
+        Some(value)
     }
-    Part {
-        value,
-        next: at + width,
-    }
-}
 
-// The number of the width digits after a space at a place.
-pub fn field(line: &[u8], at: usize, width: usize) -> Part
-    requires width_nonzero { 0 < width }
-    requires width_bound { width ≤ 16 }
-    ensures { FieldAt line.now at width result }
-{
-    let none = Part {
-        value: 0,
-        next: line.len() + 1,
-    };
-    if line.len() <= at {
-        return none;
+    // Takes a space and a number of so many digits.
+    pub fn field(&mut self, width: usize) -> Option<u64>
+        requires { width ≤ 16 }
+        ensures { FieldAt self.old.bytes.now width result self.new.bytes.now }
+    {
+        let (first, rest) = self.bytes.split_first()?;
+        if *first != b' ' {
+            return None;
+        }
+        self.bytes = rest;
+        self.number(width)
     }
-    if line[at] != 32 {
-        return none;
+
+    // Takes an answer: its status and its leftover's pattern.
+    pub fn answer(&mut self) -> Option<(u8, u64)>
+        ensures { AnswerAt self.old.bytes.now result self.new.bytes.now }
+    {
+        let status = self.field(2)? as u8;
+        let leftover = self.field(16)?;
+        Some((status, leftover))
     }
-    number(line, at + 1, width)
+
+    // Passes over count answers.
+    pub fn skip(&mut self, count: usize) -> Option<()>
+        ensures { Skips self.old.bytes.now count result self.new.bytes.now }
+    {
+        for _ in 0..count {
+            self.answer()?;
+        }
+        Some(())
+    }
+
+    // Asks that LF is left and nothing more.
+    pub fn end(&self) -> Option<()>
+        ensures { Ends self.now.bytes.now result }
+    {
+        if self.bytes == [b'\n'].as_slice() {
+            Some(())
+        } else {
+            None
+        }
+    }
 }

@@ -2,8 +2,6 @@
 // A time is a bit pattern throughout, so that a line that is read and written again comes out as it was.
 #![tactic(auto)]
 
-ghost use Rattle.std.specs.Prelude.{◌≡◌, min};
-
 mod hex;
 mod order;
 mod patterns;
@@ -21,17 +19,23 @@ pub enum Call {
 }
 
 // A call's event. Only an update has a dt; beside any other stands a zero, of which the sign is kept:
-// true for minus zero.
+// true for minus zero. The theorems of `Undo` are said of it.
 #[derive(Clone, Copy)]
 pub enum Event {
     Other(bool),
     Update(u64),
 }
 
+// The most node lines: one more than a table may have, so that the 257th is refused by the tick.
+pub const NODES: usize = 257;
+
+// The most answers of a tick.
+pub const ANSWERS: usize = 1024;
+
 // The bits of minus zero: the sign alone.
 pub const MINUS_ZERO: u64 = 0x8000000000000000;
 
-// A frame by value. The answers of a call that is asked for stand beside it in two lent slices, statuses and leftovers: the first count of each.
+// A frame by value, with numbers as a line has them, which may be any. The answers of a call that is asked for stand beside it in two lent slices, statuses and leftovers: the first count of each.
 #[derive(Clone, Copy)]
 pub enum Frame {
     Node {
@@ -59,25 +63,16 @@ pub enum Frame {
     },
 }
 
-// What reading a line answers: its frame, that it is no frame's line, or that the lent slices are too short for its answers.
+// Why no frame was read: the line is no frame's, or the lent slices are too short for its answers.
 #[derive(Clone, Copy)]
-pub enum Reading {
-    Is(Frame),
+pub enum Unread {
     NoFrame,
     TooShort,
 }
 
-// What writing a frame answers: how many bytes it wrote, that there is no such frame, or that the lent bytes are too few.
+// Why nothing was written: there is no such frame, or the lent bytes are too few.
 #[derive(Clone, Copy)]
-pub enum Written {
-    Bytes(usize),
+pub enum Unwritten {
     NoFrame,
     TooShort,
-}
-
-// The smaller of two lengths.
-pub fn least(a: usize, b: usize) -> usize
-    ensures { result ≡ min a b }
-{
-    if a < b { a } else { b }
 }

@@ -2,9 +2,9 @@
 ghost use Rattle.std.specs.Prelude.{◌≡◌};
 ghost use Rattle.frames.specs.Order.{admitted};
 
-use crate::{Call, Event, Frame, Reading};
+use crate::{Call, Event, Frame, NODES, Unread};
 
-// What an input line asks for.
+// What an input line asks for. A malformed one is served like the others, by a frame of its own, so it is a case and no `None`.
 #[derive(Clone, Copy)]
 pub enum Input {
     Node {
@@ -22,42 +22,28 @@ pub enum Input {
 }
 
 // What a line that was read asks for, after so many nodes, and where begun says whether a tick or a restart came before.
-pub fn admit(nodes: usize, begun: bool, reading: Reading) -> Input
+pub fn admit(nodes: usize, begun: bool, reading: Result<Frame, Unread>) -> Input
     ensures { result ≡ admitted nodes begun reading }
 {
     match reading {
-        Reading::Is(frame) => frame_admitted(nodes, begun, frame),
-        Reading::NoFrame => Input::Malformed,
-        Reading::TooShort => Input::Malformed,
-    }
-}
-
-fn frame_admitted(nodes: usize, begun: bool, frame: Frame) -> Input
-    ensures { result ≡ admitted nodes begun (Reading.Is frame) }
-{
-    match frame {
-        Frame::Node { kind, n, limit } => {
-            if begun {
-                return Input::Malformed;
-            }
-            if nodes < 257 {
-                Input::Node { kind, n, limit }
-            } else {
-                Input::Malformed
-            }
-        }
-        Frame::Asked {
-            call,
-            event,
-            fuel,
-            count,
-        } => Input::Asked {
+        Ok(Frame::Node { kind, n, limit }) if !begun && nodes < NODES => Input::Node {
+            kind,
+            n,
+            limit,
+        },
+        Ok(
+            Frame::Asked {
+                call,
+                event,
+                fuel,
+                count,
+            },
+        ) => Input::Asked {
             call,
             event,
             fuel,
             count,
         },
-        Frame::Said { .. } => Input::Malformed,
-        Frame::Malformed { .. } => Input::Malformed,
+        _ => Input::Malformed,
     }
 }

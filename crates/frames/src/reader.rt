@@ -1,167 +1,100 @@
 // Reading a line: the two digits of its kind, its fields, each after a space, then LF and nothing more.
-ghost use Rattle.std.specs.Prelude.{◌≡◌, ◌+◌, ◌≤◌, ◌<◌, length, drop};
+ghost use Rattle.std.specs.Prelude.{◌≡◌, ◌≤◌, length};
 ghost use Rattle.frames.specs.Line.{asked_no, said_no, answers_of, Reads};
-ghost use Rattle.frames.specs.Parts.{Ends, EventIs, Skips, Body, Whole, Filled};
+ghost use Rattle.frames.specs.Parts.{EventIs, Body, Whole, Filled};
 
-use crate::hex::{field, number};
-use crate::{Call, Event, Frame, MINUS_ZERO, Reading, least};
+use crate::hex::Rest;
+use crate::{Call, Event, Frame, MINUS_ZERO, Unread};
 
-// The frame whose line was read, without its answers.
-#[derive(Clone, Copy)]
-pub enum Found {
-    Is(Frame),
-    Not,
-}
-
-#[derive(Clone, Copy)]
-pub enum Happened {
-    Is(Event),
-    Not,
-}
-
-// Whether the line ends, with its LF, at a place.
-fn ends(line: &[u8], at: usize) -> bool
-    ensures { Ends (drop at line.now) result }
-{
-    if at < line.len() {
-        if line[at] == 10 {
-            if line.len() - at == 1 {
-                return true;
-            }
-        }
-    }
-    false
-}
+// How many bytes of a call's line stand in front of its answers.
+const FRONT: usize = 36;
 
 // An event from its two fields.
-fn event(number: u64, dt: u64) -> Happened
+fn event(number: u64, dt: u64) -> Option<Event>
     ensures { EventIs number dt result }
 {
-    if number == 1 {
-        return Happened::Is(Event::Update(dt));
+    match (number, dt) {
+        (0, 0) => Some(Event::Other(false)),
+        (0, MINUS_ZERO) => Some(Event::Other(true)),
+        (1, dt) => Some(Event::Update(dt)),
+        _ => None,
     }
-    if number == 0 {
-        if dt == 0 {
-            return Happened::Is(Event::Other(false));
-        }
-        if dt == MINUS_ZERO {
-            return Happened::Is(Event::Other(true));
-        }
-    }
-    Happened::Not
-}
-
-// The place after count answers.
-fn skip(line: &[u8], from: usize, count: usize) -> usize
-    ensures { Skips line.now from count result }
-{
-    let mut at = from;
-    let mut k = 0;
-    while k < count {
-        let status = field(line, at, 2);
-        let leftover = field(line, status.next, 16);
-        at = leftover.next;
-        k += 1;
-    }
-    at
 }
 
 // What stands after the kind's digits, for each kind.
-fn node(line: &[u8], at: usize) -> Found
-    ensures { Body 0x01 (drop at line.now) result }
+fn node(rest: &mut Rest) -> Option<Frame>
+    ensures { Body 0x01 rest.old.bytes.now result }
 {
-    let kind = field(line, at, 2);
-    let n = field(line, kind.next, 4);
-    let limit = field(line, n.next, 16);
-    if ends(line, limit.next) {
-        Found::Is(Frame::Node {
-            kind: kind.value as u8,
-            n: n.value as u16,
-            limit: limit.value,
-        })
-    } else {
-        Found::Not
-    }
+    let kind = rest.field(2)? as u8;
+    let n = rest.field(4)? as u16;
+    let limit = rest.field(16)?;
+    rest.end()?;
+    Some(Frame::Node { kind, n, limit })
 }
 
-fn asked(line: &[u8], at: usize, call: Call) -> Found
-    ensures { Body (asked_no call) (drop at line.now) result }
+fn asked(rest: &mut Rest, call: Call) -> Option<Frame>
+    ensures { Body (asked_no call) rest.old.bytes.now result }
 {
-    let no = field(line, at, 2);
-    let dt = field(line, no.next, 16);
-    let fuel = field(line, dt.next, 8);
-    let count = field(line, fuel.next, 4);
-    if count.value > 1024 {
-        return Found::Not;
+    let number = rest.field(2)?;
+    let dt = rest.field(16)?;
+    let fuel = rest.field(8)? as u32;
+    let count = rest.field(4)? as u16;
+    if count > 1024 {
+        return None;
     }
-    let end = skip(line, count.next, count.value as usize);
-    if ends(line, end) {
-        match event(no.value, dt.value) {
-            Happened::Is(event) => Found::Is(Frame::Asked {
-                call,
-                event,
-                fuel: fuel.value as u32,
-                count: count.value as u16,
-            }),
-            Happened::Not => Found::Not,
-        }
-    } else {
-        Found::Not
-    }
+    rest.skip(usize::from(count))?;
+    rest.end()?;
+    let event = event(number, dt)?;
+    Some(Frame::Asked {
+        call,
+        event,
+        fuel,
+        count,
+    })
 }
 
-fn said(line: &[u8], at: usize, call: Call) -> Found
-    ensures { Body (said_no call) (drop at line.now) result }
+fn said(rest: &mut Rest, call: Call) -> Option<Frame>
+    ensures { Body (said_no call) rest.old.bytes.now result }
 {
-    let no = field(line, at, 2);
-    let status = field(line, no.next, 2);
-    let time = field(line, status.next, 16);
-    let visits = field(line, time.next, 8);
-    let used = field(line, visits.next, 4);
-    let extra = field(line, used.next, 4);
-    if ends(line, extra.next) {
-        Found::Is(Frame::Said {
-            call,
-            no: no.value as u8,
-            status: status.value as u8,
-            time: time.value,
-            visits: visits.value as u32,
-            used: used.value as u16,
-            extra: extra.value as u16,
-        })
-    } else {
-        Found::Not
-    }
+    let no = rest.field(2)? as u8;
+    let status = rest.field(2)? as u8;
+    let time = rest.field(16)?;
+    let visits = rest.field(8)? as u32;
+    let used = rest.field(4)? as u16;
+    let extra = rest.field(4)? as u16;
+    rest.end()?;
+    Some(Frame::Said {
+        call,
+        no,
+        status,
+        time,
+        visits,
+        used,
+        extra,
+    })
 }
 
-fn malformed(line: &[u8], at: usize) -> Found
-    ensures { Body 0x8f (drop at line.now) result }
+fn malformed(rest: &mut Rest) -> Option<Frame>
+    ensures { Body 0x8f rest.old.bytes.now result }
 {
-    let number = field(line, at, 4);
-    if ends(line, number.next) {
-        Found::Is(Frame::Malformed {
-            line: number.value as u16,
-        })
-    } else {
-        Found::Not
-    }
+    let line = rest.field(4)? as u16;
+    rest.end()?;
+    Some(Frame::Malformed { line })
 }
 
-// The frame whose line this is.
-fn head(line: &[u8]) -> Found
+// The frame whose line this is, without its answers.
+fn head(line: &[u8]) -> Option<Frame>
     ensures { Whole line.now result }
 {
-    let kind = number(line, 0, 2);
-    let at = kind.next;
-    let k = kind.value;
-    match k {
-        0x01 => node(line, at),
-        0x02 => asked(line, at, Call::Tick),
-        0x03 => asked(line, at, Call::Restart),
-        0x82 => said(line, at, Call::Tick),
-        0x83 => said(line, at, Call::Restart),
-        0x8f => malformed(line, at),
-        _ => Found::Not,
+    let mut rest = Rest { bytes: line };
+    match rest.number(2)? {
+        0x01 => node(&mut rest),
+        0x02 => asked(&mut rest, Call::Tick),
+        0x03 => asked(&mut rest, Call::Restart),
+        0x82 => said(&mut rest, Call::Tick),
+        0x83 => said(&mut rest, Call::Restart),
+        0x8f => malformed(&mut rest),
+        _ => None,
     }
 }
 
@@ -170,44 +103,36 @@ pub fn count(frame: Frame) -> usize
     ensures { result ≡ answers_of frame }
 {
     match frame {
-        Frame::Asked { count, .. } => count as usize,
-        Frame::Node { .. } => 0,
-        Frame::Said { .. } => 0,
-        Frame::Malformed { .. } => 0,
+        Frame::Asked { count, .. } => usize::from(count),
+        _ => 0,
     }
 }
 
-// The answers in a line.
-fn fill(line: &[u8], count: usize, statuses: &mut [u8], leftovers: &mut [u64])
-    requires count_in_bounds { count ≤ length statuses.old }
-    requires count_in_bounds_2 { count ≤ length leftovers.old }
-    ensures { Filled line.now count statuses.old statuses.new leftovers.old leftovers.new }
+// The answers in a line; None where so many do not stand there.
+fn fill(line: &[u8], count: usize, statuses: &mut [u8], leftovers: &mut [u64]) -> Option<()>
+    requires statuses_long { count ≤ length statuses.old }
+    requires leftovers_long { count ≤ length leftovers.old }
+    ensures { Filled line.now count statuses.old leftovers.old result statuses.new leftovers.new }
 {
-    let mut at = 36;
-    let mut i = 0;
-    while i < count {
-        let status = field(line, at, 2);
-        let leftover = field(line, status.next, 16);
-        statuses[i] = status.value as u8;
-        leftovers[i] = leftover.value;
-        at = leftover.next;
-        i += 1;
+    let (_, answers) = line.split_at(line.len().min(FRONT));
+    let mut rest = Rest { bytes: answers };
+    for i in 0..count {
+        let (status, leftover) = rest.answer()?;
+        statuses[i] = status;
+        leftovers[i] = leftover;
     }
+    Some(())
 }
 
 // Reads a line. Its answers are put into the two slices.
-pub fn read(line: &[u8], statuses: &mut [u8], leftovers: &mut [u64]) -> Reading
+pub fn read(line: &[u8], statuses: &mut [u8], leftovers: &mut [u64]) -> Result<Frame, Unread>
     ensures { Reads line.now statuses.old leftovers.old result statuses.new leftovers.new }
 {
-    match head(line) {
-        Found::Not => Reading::NoFrame,
-        Found::Is(frame) => {
-            let n = count(frame);
-            if least(statuses.len(), leftovers.len()) < n {
-                return Reading::TooShort;
-            }
-            fill(line, n, statuses, leftovers);
-            Reading::Is(frame)
-        }
+    let frame = head(line).ok_or(Unread::NoFrame)?;
+    let n = count(frame);
+    if statuses.len().min(leftovers.len()) < n {
+        return Err(Unread::TooShort);
     }
+    fill(line, n, statuses, leftovers).ok_or(Unread::NoFrame)?;
+    Ok(frame)
 }

@@ -6,25 +6,11 @@ use Rattle.rules.specs.declared.answer.Answer.{Answer}
 use Rattle.rules.specs.declared.answer.Record.{Record}
 use Rattle.rules.specs.declared.event.Event.{Event}
 use Rattle.rules.specs.Call.{Run, Left, left, said_of}
-use Rattle.rules.specs.Levels.{Levels, FlatLeft, flat_left}
-use Rattle.rules.specs.declared.exchanged.Exchanged.{Exchanged}
-use Rattle.rules.specs.declared.exchanged.ExchangeSaid.{ExchangeSaid}
-use Rattle.rules.specs.Exchange.{Room, LeftExchange, left_exchange, exchange_said_of}
 use Rattle.host.specs.declared.Told.{Told}
-use Rattle.host.specs.Host.{host_left, told, host_flat_left, told_flat, host_exchanged, told_exchanged}
+use Rattle.host.specs.Host.{host_left, told}
 
 -- by its event, which was made from a flag and a time
 pub deep_told :
     (l : Event → Left) {e f : Event} {a : Answer} {r : Record} {c s : Run} {b : List ℕ} {t : Told} →
     e ≡ f → l e ≡ left a r c s b → (t.said ≡ said_of a) × (t.«record» ≡ r) → told (l f) ≡ host_left t.said t.«record» c s b
 deep_told l d e n = rw (← d, e, n.0, n.1)
-
-pub flat_told :
-    (l : Event → FlatLeft) {e f : Event} {a : Answer} {r : Record} {c s : Run} {b : List ℕ} {lent : Levels} {t : Told} →
-    e ≡ f → l e ≡ flat_left (left a r c s b) lent → (t.said ≡ said_of a) × (t.«record» ≡ r) → told_flat (l f) ≡ host_flat_left t.said t.«record» c s b lent
-flat_told l d e n = rw (← d, e, n.0, n.1)
-
-pub exchange_told :
-    {l : LeftExchange} {a : Exchanged} {to : Room} {said : ExchangeSaid} →
-    l ≡ left_exchange a to → said ≡ exchange_said_of a → told_exchanged l ≡ host_exchanged said to
-exchange_told e f = rw (e, f)

@@ -15,20 +15,20 @@ pub struct Told {
     pub record: Record,
 }
 
-pub fn in_numbers(called: Called) -> Told
-    ensures { (result.said ≡ said_of called.answer) × (result.«record» ≡ called.«record») }
-{
-    let answer = called.answer;
-    let record = called.record;
-    Told {
-        said: answer.said(),
-        record,
+impl From<Called> for Told {
+    ghost from_gives = { λ called told. (told.said ≡ said_of called.answer) × (told.«record» ≡ called.«record») };
+
+    fn from(called: Called) -> Told {
+        Told {
+            said: Said::from(called.answer),
+            record: called.record,
+        }
     }
 }
 
-// The finish bound: kind 0 a number of ticks, 1 none, 2 above the largest that is told.
+// The finish bound in the C interface's numbers: kind 0 a number of ticks, 1 none, 2 above the largest that is told.
 #[repr(C)]
-#[derive(Clone, Copy)]
+#[derive(Clone, Copy, Default)]
 pub struct Bound {
     pub no: u8,
     pub kind: u8,
@@ -36,45 +36,27 @@ pub struct Bound {
     pub ticks: u64,
 }
 
-// The bound's answer.
-pub fn bound_of(answer: BoundAnswer) -> Bound
-    ensures { result ≡ bound_of answer }
-{
-    match answer {
-        BoundAnswer::Within(n) => Bound {
-            no: 0,
-            kind: 0,
-            place: 0,
-            ticks: n,
-        },
-        BoundAnswer::Never => Bound {
-            no: 0,
-            kind: 1,
-            place: 0,
-            ticks: 0,
-        },
-        BoundAnswer::Above => Bound {
-            no: 0,
-            kind: 2,
-            place: 0,
-            ticks: 0,
-        },
-        BoundAnswer::BadTable(p) => Bound {
-            no: 3,
-            kind: 0,
-            place: p,
-            ticks: 0,
-        },
-        BoundAnswer::NoBound => Bound {
-            no: 8,
-            kind: 0,
-            place: 0,
-            ticks: 0,
-        },
+// The bound's answer; a field that it does not name is 0.
+impl From<BoundAnswer> for Bound {
+    ghost from_gives = { λ a b. b ≡ bound_of a };
+
+    fn from(answer: BoundAnswer) -> Bound {
+        let bare = Bound::default();
+        match answer {
+            BoundAnswer::Within(ticks) => Bound { ticks, ..bare },
+            BoundAnswer::Never => Bound { kind: 1, ..bare },
+            BoundAnswer::Above => Bound { kind: 2, ..bare },
+            BoundAnswer::BadTable(place) => Bound {
+                no: 3,
+                place,
+                ..bare
+            },
+            BoundAnswer::NoBound => Bound { no: 8, ..bare },
+        }
     }
 }
 
-// An update carries its dt.
+// An update carries its dt; the C interface has a flag and a time.
 pub fn event_of(update: bool, dt: f64) -> Event
     ensures { result ≡ event_of update dt }
 {
@@ -85,12 +67,12 @@ pub fn event_of(update: bool, dt: f64) -> Event
     }
 }
 
-// The number of a kind with its memory on or off; a number that is no kind stays.
-pub fn memory_of(kind: u8, on: bool) -> u8
-    ensures { result ≡ memory_of kind on }
+// The number of a kind, which the C interface has, with its memory on or off; a number that is no kind stays.
+pub fn memory_of(number: u8, on: bool) -> u8
+    ensures { result ≡ memory_of number on }
 {
-    if Kind::LAST < kind {
-        return kind;
+    match Kind::try_from(number) {
+        Ok(kind) => u8::from(kind.memory(on)),
+        Err(_) => number,
     }
-    Kind::of(kind).memory(on).number()
 }

@@ -1,17 +1,22 @@
 -- A visit to a Wait that stays Running, and several, one after the other.
-use mathlib.Core.Path.{◌≡◌, refl, sym, subst}
+use mathlib.Core.Path.{◌≡◌, refl, sym, subst, ap, ◌∙◌}
 use mathlib.Core.Bool.{Bool, true, false, cond, ◌&&◌, ◌||◌}
 use mathlib.Core.Logic.{⊎_elim}
-use mathlib.Core.List.{List}
+use mathlib.Core.List.{List, [], ◌∷◌, ◌++◌}
 use Prim.Native.Nat.{ℕ, zero, suc, ◌+◌, ◌-◌, ◌*◌, ◌≤◌, ◌<◌}
 use native.Mathlib.Nat.{zero-mul, eq-or-lt_of_le}
 use native.Mathlib.Omega.{arith}
-use native.Mathlib.Numerals.{add-one, unary_clauses}
-use borrow.Author.Tests.{ltb-true, ltb-false, lt-ltb, le-ltb, ne_eqb}
+use native.Mathlib.Numerals.{unary_clauses}
+use borrow.Author.Tests.{ltb-true, lt-ltb, le-ltb, ne_eqb}
 use lib.Dec.{T, ltb, eqb}
 use lib.Ieee.{Float, nan, inf, fin, binary64, add, lt, eq, le, up, down, below, level}
-use lib.ListN.{length, get_or, set, get_or-eq_default}
+use lib.ListN.{length, get_or, set, take, drop, replicate, length-set, length-drop, length-replicate}
 use lib.Seq.{lt-length-set, get_or-set_same, get_or-set_other}
+use borrow.Rule.Slice.PartMut.{mid_of, put_mid, same_len_mid}
+use Rattle.std.specs.List.{fold, zip}
+use Rattle.std.proofs.lemmas.Bool.{and_parts, cases_lt}
+use Rattle.std.proofs.lemmas.Bool.Decides.{eqb_tells}
+use Rattle.std.proofs.lemmas.List.{ext_get_or, get_or-take, get_or-drop, get_or-replicate, get_or_append_left, get_or-append_right, length-take-le}
 use Rattle.rules.specs.declared.behavior.Kind.{Kind}
 use Rattle.rules.specs.declared.behavior.Kind.TheVariants.{Wait}
 use Rattle.rules.specs.Kinds.{kind_of}
@@ -21,7 +26,6 @@ use Rattle.work.specs.declared.result.Seen.TheVariants.{Running}
 use Rattle.work.specs.Word.{below_of, code_of, kind_in, mark_of, with_seen}
 use Rattle.work.specs.Array.{word_at, time_at, number_at, fuel_of, updates, end_of}
 use Rattle.work.specs.Flat.{Visitor, Lent, out, lent, wait, leaf, visit_leaf, visit}
-use Rattle.work.proofs.Laws.{any_default}
 use Rattle.leaves.specs.Waiting.{Waiting, none, more}
 
 module _ (T : Lent) (tick : Visitor) (p : ℕ) (dt : Float) (ws : List ℕ) (ts ts' : List Float) (kind : Kind) (update : Bool) (limit time : Float) (w n : ℕ) where
@@ -121,92 +125,203 @@ module _ (ws : List ℕ) (q : ℕ) (z : word_at ws q ≡ 0) where
   unfolding with_seen
   zero_seen = rw z
 
-  pub waits_once : (limits : List Float) (dt : Float) (ts : List Float) → q < 256
+  pub waits_once : (T : Lent) (dt : Float) (ts : List Float) → q < 256
       → (fuel_of ws ≡ 0 → ⊥)
       → updates ws ≡ true
-      → le (number_at limits q) (add binary64 (time_at ts q) dt) ≡ false
-      → Waiting limits dt q (q + 1) ws ts (set (set ws 256 (fuel_of ws - 1)) q 67108864) (set ts q (add binary64 (time_at ts q) dt))
-  waits_once limits dt ts h f u less =
-      more (zero_end h) zero_mark
-      (λ a b tick. waits_on (lent limits a b) tick q dt ws ts _ Wait true (number_at limits q) (time_at ts q) 67108864 1 h zero_kind refl f (sym u) refl refl refl less zero_seen refl refl)
-      none
+      → le (number_at T.limits q) (add binary64 (time_at ts q) dt) ≡ false
+      → (tick : Visitor) → visit binary64 T tick q dt ws ts ≡ out Running zero_time (set (set ws 256 (fuel_of ws - 1)) q 67108864) (set ts q (add binary64 (time_at ts q) dt))
+  waits_once T dt ts h f u less tick =
+      waits_on T tick q dt ws ts _ Wait true (number_at T.limits q) (time_at ts q) 67108864 1 h zero_kind refl f (sym u) refl refl refl less zero_seen refl refl
 
--- ---- the times that k visits from p on leave
-unfoldable pub run_times : ℕ → Float → ℕ → List Float → List Float
-run_times p dt zero ts = ts
-run_times p dt (suc k) ts =
-    let ts' = run_times p dt k ts in
-    set ts' (p + k) (add binary64 (time_at ts' (p + k)) dt)
-
-pub run_behind : (p : ℕ) (dt : Float) (k : ℕ) (ts : List Float) (j : ℕ) → p + k ≤ j → time_at (run_times p dt k ts) j ≡ time_at ts j
-unfolding run_times
-run_behind p dt zero ts j h = refl
-run_behind p dt (suc k) ts j h = rw (get_or-set_other (run_times p dt k ts) (p + k) j _ zero_time (omega arith)) (run_behind p dt k ts j (omega arith))
-
-pub run_more : (p : ℕ) (dt : Float) (k : ℕ) (ts ts' : List Float) (d : Float) → p + k < length ts' → ts' ≡ run_times p dt k ts
-    → set ts' (p + k) (add binary64 (get_or ts' (p + k) d) dt) ≡ run_times p dt (k + 1) ts
-unfolding run_times
-run_more p dt k ts ts' d h e = rw (any_default ts' (p + k) d zero_time h, add-one k, e)
-
--- ---- sixteen visits
--- none of sixteen from p on reaches its limit
-abbrev pub Below : List Float → Float → ℕ → List Float → Type 0
-Below limits dt p ts = (j : ℕ) → j < 16 → lt (add binary64 (time_at ts (p + j)) dt) (time_at limits (p + j)) ≡ true
-
--- k of sixteen visits from p on are done. The times are written already: whatever they were before, they are as k visits leave them
-pub record Run (limits : List Float) (dt : Float) (p fuel : ℕ) (ws₀ ws : List ℕ) (k : ℕ) : Type 0 where
-  pub most : k ≤ 16
+-- ---- many visits at once, to k nodes from q on
+-- each is a Wait without a mark, and there is fuel for all
+pub record Ready (k q : ℕ) (ws : List ℕ) : Type 0 where
   pub long : 256 < length ws
-  pub words : (j : ℕ) → k ≤ j → j < 16 → word_at ws (p + j) ≡ 0
-  pub left : fuel_of ws ≡ fuel - k
+  pub words : (i : ℕ) → q ≤ i → i < q + k → word_at ws i ≡ 0
+  pub fuel : k ≤ fuel_of ws
   pub on : updates ws ≡ true
-  pub visits : (ts : List Float) → Below limits dt p ts → Waiting limits dt p (p + k) ws₀ ts ws (run_times p dt k ts)
 
--- where something stands, the list has a place
-held : (ws : List ℕ) (i : ℕ) (b : Bool) → ltb i (length ws) ≡ b → (word_at ws i ≡ 0 → ⊥) → i < length ws
-held ws i true e h = ltb-true i (length ws) e
-held ws i false e h = absurd (h (get_or-eq_default ws 0 (ltb-false i (length ws) e)))
+-- the words behind
+pub record Spent (k q : ℕ) (ws ws' : List ℕ) : Type 0 where
+  pub long : length ws' ≡ length ws
+  pub fuel : fuel_of ws' ≡ fuel_of ws - k
+  pub within : (i : ℕ) → q ≤ i → i < q + k → word_at ws' i ≡ 67108864
+  pub before : (i : ℕ) → i < q → word_at ws' i ≡ word_at ws i
+  pub behind : (i : ℕ) → q + k ≤ i → (i ≡ 256 → ⊥) → word_at ws' i ≡ word_at ws i
 
-module _ (limits : List Float) (dt : Float) (p : ℕ) where
-  pub run_none : (ws : List ℕ) → ((j : ℕ) → j < 16 → word_at ws (p + j) ≡ 0) → 16 ≤ fuel_of ws → updates ws ≡ true → Run limits dt p (fuel_of ws) ws ws 0
-  unfolding run_times
-  run_none ws z f u = record {
-    most = omega arith;
-    long = held ws 256 _ refl (omega arith);
-    words = λ j a b. z j b;
-    left = omega arith;
-    on = u;
-    visits = λ ts b. simp unary_clauses none;
+-- the times behind
+pub record Aged (dt : Float) (k q : ℕ) (ts ts' : List Float) : Type 0 where
+  pub long : length ts' ≡ length ts
+  pub room : q + k ≤ length ts
+  pub within : (i : ℕ) → q ≤ i → i < q + k → time_at ts' i ≡ add binary64 (time_at ts i) dt
+  pub before : (i : ℕ) → i < q → time_at ts' i ≡ time_at ts i
+  pub behind : (i : ℕ) → q + k ≤ i → time_at ts' i ≡ time_at ts i
+
+-- no visit
+spent_none : (q : ℕ) (ws ws' : List ℕ) → Spent 0 q ws ws' → ws' ≡ ws
+spent_none q ws ws' s = ext_get_or 0 ws' ws s.long λ i h. ⊎_elim
+    (λ (l : i < q). s.before i l)
+    (λ (g : q ≤ i). ⊎_elim (λ e. rw e.1 (omega (arith, s.fuel))) (λ n. s.behind i (omega arith) n.1) (eqb_tells i 256))
+    (cases_lt i q)
+
+aged_none : (dt : Float) (q : ℕ) (ts ts' : List Float) → Aged dt 0 q ts ts' → ts' ≡ ts
+aged_none dt q ts ts' a = ext_get_or zero_time ts' ts a.long λ i h. ⊎_elim (λ l. a.before i l) (λ g. a.behind i (omega arith)) (cases_lt i q)
+
+-- the first visit
+module _ (k q : ℕ) (ws : List ℕ) (h : q + suc k ≤ 256) (r : Ready (suc k) q ws) where
+  abbrev first : List ℕ
+  first = set (set ws 256 (fuel_of ws - 1)) q 67108864
+
+  first_other : (i : ℕ) → (i ≡ q → ⊥) → (i ≡ 256 → ⊥) → word_at first i ≡ word_at ws i
+  first_other i n m = get_or-set_other (set ws 256 (fuel_of ws - 1)) q i 67108864 0 n ∙ get_or-set_other ws 256 i (fuel_of ws - 1) 0 m
+
+  first_fuel : fuel_of first ≡ fuel_of ws - 1
+  first_fuel = get_or-set_other (set ws 256 (fuel_of ws - 1)) q 256 67108864 0 (omega arith) ∙ get_or-set_same ws 256 (fuel_of ws - 1) 0 r.long
+
+  first_ready : Ready k (q + 1) first
+  first_ready = record {
+    long = lt-length-set (set ws 256 (fuel_of ws - 1)) q 67108864 (lt-length-set ws 256 (fuel_of ws - 1) r.long);
+    words = λ i a b. first_other i (omega arith) (omega arith) ∙ r.words i (omega arith) (omega arith);
+    fuel = omega (arith, first_fuel, r.fuel);
+    on = rw (first_other 259 (omega arith) (omega arith)) r.on;
   }
 
-  module _ (fuel : ℕ) (ws₀ ws : List ℕ) (k : ℕ) (r : Run limits dt p fuel ws₀ ws k) where
-    module _ (h : p + 16 ≤ 256) (l : k < 16) (f : 16 ≤ fuel) where
-      one_more : (ts : List Float) → Below limits dt p ts
-          → Waiting limits dt p (p + (k + 1)) ws₀ ts (set (set ws 256 (fuel - 1 - k)) (p + k) 67108864) (run_times p dt (k + 1) ts)
-      unfolding run_times
-      one_more ts b =
-          let left : fuel_of ws - 1 ≡ fuel - 1 - k = omega (arith, r.left) in
-          let less = not_ended (add binary64 (time_at (run_times p dt k ts) (p + k)) dt) (time_at limits (p + k)) (rw (run_behind p dt k ts (p + k) (omega arith)) (b k l)) in
-          let next : p + (k + 1) ≡ p + k + 1 = omega arith in
-          rw (next, add-one k, ← left)
-          (joined (r.visits ts b) (waits_once ws (p + k) (r.words k (omega arith) l) limits dt (run_times p dt k ts) (omega arith) (omega (arith, r.left)) r.on less))
+  first_spent : (ws' : List ℕ) → Spent (suc k) q ws ws' → Spent k (q + 1) first ws'
+  first_spent ws' s = record {
+    long = s.long ∙ sym (length-set (set ws 256 (fuel_of ws - 1)) q 67108864 ∙ length-set ws 256 (fuel_of ws - 1));
+    fuel = omega (arith, first_fuel, s.fuel);
+    within = λ i a b. s.within i (omega arith) (omega arith);
+    before = λ i l. ⊎_elim
+        (λ e. rw e (s.within q (omega arith) (omega arith) ∙ sym (get_or-set_same (set ws 256 (fuel_of ws - 1)) q 67108864 0 (lt-length-set ws 256 (fuel_of ws - 1) (omega (arith, r.long))))))
+        (λ l. s.before i (omega arith) ∙ sym (first_other i (omega arith) (omega arith)))
+        (eq-or-lt_of_le {n = i} {m = q} (omega arith));
+    behind = λ i a n. s.behind i (omega arith) n ∙ sym (first_other i (omega arith) n);
+  }
 
-      pub run_one : Run limits dt p fuel ws₀ (set (set ws 256 (fuel - 1 - k)) (p + k) 67108864) (k + 1)
-      run_one =
-          let v = fuel - 1 - k in
-          let ws₁ = set ws 256 v in
-          record {
-            most = omega arith;
-            long = lt-length-set ws₁ (p + k) 67108864 (lt-length-set ws 256 v r.long);
-            words = λ j a b. rw (get_or-set_other ws₁ (p + k) (p + j) 67108864 0 (omega arith), get_or-set_other ws 256 (p + j) v 0 (omega arith)) (r.words j (omega arith) b);
-            left = rw (get_or-set_other ws₁ (p + k) 256 67108864 0 (omega arith), get_or-set_same ws 256 v 0 r.long) (omega arith);
-            on = rw (get_or-set_other ws₁ (p + k) 259 67108864 0 (omega arith), get_or-set_other ws 256 259 v 0 (omega arith)) r.on;
-            visits = one_more;
-          }
+module _ (dt : Float) (k q : ℕ) (ts ts' : List Float) (a : Aged dt (suc k) q ts ts') where
+  first_aged : Aged dt k (q + 1) (set ts q (add binary64 (time_at ts q) dt)) ts'
+  first_aged =
+      let now = add binary64 (time_at ts q) dt in
+      let other = λ (i : ℕ) (n : i ≡ q → ⊥). get_or-set_other ts q i now zero_time n in
+      record {
+        long = a.long ∙ sym (length-set ts q now);
+        room = rw (length-set ts q now) (omega (arith, a.room));
+        within = λ i l m. rw (other i (omega arith)) (a.within i (omega arith) (omega arith));
+        before = λ i l. ⊎_elim
+            (λ e. rw e (a.within q (omega arith) (omega arith) ∙ sym (get_or-set_same ts q now zero_time (omega (arith, a.room)))))
+            (λ l. a.before i (omega arith) ∙ sym (other i (omega arith)))
+            (eq-or-lt_of_le {n = i} {m = q} (omega arith));
+        behind = λ i l. a.behind i (omega arith) ∙ sym (other i (omega arith));
+      }
 
-    pub run_over : (ts ts' : List Float) (i : ℕ) → 16 ≤ k → i ≤ 16 → 16 ≤ i → ts' ≡ run_times p dt i ts → Below limits dt p ts
-        → Waiting limits dt p (p + 16) ws₀ ts ws ts'
-    run_over ts ts' i g a b e n =
-        let same : i ≡ k = omega (arith, r.most) in
-        let all : k ≡ 16 = omega (arith, r.most) in
-        rw (e, same, ← all) (r.visits ts n)
+-- none reaches its limit
+abbrev pub Below : List Float → Float → ℕ → ℕ → List Float → Type 0
+Below limits dt k q ts = (i : ℕ) → q ≤ i → i < q + k → lt (add binary64 (time_at ts i) dt) (time_at limits i) ≡ true
+
+pub waits_many : (limits : List Float) (dt : Float) (k q : ℕ) (ws ws' : List ℕ) (ts ts' : List Float) → q + k ≤ 256
+    → Ready k q ws → Spent k q ws ws' → Aged dt k q ts ts' → Below limits dt k q ts → Waiting limits dt q (q + k) ws ts ws' ts'
+waits_many limits dt zero q ws ws' ts ts' h r s a b = rw (spent_none q ws ws' s, aged_none dt q ts ts' a) (simp unary_clauses none)
+waits_many limits dt (suc k) q ws ws' ts ts' h r s a b =
+    let z = r.words q (omega arith) (omega arith) in
+    let other = λ (i : ℕ) (n : i ≡ q → ⊥). get_or-set_other ts q i (add binary64 (time_at ts q) dt) zero_time n in
+    let on : q + suc k ≡ q + 1 + k = omega arith in
+    rw on (more (zero_end ws q z (omega arith)) (zero_mark ws q z)
+    (λ x y. waits_once ws q z (lent limits x y) dt ts (omega arith) (λ e. absurd (omega (arith, r.fuel))) r.on (not_ended _ _ (b q (omega arith) (omega arith))))
+    (waits_many limits dt k (q + 1) (first k q ws h r) ws' (set ts q (add binary64 (time_at ts q) dt)) ts' (omega arith) (first_ready k q ws h r) (first_spent k q ws h r ws' s)
+    (first_aged dt k q ts ts' a) (λ i l m. rw (other i (omega arith)) (b i (omega arith) (omega arith)))))
+
+-- ---- a part of a list
+part_length : {A : Type 0} (a k : ℕ) (xs : List A) → a + k ≤ length xs → length (mid_of a k xs) ≡ k
+part_length a k xs h = length-take-le k (drop a xs) (rw length-drop (omega arith))
+
+part_at : {A : Type 0} (a k : ℕ) (xs : List A) (d : A) (i : ℕ) → a ≤ i → i < a + k → get_or (mid_of a k xs) (i - a) d ≡ get_or xs i d
+part_at a k xs d i g h =
+    let same : a + (i - a) ≡ i = omega arith in
+    get_or-take k (drop a xs) (i - a) d (omega arith) ∙ get_or-drop a xs (i - a) d ∙ ap (λ (j : ℕ). get_or xs j d) same
+
+-- the part is put back
+module _ {A : Type 0} (a k : ℕ) (xs ys : List A) (d : A) (m : length ys ≡ k) (n : a + k ≤ length xs) where
+  front : length (take a xs) ≡ a
+  front = length-take-le a xs (omega arith)
+
+  put_within : (i : ℕ) → a ≤ i → i < a + k → get_or (put_mid a k xs ys) i d ≡ get_or ys (i - a) d
+  put_within i g h = get_or-append_right (take a xs) (ys ++ drop k (drop a xs)) a i d front g ∙ get_or_append_left ys (drop k (drop a xs)) d (i - a) (omega arith)
+
+  put_before : (i : ℕ) → i < a → get_or (put_mid a k xs ys) i d ≡ get_or xs i d
+  put_before i h = get_or_append_left (take a xs) (ys ++ drop k (drop a xs)) d i (omega (arith, front)) ∙ get_or-take a xs i d h
+
+  put_behind : (i : ℕ) → a + k ≤ i → get_or (put_mid a k xs ys) i d ≡ get_or xs i d
+  put_behind i h =
+      let same : a + (k + (i - a - k)) ≡ i = omega arith in
+      get_or-append_right (take a xs) (ys ++ drop k (drop a xs)) a i d front (omega arith)
+      ∙ get_or-append_right ys (drop k (drop a xs)) k (i - a) d m (omega arith)
+      ∙ get_or-drop k (drop a xs) (i - a - k) d ∙ get_or-drop a xs (k + (i - a - k)) d
+      ∙ ap (λ (j : ℕ). get_or xs j d) same
+
+pub put_spent : (k q w : ℕ) (ws ys : List ℕ) → q + k ≤ 256 → 256 < length ws → ys ≡ replicate k w → w ≡ 67108864
+    → Spent k q ws (put_mid q k (set ws 256 (fuel_of ws - k)) ys)
+put_spent k q w ws ys h l e f =
+    let xs = set ws 256 (fuel_of ws - k) in
+    let m : length ys ≡ k = rw e (length-replicate k w) in
+    let long = length-set ws 256 (fuel_of ws - k) in
+    let n : q + k ≤ length xs = omega arith in
+    record {
+      long = same_len_mid q k xs ys (m ∙ sym (part_length q k xs n)) ∙ long;
+      fuel = put_behind q k xs ys 0 m n 256 (omega arith) ∙ get_or-set_same ws 256 (fuel_of ws - k) 0 l;
+      within = λ i a b. put_within q k xs ys 0 m n i a b ∙ rw (e, get_or-replicate k (i - q) w 0 (omega arith)) f;
+      before = λ i a. put_before q k xs ys 0 m n i a ∙ get_or-set_other ws 256 i (fuel_of ws - k) 0 (omega arith);
+      behind = λ i a n'. put_behind q k xs ys 0 m n i a ∙ get_or-set_other ws 256 i (fuel_of ws - k) 0 n';
+    }
+
+pub put_aged : (dt : Float) (k q : ℕ) (ts ys : List Float) → q + k ≤ length ts → length ys ≡ k
+    → ((j : ℕ) → j < k → get_or ys j zero_time ≡ add binary64 (get_or (mid_of q k ts) j zero_time) dt) → Aged dt k q ts (put_mid q k ts ys)
+put_aged dt k q ts ys n m e = record {
+  long = same_len_mid q k ts ys (m ∙ sym (part_length q k ts n));
+  room = n;
+  within = λ i a b. put_within q k ts ys zero_time m n i a b ∙ e (i - q) (omega arith) ∙ ap (λ (t : Float). add binary64 t dt) (part_at q k ts zero_time i a b);
+  before = put_before q k ts ys zero_time m n;
+  behind = put_behind q k ts ys zero_time m n;
+}
+
+-- none of the times reaches its limit
+abbrev pub NoneEnds : Float → List Float → List Float → Type 0
+NoneEnds dt ts ls = (j : ℕ) → j < length ls → j < length ts → lt (add binary64 (time_at ts j) dt) (time_at ls j) ≡ true
+
+below_part : (limits : List Float) (dt : Float) (k q : ℕ) (ts : List Float) → q + k ≤ length ts → q + k ≤ length limits
+    → NoneEnds dt (mid_of q k ts) (mid_of q k limits) → Below limits dt k q ts
+below_part limits dt k q ts m n b i g h =
+    let times = part_length q k ts m in
+    let below = part_length q k limits n in
+    rw (← part_at q k ts zero_time i g h, ← part_at q k limits zero_time i g h) (b (i - q) (omega arith) (omega arith))
+
+-- the part from q on is put back, in the words with one status and in the times each with dt more
+pub waits_part : (limits : List Float) (dt : Float) (k n q w : ℕ) (ws ys : List ℕ) (ts items : List Float) → n ≡ k → q + k ≤ 256 → Ready k q ws
+    → w ≡ 67108864 → ys ≡ replicate (length (mid_of q n (set ws 256 (fuel_of ws - k)))) w
+    → q + k ≤ length ts → q + k ≤ length limits → length items ≡ length (mid_of q n ts)
+    → ((j : ℕ) → j < k → get_or items j zero_time ≡ add binary64 (get_or (mid_of q n ts) j zero_time) dt)
+    → NoneEnds dt (mid_of q n ts) (mid_of q n limits)
+    → Waiting limits dt q (q + k) ws ts (put_mid q n (set ws 256 (fuel_of ws - k)) ys) (put_mid q n ts items)
+waits_part limits dt k n q w ws ys ts items e h r one y in_times in_limits m items_on below =
+    let words = part_length q k (set ws 256 (fuel_of ws - k)) (omega (arith, length-set ws 256 (fuel_of ws - k), r.long)) in
+    let times = part_length q k ts in_times in
+    let long = part_length q k limits in_limits in
+    rw e (waits_many limits dt k q ws _ ts _ h r
+    (put_spent k q w ws ys h r.long (rw (e, words) at y) one)
+    (put_aged dt k q ts items in_times (rw (e, times) at m) (rw e at items_on))
+    (λ i a b. below_part limits dt k q ts in_times in_limits (rw e at below) i a b))
+
+-- ---- a fold over times and limits
+one_more : (dt t l : Float) (ts ls : List Float) → lt (add binary64 t dt) l ≡ true → NoneEnds dt ts ls → NoneEnds dt (t ∷ ts) (l ∷ ls)
+one_more dt t l ts ls e r zero h k = e
+one_more dt t l ts ls e r (suc j) h k = r j (omega arith) (omega arith)
+
+abbrev pub still : Float → Bool → Float × Float → Bool
+still dt b p = b && lt (add binary64 p.0 dt) p.1
+
+pub none_ends : (dt : Float) (b : Bool) (ts ls : List Float) → fold (still dt) b (zip ts ls) ≡ true → (b ≡ true) × NoneEnds dt ts ls
+none_ends dt b [] ls e = (e, λ j h l. absurd (omega arith))
+none_ends dt b (t ∷ ts) [] e = (e, λ j h l. absurd (omega arith))
+none_ends dt b (t ∷ ts) (l ∷ ls) e =
+    let on = none_ends dt (b && lt (add binary64 t dt) l) ts ls e in
+    let parts = and_parts b (lt (add binary64 t dt) l) on.0 in
+    (parts.0, one_more dt t l ts ls parts.1 on.1)

@@ -4,19 +4,20 @@ ghost use Rattle.std.specs.Float.{binary64};
 ghost use Rattle.work.specs.Flat.{out, lent, and_then, times_out, decorated};
 
 use rules::Kind;
-use work::{Result, Seen, kind_of, number_at, passed, put_time, time_at, waiting};
+use work::{Reads, Seen, Visit, kind_of, number_at, passed, put_time, time_at, waiting};
 
 // The time goes on while the child is Running.
-fn timed(work: &[u32; 260], limits: &&[f64], times: &mut [f64], p: usize, dt: f64) -> Result
+#[tactic(auto, unfolding(work::specs::Flat::times_out))]
+fn timed(work: &[u32; 260], reads: &Reads, times: &mut [f64], p: usize, dt: f64) -> Visit
     requires { p < 256 }
-    ensures { (a : List ℕ) (b : List Float) → times_out binary64 (lent limits.now.now a b) p dt work.now times.old
+    ensures { (a : List ℕ) (b : List Float) → times_out binary64 (lent reads.now.limits.now a b) p dt work.now times.old
         ≡ out result.seen result.left work.now times.new }
 {
-    let limit = number_at(limits, p);
+    let limit = number_at(reads.limits, p);
     let elapsed = time_at(times, p) + passed(work, dt);
     put_time(times, p, elapsed);
     if elapsed >= limit {
-        return Result {
+        return Visit {
             seen: Seen::Failure,
             left: elapsed - limit,
         };
@@ -25,34 +26,34 @@ fn timed(work: &[u32; 260], limits: &&[f64], times: &mut [f64], p: usize, dt: f6
 }
 
 // What the decorator at p makes of its child's result.
+#[tactic(auto, unfolding(work::specs::Flat::decorated))]
 pub fn decorated(
     work: &[u32; 260],
-    limits: &&[f64],
+    reads: &Reads,
     times: &mut [f64],
     p: usize,
-    child: Result,
+    child: Visit,
     dt: f64,
-) -> Result
+) -> Visit
     requires { p < 256 }
-    ensures { (a : List ℕ) (b : List Float) → and_then (out child.seen child.left work.now times.old)
-        (decorated binary64 (lent limits.now.now a b) p dt)
+    ensures { (a : List ℕ) (b : List Float)
+        → and_then (out child.seen child.left work.now times.old) (decorated binary64 (lent reads.now.limits.now a b) p dt)
         ≡ out result.seen result.left work.now times.new }
 {
-    let seen = child.seen;
     let kind = kind_of(work[p]);
     match kind {
-        Kind::Invert => Result {
-            seen: seen.turned(true),
+        Kind::Invert => Visit {
+            seen: child.seen.turned(true),
             left: child.left,
         },
         Kind::Timeout => {
-            if let Seen::Running = seen {
-                return timed(work, limits, times, p, dt);
+            if child.seen == Seen::Running {
+                return timed(work, reads, times, p, dt);
             }
             child
         }
-        _ => Result {
-            seen: seen.succeeded(),
+        _ => Visit {
+            seen: child.seen.succeeded(),
             left: child.left,
         },
     }

@@ -1,7 +1,7 @@
-// The library for hosts: the calls on numbers and slices, with the record by reference.
+// The library for hosts: the calls on numbers and slices, with the record by reference. Slice by slice: the C interface needs it.
 #![tactic(auto)]
 
-mod value;
+mod numbers;
 
 ghost use Rattle.std.specs.Prelude.{◌≡◌};
 ghost use Rattle.std.specs.Float.{binary64};
@@ -13,12 +13,15 @@ ghost use Rattle.rules.specs.Bound.{bound_call};
 ghost use Rattle.host.specs.Host.{host_tick, host_restart, host_left, host_tick_flat, host_restart_flat, host_flat_left, host_exchange, host_exchanged, memory_of, bound_of};
 
 use bound::finish_bound;
-use host::{Bound, bound_of, memory_of};
+use call::Deep;
+use host::{Bound, event_of, memory_of};
+use lent::{Answers, Cells, CellsMut, Room, Table, TreeMut};
+use numbers::said;
 use rules::{ExchangeSaid, Record, Said, age};
-use value::{deep_said, flat_said};
 
 // A tick: the cells, the board and the record change only as its answer says.
 #[unsafe(no_mangle)]
+#[tactic(auto, unfolding(host::specs::Host::host_tick, refusals::specs::Due::call_of))]
 pub extern "C" fn lemboraw_tick(
     record: &mut Record,
     kinds: &[u8],
@@ -48,34 +51,33 @@ pub extern "C" fn lemboraw_tick(
         (run spare_times.new spare_places.new spare_marks.new spare_sinces.new)
         board.new }
 {
-    let told = deep_said(
-        false,
-        *record,
-        kinds,
-        ns,
-        limits,
+    let table = Table { kinds, ns, limits };
+    let mut cells = CellsMut {
         times,
         places,
         marks,
         sinces,
-        spare_times,
-        spare_places,
-        spare_marks,
-        spare_sinces,
-        board,
-        update,
-        dt,
-        fuel,
+    };
+    let mut spare = CellsMut {
+        times: spare_times,
+        places: spare_places,
+        marks: spare_marks,
+        sinces: spare_sinces,
+    };
+    let answers = Answers {
         statuses,
         leftovers,
-    );
-    *record = told.record;
-    told.said
+    };
+    let event = event_of(update, dt);
+    said(
+        &mut Deep, record, &table, &mut cells, &mut spare, board, event, fuel, &answers, false,
+    )
 }
 
 // A restart: a tick as from a fresh tree, of cells that may hold anything. If it does not end in answer 0, the cells, the
 // board and the record are as they were.
 #[unsafe(no_mangle)]
+#[tactic(auto, unfolding(host::specs::Host::host_restart, refusals::specs::Due::call_of))]
 pub extern "C" fn lemboraw_restart(
     record: &mut Record,
     kinds: &[u8],
@@ -105,34 +107,33 @@ pub extern "C" fn lemboraw_restart(
         (run spare_times.new spare_places.new spare_marks.new spare_sinces.new)
         board.new }
 {
-    let told = deep_said(
-        true,
-        *record,
-        kinds,
-        ns,
-        limits,
+    let table = Table { kinds, ns, limits };
+    let mut cells = CellsMut {
         times,
         places,
         marks,
         sinces,
-        spare_times,
-        spare_places,
-        spare_marks,
-        spare_sinces,
-        board,
-        update,
-        dt,
-        fuel,
+    };
+    let mut spare = CellsMut {
+        times: spare_times,
+        places: spare_places,
+        marks: spare_marks,
+        sinces: spare_sinces,
+    };
+    let answers = Answers {
         statuses,
         leftovers,
-    );
-    *record = told.record;
-    told.said
+    };
+    let event = event_of(update, dt);
+    said(
+        &mut Deep, record, &table, &mut cells, &mut spare, board, event, fuel, &answers, true,
+    )
 }
 
 // A tick without recursion: as the tick in all else. Its open nodes stand in the lent room, an entry for each of sixteen
 // levels, which is zero behind a walk.
 #[unsafe(no_mangle)]
+#[tactic(auto, using(crate::proofs::Told::tick_told))]
 pub extern "C" fn lemboraw_tick_flat(
     record: &mut Record,
     kinds: &[u8],
@@ -167,37 +168,38 @@ pub extern "C" fn lemboraw_tick_flat(
         (run spare_times.new spare_places.new spare_marks.new spare_sinces.new)
         board.new (levels opens.new counts.new wholes.new rests.new) }
 {
-    let told = flat_said(
-        false,
-        *record,
-        kinds,
-        ns,
-        limits,
+    let table = Table { kinds, ns, limits };
+    let mut cells = CellsMut {
         times,
         places,
         marks,
         sinces,
-        spare_times,
-        spare_places,
-        spare_marks,
-        spare_sinces,
-        board,
-        update,
-        dt,
-        fuel,
+    };
+    let mut spare = CellsMut {
+        times: spare_times,
+        places: spare_places,
+        marks: spare_marks,
+        sinces: spare_sinces,
+    };
+    let answers = Answers {
         statuses,
         leftovers,
+    };
+    let mut room = Room {
         opens,
         counts,
         wholes,
         rests,
-    );
-    *record = told.record;
-    told.said
+    };
+    let event = event_of(update, dt);
+    said(
+        &mut room, record, &table, &mut cells, &mut spare, board, event, fuel, &answers, false,
+    )
 }
 
 // A restart without recursion: as the restart in all else, in lent room as the tick's.
 #[unsafe(no_mangle)]
+#[tactic(auto, using(crate::proofs::Told::restart_told))]
 pub extern "C" fn lemboraw_restart_flat(
     record: &mut Record,
     kinds: &[u8],
@@ -232,38 +234,39 @@ pub extern "C" fn lemboraw_restart_flat(
         (run spare_times.new spare_places.new spare_marks.new spare_sinces.new)
         board.new (levels opens.new counts.new wholes.new rests.new) }
 {
-    let told = flat_said(
-        true,
-        *record,
-        kinds,
-        ns,
-        limits,
+    let table = Table { kinds, ns, limits };
+    let mut cells = CellsMut {
         times,
         places,
         marks,
         sinces,
-        spare_times,
-        spare_places,
-        spare_marks,
-        spare_sinces,
-        board,
-        update,
-        dt,
-        fuel,
+    };
+    let mut spare = CellsMut {
+        times: spare_times,
+        places: spare_places,
+        marks: spare_marks,
+        sinces: spare_sinces,
+    };
+    let answers = Answers {
         statuses,
         leftovers,
+    };
+    let mut room = Room {
         opens,
         counts,
         wholes,
         rests,
-    );
-    *record = told.record;
-    told.said
+    };
+    let event = event_of(update, dt);
+    said(
+        &mut room, record, &table, &mut cells, &mut spare, board, event, fuel, &answers, true,
+    )
 }
 
 // The exchange of a branch that has not been started: the tree with the branch at a place replaced is written to the
 // room; on any answer but 0 nothing is written.
 #[unsafe(no_mangle)]
+#[tactic(auto, unfolding(host::specs::Host::host_exchange))]
 pub extern "C" fn lemboraw_exchange(
     record: Record,
     kinds: &[u8],
@@ -293,28 +296,28 @@ pub extern "C" fn lemboraw_exchange(
         ≡ host_exchanged result (room room_kinds.new room_ns.new room_limits.new room_times.new
         room_places.new room_marks.new room_sinces.new) }
 {
-    let answer = exchange::exchange(
-        record,
-        kinds,
-        ns,
-        limits,
+    let table = Table { kinds, ns, limits };
+    let cells = Cells {
         times,
         places,
         marks,
         sinces,
-        at,
-        new_kinds,
-        new_ns,
-        new_limits,
-        room_kinds,
-        room_ns,
-        room_limits,
-        room_times,
-        room_places,
-        room_marks,
-        room_sinces,
-    );
-    answer.said()
+    };
+    let branch = Table {
+        kinds: new_kinds,
+        ns: new_ns,
+        limits: new_limits,
+    };
+    let mut to = TreeMut {
+        kinds: room_kinds,
+        ns: room_ns,
+        limits: room_limits,
+        times: room_times,
+        places: room_places,
+        marks: room_marks,
+        sinces: room_sinces,
+    };
+    ExchangeSaid::from(exchange::exchange(record, &table, &cells, at, &branch, &mut to))
 }
 
 // How many ticks ago a branch was made fresh: the tick count less the number in its cell, with wrap.
@@ -338,6 +341,5 @@ pub extern "C" fn lemboraw_memory(kind: u8, on: bool) -> u8
 pub extern "C" fn lemboraw_bound(kinds: &[u8], ns: &[u16], limits: &[f64], step: f64) -> Bound
     ensures { result ≡ bound_of (bound_call binary64 kinds.now ns.now limits.now step) }
 {
-    let answer = finish_bound(kinds, ns, limits, step);
-    bound_of(answer)
+    Bound::from(finish_bound(&Table { kinds, ns, limits }, step))
 }

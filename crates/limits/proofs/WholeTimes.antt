@@ -5,21 +5,16 @@ use lib.Ieee.{Float, Format, nan, inf, fin, binary32, binary64, up, down, lt, fi
 use lib.Ieee.Bits.{is_true, of_bits-to_bits}
 use lib.Ieee.Fits.{and_l, and_r, down_pos, of_int-fits}
 use lib.Ieee.Back.{unsigned_back, Float-back_unsigned}
-use Rattle.rules.specs.Bound.{cap, num, whole_time, within, own_ticks}
-use Rattle.limits.specs.declared.whole.Whole.{Whole}
-use Rattle.limits.specs.declared.whole.Whole.TheVariants.{Yes, No}
+use Rattle.rules.specs.Bound.{cap, num, whole_time, own_ticks}
+use Rattle.std.specs.Prelude.{Option, Some, None}
+use Rattle.std.specs.Int.{div_ceil}
+use Rattle.std.proofs.lemmas.Grind.{div_ceil_times}
+use Rattle.std.proofs.Math.Nat.{div-eq_of_lt-le, add-mul, one-mul}
 use Rattle.limits.specs.Whole.{whole_of}
-use Rattle.limits.specs.declared.ticks.Ticks.{Ticks}
-use Rattle.limits.specs.Ticks.{clipped}
 
--- ---- a float that is compared is a number
-pub below_no_nan : (y x : Float) → lt y x ≡ true → T (not (is_nan x))
-unfolding lt is_nan
-below_no_nan nan nan e = subst T (sym e) tt
-below_no_nan (inf s) nan e = subst T (sym e) tt
-below_no_nan (fin s m d) nan e = subst T (sym e) tt
-below_no_nan y (inf s) e = tt
-below_no_nan y (fin s m d) e = tt
+-- ---- division that rounds up
+rounded_up : (l d : ℕ) → 0 < d → (l + (d - 1)) / d ≡ div_ceil l d
+rounded_up l d h = let b = div_ceil_times l d h in div-eq_of_lt-le d (omega arith) (rw (add-mul, one-mul) (omega arith))
 
 -- ---- the largest whole time, in either format
 pub cap_most : (F : Format) → cap F ≤ 2 ^ 40
@@ -41,10 +36,10 @@ module _ (F : Format) where
   unfolding whole_time
   whole_small x h = leb→le (num x) (cap F) (and_r (in_unsigned F 64 x) (leb (num x) (cap F)) h)
 
-  whole_no : (x : Float) → (T (whole_time F x) → ⊥) → No ≡ whole_of F x
+  whole_no : (x : Float) → (T (whole_time F x) → ⊥) → None ≡ whole_of F x
   whole_no x = go (whole_time F x)
     where
-      go : (b : Bool) → (T b → ⊥) → No ≡ cond b (Yes (num x)) No
+      go : (b : Bool) → (T b → ⊥) → None ≡ cond b (Some (num x)) None
       go true h = absurd (h tt)
       go false h = refl
 
@@ -63,7 +58,7 @@ module _ (F : Format) where
 
   -- ---- the ways through the test
   module _ (x : Float) (n : ℕ) (f : T (fits F x)) (e : n ≡ to_unsigned 64 x) where
-    pub whole_yes : n ≤ cap F → to_bits F (of_int F (pos n)) ≡ to_bits F x → Yes n ≡ whole_of F x
+    pub whole_yes : n ≤ cap F → to_bits F (of_int F (pos n)) ≡ to_bits F x → Some n ≡ whole_of F x
     unfolding whole_time num
     whole_yes h q =
         let back = of_bits-to_bits F (of_int F (pos n)) (of_int-fits F (pos n)) in
@@ -72,10 +67,10 @@ module _ (F : Format) where
         let small : leb n (cap F) ≡ true = le-leb n (cap F) h in
         rw (test, ← e, small)
 
-    pub whole_other : (to_bits F (of_int F (pos n)) ≡ to_bits F x → ⊥) → No ≡ whole_of F x
+    pub whole_other : (to_bits F (of_int F (pos n)) ≡ to_bits F x → ⊥) → None ≡ whole_of F x
     whole_other q = whole_no x (λ t. q (ap (to_bits F) (rw e (Float-back_unsigned F 64 x f (whole_in x t)).1)))
 
-  pub whole_large : (x : Float) (n : ℕ) → n ≡ to_unsigned 64 x → cap F < n → No ≡ whole_of F x
+  pub whole_large : (x : Float) (n : ℕ) → n ≡ to_unsigned 64 x → cap F < n → None ≡ whole_of F x
   unfolding num
   whole_large x n e h = whole_no x (λ t. not-le_of_lt h (rw e (whole_small x t)))
 
@@ -96,39 +91,30 @@ module _ (F : Format) where
   in_low (fin true m e) t = absurd (and_r (whole F (fin true m e)) false t)
   in_low (fin false m e) t = lt→ltb 0 (1 * 2 ^ 0 * down e + m * up e * 1) (omega (arith, down_pos e))
 
-  pub whole_high : (x : Float) → lt x (fin false 1 (pos 64)) ≡ false → No ≡ whole_of F x
+  pub whole_high : (x : Float) → lt x (fin false 1 (pos 64)) ≡ false → None ≡ whole_of F x
   whole_high x h = whole_no x (λ t. subst T h (in_high x (whole_in x t)))
 
-  pub whole_low : (x : Float) → lt (fin true 1 (pos 0)) x ≡ false → No ≡ whole_of F x
+  pub whole_low : (x : Float) → lt (fin true 1 (pos 0)) x ≡ false → None ≡ whole_of F x
   whole_low x h = whole_no x (λ t. subst T h (in_low x (whole_in x t)))
 
   -- ---- the ticks of a limit, w being what is found of it
-  module _ (x : Float) (w : Whole) (e : w ≡ whole_of F x) where
-    pub whole_known : (n : ℕ) → w ≡ Yes n → (whole_time F x ≡ true) × (n ≡ num x) × (n ≤ cap F)
+  module _ (x : Float) (w : Option ℕ) (e : w ≡ whole_of F x) where
+    pub whole_known : (n : ℕ) → w ≡ Some n → (whole_time F x ≡ true) × (n ≡ num x) × (n ≤ cap F)
     whole_known n q = go (whole_time F x) refl (whole_small x) (sym q ∙ e)
       where
         go :
-            (b : Bool) → whole_time F x ≡ b → (T b → num x ≤ cap F) → Yes n ≡ cond b (Yes (num x)) No →
+            (b : Bool) → whole_time F x ≡ b → (T b → num x ≤ cap F) → Some n ≡ cond b (Some (num x)) None →
             (whole_time F x ≡ true) × (n ≡ num x) × (n ≤ cap F)
         go true t h f = let q : n ≡ num x = cc in (t, q, rw q (h tt))
         go false t h f = let z : ◌≡◌ {A = ℕ} 0 1 = cc in absurd (omega arith)
 
-    pub whole_some : (n : ℕ) → w ≡ Yes n → whole_time F x ≡ true
-    whole_some n q = (whole_known n q).0
-
-    pub whole_none : w ≡ No → whole_time F x ≡ false
+    pub whole_none : w ≡ None → whole_time F x ≡ false
     whole_none q = go (whole_time F x) (sym q ∙ e)
       where
-        go : (b : Bool) → No ≡ cond b (Yes (num x)) No → b ≡ false
+        go : (b : Bool) → None ≡ cond b (Some (num x)) None → b ≡ false
         go true f = let z : ◌≡◌ {A = ℕ} 0 1 = cc in absurd (omega arith)
         go false f = refl
 
-    pub no_ticks : (r s : Ticks) → w ≡ No → whole_time F x ≡ true → r ≡ s
-    no_ticks r s q h = let n = whole_none q in let z : ◌≡◌ {A = ℕ} 0 1 = cc in absurd (omega arith)
-
-    module _ (d l : ℕ) (q : w ≡ Yes l) (r : Ticks) where
-      pub ticks_one : (l + (d - 1)) / d < 1 → r ≡ clipped (within 1) → r ≡ clipped (within (own_ticks d x))
-      ticks_one h f = let m : max 1 ((l + (d - 1)) / d) ≡ 1 = omega arith in rw (← (whole_known l q).1, m) f
-
-      pub ticks_more : 1 ≤ (l + (d - 1)) / d → r ≡ clipped (within ((l + (d - 1)) / d)) → r ≡ clipped (within (own_ticks d x))
-      ticks_more h f = let m : max 1 ((l + (d - 1)) / d) ≡ (l + (d - 1)) / d = omega arith in rw (← (whole_known l q).1, m) f
+    -- the larger of 1 and l/d rounded up
+    pub rounded : (d l : ℕ) → w ≡ Some l → 0 < d → max (div_ceil l d) 1 ≡ own_ticks d x
+    rounded d l q h = let e = rounded_up l d h in rw (← (whole_known l q).1, e) (omega arith)

@@ -9,8 +9,7 @@ use Rattle.rules.specs.Tree.{Cell, Tree, node, Forest, [], ◌◂◌}
 use Rattle.rules.specs.Bound.{Lim, never, within, sum_l, max_l, min_l, times_l, whole_time, own_ticks, bound}
 use Rattle.limits.specs.declared.node.Join.{Join}
 use Rattle.limits.specs.declared.node.Join.TheVariants.{Sum, Largest, Smallest, Product}
-use Rattle.limits.specs.declared.ticks.Ticks.{Ticks}
-use Rattle.limits.specs.Ticks.{clipped}
+use Rattle.limits.specs.Ticks.{Ticks, clipped}
 
 -- how the children behind the first count together
 abbrev pub join_of : Kind → Join

@@ -1,17 +1,19 @@
 -- What a number of ticks stands for: the numbers above 2 ^ 53 are all one.
-use Rattle.std.specs.Prelude.{ℕ, ◌+◌, min}
+use Rattle.std.specs.Prelude.{ℕ, ◌+◌, min, Option, Some, None}
 use Rattle.rules.specs.Bound.{Lim, never, within, most_ticks}
-use Rattle.limits.specs.declared.ticks.Ticks.{Ticks}
-use Rattle.limits.specs.declared.ticks.Ticks.TheVariants.{Never, Within}
 
 -- the first number that is not told
 abbrev pub above : ℕ
 above = most_ticks + 1
 
+-- a `Ticks`, since antt has no name for an alias
+abbrev pub Ticks : Type 0
+Ticks = Option ℕ
+
 abbrev pub lim : Ticks → Lim
-lim Never = never
-lim (Within n) = within n
+lim None = never
+lim (Some n) = within n
 
 abbrev pub clipped : Lim → Ticks
-clipped never = Never
-clipped (within n) = Within (min n above)
+clipped never = None
+clipped (within n) = Some (min n above)

@@ -4,8 +4,8 @@
 
 mod node;
 mod ticks;
-mod whole;
+mod time;
 
 pub use node::{Join, alone, bounded, together};
-pub use ticks::Ticks;
-pub use whole::{Whole, own_ticks};
+pub use ticks::{ABOVE, Ticks, larger, product, smaller, sum, ticks_of, told};
+pub use time::{MOST_WHOLE, own_ticks, whole, whole_limit};

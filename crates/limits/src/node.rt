@@ -5,12 +5,12 @@ ghost use Rattle.rules.specs.Table.{cleaned};
 ghost use Rattle.limits.specs.Ticks.{lim, clipped};
 ghost use Rattle.limits.specs.Node.{join_of, none_l, join_l, Alone, Together, row_bounded};
 
-use crate::ticks::Ticks;
-use crate::whole::Whole;
+use crate::ticks::{Ticks, larger, product, smaller, sum};
+use crate::time::whole_limit;
 use rules::Kind;
 
-// How the ticks of several nodes count together.
-#[derive(Clone, Copy)]
+// How the ticks of several nodes count together: four cases of one definition, and none of them is a caller's own.
+#[derive(Clone, Copy, PartialEq, Eq)]
 pub enum Join {
     Sum,
     Largest,
@@ -24,10 +24,8 @@ impl Join {
         ensures { result ≡ join_of kind }
     {
         match kind {
-            Kind::Select | Kind::Sequence => Join::Sum,
-            Kind::If => Join::Largest,
-            Kind::WhileAll => Join::Sum,
-            Kind::WhenAll | Kind::WhenAny | Kind::After => Join::Largest,
+            Kind::Select | Kind::Sequence | Kind::WhileAll => Join::Sum,
+            Kind::If | Kind::WhenAll | Kind::WhenAny | Kind::After => Join::Largest,
             _ => Join::Smallest,
         }
     }
@@ -37,10 +35,9 @@ impl Join {
         ensures { result ≡ clipped (none_l self) }
     {
         match self {
-            Join::Sum => Ticks::Within(0),
-            Join::Largest => Ticks::Within(1),
-            Join::Smallest => Ticks::Never,
-            Join::Product => Ticks::Within(1),
+            Join::Sum => Some(0),
+            Join::Largest | Join::Product => Some(1),
+            Join::Smallest => None,
         }
     }
 
@@ -49,27 +46,29 @@ impl Join {
         ensures { result ≡ clipped (join_l self (lim all) (lim one)) }
     {
         match self {
-            Join::Sum => all.sum(one),
-            Join::Largest => all.larger(one),
-            Join::Smallest => all.smaller(one),
-            Join::Product => all.product(one),
+            Join::Sum => sum(all, one),
+            Join::Largest => larger(all, one),
+            Join::Smallest => smaller(all, one),
+            Join::Product => product(all, one),
         }
     }
 }
 
 // A node without children.
+#[tactic(auto, unfolding(rules::specs::Bound::bound))]
 pub fn alone(kind: Kind, own: Ticks) -> Ticks
     ensures { Alone kind own result }
 {
     match kind {
         Kind::Wait => own,
-        Kind::MemorylessSequence | Kind::MemorylessSelector => Ticks::Within(1),
-        Kind::WhenAll | Kind::WhenAny | Kind::After => Ticks::Within(1),
-        _ => Ticks::Never,
+        Kind::MemorylessSequence | Kind::MemorylessSelector => Some(1),
+        Kind::WhenAll | Kind::WhenAny | Kind::After => Some(1),
+        _ => None,
     }
 }
 
 // A node with children.
+#[tactic(auto, unfolding(rules::specs::Bound::bound))]
 pub fn together(kind: Kind, own: Ticks, first: Ticks, rest: Ticks) -> Ticks
     ensures { Together kind own first rest result }
 {
@@ -80,7 +79,7 @@ pub fn together(kind: Kind, own: Ticks, first: Ticks, rest: Ticks) -> Ticks
         Kind::WhileAll => Join::Product.with(first, rest),
         Kind::WhenAll | Kind::WhenAny | Kind::After => Join::Largest.with(first, rest),
         Kind::Race => Join::Smallest.with(first, rest),
-        _ => Ticks::Never,
+        _ => None,
     }
 }
 
@@ -89,14 +88,8 @@ pub fn bounded(kind: Kind, n: u16, limit: f64) -> bool
     ensures { result ≡ row_bounded binary64 kind n (cleaned limit) }
 {
     if kind.timed() {
-        match Whole::of_limit(limit) {
-            Whole::Yes(_) => true,
-            Whole::No => false,
-        }
+        whole_limit(limit).is_some()
     } else {
-        match kind {
-            Kind::After => n != 0,
-            _ => true,
-        }
+        kind != Kind::After || n != 0
     }
 }

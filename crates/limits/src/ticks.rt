@@ -6,102 +6,50 @@ ghost use Rattle.limits.specs.Ticks.{lim, clipped};
 
 use rules::BoundAnswer;
 
-#[derive(Clone, Copy)]
-pub enum Ticks {
-    Never,
-    Within(u64),
+// None: it never ends.
+pub type Ticks = Option<u64>;
+
+// The first number that is not told.
+pub const ABOVE: u64 = 9007199254740993;
+
+pub fn ticks_of(n: u64) -> Ticks
+    ensures { result ≡ clipped (within n) }
+{
+    Some(n.min(ABOVE))
 }
 
-impl Ticks {
-    // The first number that is not told.
-    pub const ABOVE: u64 = 9007199254740993;
+// "A sum, product or largest with none in it is none".
+pub fn sum(a: Ticks, b: Ticks) -> Ticks
+    ensures { result ≡ clipped (sum_l (lim a) (lim b)) }
+{
+    ticks_of(a?.saturating_add(b?))
+}
 
-    pub fn of(n: u64) -> Ticks
-        ensures { result ≡ clipped (within n) }
-    {
-        if n < Ticks::ABOVE {
-            Ticks::Within(n)
-        } else {
-            Ticks::Within(Ticks::ABOVE)
-        }
-    }
+pub fn larger(a: Ticks, b: Ticks) -> Ticks
+    ensures { result ≡ clipped (max_l (lim a) (lim b)) }
+{
+    ticks_of(a?.max(b?))
+}
 
-    // "A sum, product or largest with none in it is none".
-    pub fn sum(self, other: Ticks) -> Ticks
-        ensures { result ≡ clipped (sum_l (lim self) (lim other)) }
-    {
-        match self {
-            Ticks::Never => Ticks::Never,
-            Ticks::Within(a) => match other {
-                Ticks::Never => other,
-                Ticks::Within(b) => if b > u64::MAX - a {
-                    Ticks::Within(Ticks::ABOVE)
-                } else {
-                    Ticks::of(a + b)
-                },
-            },
-        }
-    }
+pub fn product(a: Ticks, b: Ticks) -> Ticks
+    ensures { result ≡ clipped (times_l (lim a) (lim b)) }
+{
+    ticks_of(a?.saturating_mul(b?))
+}
 
-    pub fn larger(self, other: Ticks) -> Ticks
-        ensures { result ≡ clipped (max_l (lim self) (lim other)) }
-    {
-        match self {
-            Ticks::Never => Ticks::Never,
-            Ticks::Within(a) => match other {
-                Ticks::Never => Ticks::Never,
-                Ticks::Within(b) => if a < b { Ticks::of(b) } else { Ticks::of(a) },
-            },
-        }
-    }
+// The smallest that one has.
+pub fn smaller(a: Ticks, b: Ticks) -> Ticks
+    ensures { result ≡ clipped (min_l (lim a) (lim b)) }
+{
+    ticks_of(a.or(b)?.min(b.or(a)?))
+}
 
-    pub fn product(self, other: Ticks) -> Ticks
-        ensures { result ≡ clipped (times_l (lim self) (lim other)) }
-    {
-        match self {
-            Ticks::Never => Ticks::Never,
-            Ticks::Within(a) => match other {
-                Ticks::Never => Ticks::Never,
-                Ticks::Within(b) => {
-                    if b == 0 {
-                        return Ticks::Within(0);
-                    }
-                    if a > Ticks::ABOVE / b {
-                        Ticks::Within(Ticks::ABOVE)
-                    } else {
-                        Ticks::Within(a * b)
-                    }
-                }
-            },
-        }
-    }
-
-    // The smallest that one has.
-    pub fn smaller(self, other: Ticks) -> Ticks
-        ensures { result ≡ clipped (min_l (lim self) (lim other)) }
-    {
-        match self {
-            Ticks::Never => match other {
-                Ticks::Never => Ticks::Never,
-                Ticks::Within(b) => Ticks::of(b),
-            },
-            Ticks::Within(a) => match other {
-                Ticks::Never => Ticks::of(a),
-                Ticks::Within(b) => if a < b { Ticks::of(a) } else { Ticks::of(b) },
-            },
-        }
-    }
-
-    pub fn told(self) -> BoundAnswer
-        ensures { result ≡ told (lim self) }
-    {
-        match self {
-            Ticks::Never => BoundAnswer::Never,
-            Ticks::Within(n) => if n < Ticks::ABOVE {
-                BoundAnswer::Within(n)
-            } else {
-                BoundAnswer::Above
-            },
-        }
+pub fn told(ticks: Ticks) -> BoundAnswer
+    ensures { result ≡ told (lim ticks) }
+{
+    match ticks {
+        None => BoundAnswer::Never,
+        Some(n) if n < ABOVE => BoundAnswer::Within(n),
+        Some(_) => BoundAnswer::Above,
     }
 }

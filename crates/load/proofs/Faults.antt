@@ -5,7 +5,7 @@ use mathlib.Core.List.{List}
 use Prim.Native.Nat.{ℕ, suc, ◌+◌, ◌-◌, ◌≤◌, ◌<◌}
 use native.Mathlib.Nat.{add-zero}
 use native.Mathlib.Omega.{arith}
-use borrow.Author.Tests.{ne_eqb}
+use Rattle.std.proofs.Common.{Option, Some, None}
 use lib.Ieee.{Float}
 use lib.ListN.{length, get_or, set, drop}
 use lib.Seq.{get_or-set_same, get_or-set_other, drop-drop}
@@ -15,26 +15,26 @@ use Rattle.rules.specs.Tree.{Cell, Tree, node, Forest, [], ◌◂◌, size, size
 use Rattle.rules.specs.Cells.{cells, with_cells, with_cells_all, cell_allowed, ended_in, Found, faulty, none, bad_cell, bad_cells}
 use Rattle.tables.proofs.Scan.{Frame, frame, onto, made}
 use Rattle.cells.proofs.Held.{cell_at, drop_cells}
-use Rattle.cells.specs.Check.{first_of}
+use Rattle.load.specs.Scans.{first_of}
 use Rattle.load.specs.Trees.{drop_with}
 
 -- a bad cell stays the first
-first_stays : (s : ℕ) (fine : Bool) (q : ℕ) → s < 256 → first_of s fine q ≡ s
-first_stays s true q h = refl
-first_stays s false q h = rw (ne_eqb s 256 (omega arith))
+first_stays : (p : ℕ) (fine : Bool) (q : ℕ) → first_of (Some p) fine q ≡ Some p
+first_stays p true q = refl
+first_stays p false q = refl
 
--- s is the place of a bad cell, or 256 where there is none before `stop`
-abbrev pub Agrees : ℕ → Found → ℕ → Type 0
-Agrees s (faulty p) stop = (s ≡ p) × (p < 256)
-Agrees s (none at) stop = (s ≡ 256) × (at ≡ stop)
+-- s is the place of the first bad cell before `stop`
+abbrev pub Agrees : Option ℕ → Found → ℕ → Type 0
+Agrees s (faulty p) stop = s ≡ Some p
+Agrees s (none at) stop = (s ≡ None) × (at ≡ stop)
 
-pub found_none : (f : Found) (s stop : ℕ) → Agrees s f stop → s ≡ 256 → f ≡ none stop
-found_none (faulty p) s stop (e, h) z = absurd (omega arith)
+pub found_none : (f : Found) (s : Option ℕ) (stop : ℕ) → Agrees s f stop → s ≡ None → f ≡ none stop
+found_none (faulty p) s stop e z = cc
 found_none (none at) s stop (e, i) z = ap none i
 
-pub found_at : (f : Found) (s stop : ℕ) → Agrees s f stop → (s ≡ 256 → ⊥) → f ≡ faulty s
-found_at (faulty p) s stop (e, h) z = ap faulty (sym e)
-found_at (none at) s stop (e, i) z = absurd (z e)
+pub found_at : (f : Found) (s : Option ℕ) (stop : ℕ) → Agrees s f stop → (p : ℕ) → s ≡ Some p → f ≡ faulty p
+found_at (faulty q) s stop e p z = cc
+found_at (none at) s stop (e, i) p z = cc
 
 module _ (times : List Float) (places marks : List ℕ) where
   abbrev cell : ℕ → Cell
@@ -45,75 +45,74 @@ module _ (times : List Float) (places marks : List ℕ) where
 
   -- the first bad cell once a tree is passed that begins at q, from what was the first before it
   unfoldable mutual
-    pub pass : Bool → Bool → ℕ → Tree → ℕ → ℕ
+    pub pass : Bool → Bool → ℕ → Tree → Option ℕ → Option ℕ
     pass e m q (node k n l c b ts) s = pass_all (e || ended_in (cell q)) (marks_children k) (suc q) ts (first_of s (cell_allowed e m k n (cell q)) q)
 
-    pub pass_all : Bool → Bool → ℕ → Forest → ℕ → ℕ
+    pub pass_all : Bool → Bool → ℕ → Forest → Option ℕ → Option ℕ
     pass_all e m q [] s = s
     pass_all e m q (t ◂ ts) s = pass_all e m (q + size t) ts (pass e m q t s)
 
   mutual
     unfolding pass
 
-    pass_stays : (t : Tree) (e m : Bool) (q s : ℕ) → s < 256 → pass e m q t s ≡ s
-    pass_stays (node k n l c b ts) e m q s h =
-        ap (pass_all (e || ended_in (cell q)) (marks_children k) (suc q) ts) (first_stays s (cell_allowed e m k n (cell q)) q h)
-        ∙ all_stay ts (e || ended_in (cell q)) (marks_children k) (suc q) s h
+    pass_stays : (t : Tree) (e m : Bool) (q p : ℕ) → pass e m q t (Some p) ≡ Some p
+    pass_stays (node k n l c b ts) e m q p =
+        ap (pass_all (e || ended_in (cell q)) (marks_children k) (suc q) ts) (first_stays p (cell_allowed e m k n (cell q)) q)
+        ∙ all_stay ts (e || ended_in (cell q)) (marks_children k) (suc q) p
 
-    all_stay : (ts : Forest) (e m : Bool) (q s : ℕ) → s < 256 → pass_all e m q ts s ≡ s
-    all_stay [] e m q s h = refl
-    all_stay (t ◂ ts) e m q s h = ap (pass_all e m (q + size t) ts) (pass_stays t e m q s h) ∙ all_stay ts e m (q + size t) s h
+    all_stay : (ts : Forest) (e m : Bool) (q p : ℕ) → pass_all e m q ts (Some p) ≡ Some p
+    all_stay [] e m q p = refl
+    all_stay (t ◂ ts) e m q p = ap (pass_all e m (q + size t) ts) (pass_stays t e m q p) ∙ all_stay ts e m (q + size t) p
 
   -- ---- it is the rules' smallest bad cell
-  join : (f : Found) (rest : ℕ → Found) (then : ℕ → ℕ) (s stop end : ℕ)
+  join : (f : Found) (rest : ℕ → Found) (then : Option ℕ → Option ℕ) (s : Option ℕ) (stop end : ℕ)
       → Agrees s f stop
-      → ((p : ℕ) → p < 256 → then p ≡ p)
-      → Agrees (then 256) (rest stop) end
+      → ((p : ℕ) → then (Some p) ≡ Some p)
+      → Agrees (then None) (rest stop) end
       → Agrees (then s) (elim f [ faulty p ↦ faulty p | none at ↦ rest at ]) end
-  join (faulty p) rest then s stop end (e, h) stays more = (ap then e ∙ stays p h, h)
+  join (faulty p) rest then s stop end e stays more = ap then e ∙ stays p
   join (none at) rest then s stop end (e, i) stays more = rw (e, i) more
 
-  at_node : (b : Bool) (f : Found) (then : ℕ → ℕ) (q end : ℕ)
-      → q < 256
-      → ((p : ℕ) → p < 256 → then p ≡ p)
-      → Agrees (then 256) f end
-      → Agrees (then (first_of 256 b q)) (cond b f (faulty q)) end
-  at_node true f then q end h stays more = more
-  at_node false f then q end h stays more = (stays q h, h)
+  at_node : (b : Bool) (f : Found) (then : Option ℕ → Option ℕ) (q end : ℕ)
+      → ((p : ℕ) → then (Some p) ≡ Some p)
+      → Agrees (then None) f end
+      → Agrees (then (first_of None b q)) (cond b f (faulty q)) end
+  at_node true f then q end stays more = more
+  at_node false f then q end stays more = stays q
 
   mutual
     unfolding pass bad_cell with_cells size
 
-    pass_is : (t : Tree) (e m : Bool) (q : ℕ) → q + size t ≤ length run → q + size t ≤ 256
-        → Agrees (pass e m q t 256) (bad_cell e m q (with_cells t (drop q run)).0) (q + size t)
-    pass_is (node k n l c b ts) e m q long low =
-        let inner = all_is ts (e || ended_in (cell q)) (marks_children k) (suc q) (omega arith) (omega arith) in
+    pass_is : (t : Tree) (e m : Bool) (q : ℕ) → q + size t ≤ length run
+        → Agrees (pass e m q t None) (bad_cell e m q (with_cells t (drop q run)).0) (q + size t)
+    pass_is (node k n l c b ts) e m q long =
+        let inner = all_is ts (e || ended_in (cell q)) (marks_children k) (suc q) (omega arith) in
         let end : suc q + sizes ts ≡ q + suc (sizes ts) = omega arith in
         rw (drop_cells times places marks q (omega arith)) (at_node (cell_allowed e m k n (cell q))
         (bad_cells (e || ended_in (cell q)) (marks_children k) (suc q) (with_cells_all ts (drop (suc q) run)).0)
-        (pass_all (e || ended_in (cell q)) (marks_children k) (suc q) ts) q (q + suc (sizes ts)) (omega arith)
-        (λ p h. all_stay ts (e || ended_in (cell q)) (marks_children k) (suc q) p h) (rw end at inner))
+        (pass_all (e || ended_in (cell q)) (marks_children k) (suc q) ts) q (q + suc (sizes ts))
+        (λ p. all_stay ts (e || ended_in (cell q)) (marks_children k) (suc q) p) (rw end at inner))
 
-    all_is : (ts : Forest) (e m : Bool) (q : ℕ) → q + sizes ts ≤ length run → q + sizes ts ≤ 256
-        → Agrees (pass_all e m q ts 256) (bad_cells e m q (with_cells_all ts (drop q run)).0) (q + sizes ts)
-    all_is [] e m q long low = (refl, sym (add-zero q))
-    all_is (t ◂ ts) e m q long low =
-        let first = pass_is t e m q (omega arith) (omega arith) in
-        let rest = all_is ts e m (q + size t) (omega arith) (omega arith) in
+    all_is : (ts : Forest) (e m : Bool) (q : ℕ) → q + sizes ts ≤ length run
+        → Agrees (pass_all e m q ts None) (bad_cells e m q (with_cells_all ts (drop q run)).0) (q + sizes ts)
+    all_is [] e m q long = (refl, sym (add-zero q))
+    all_is (t ◂ ts) e m q long =
+        let first = pass_is t e m q (omega arith) in
+        let rest = all_is ts e m (q + size t) (omega arith) in
         let cut : (with_cells t (drop q run)).1 ≡ drop (q + size t) run = drop_with t (drop q run) ∙ drop-drop (size t) q run in
         let end : q + size t + sizes ts ≡ q + (size t + sizes ts) = omega arith in
-        let more = subst (λ (cs : List Cell). Agrees (pass_all e m (q + size t) ts 256) (bad_cells e m (q + size t) (with_cells_all ts cs).0) (q + (size t + sizes ts)))
+        let more = subst (λ (cs : List Cell). Agrees (pass_all e m (q + size t) ts None) (bad_cells e m (q + size t) (with_cells_all ts cs).0) (q + (size t + sizes ts)))
         (sym cut) (rw end at rest) in
         join (bad_cell e m q (with_cells t (drop q run)).0) (λ at. bad_cells e m at (with_cells_all ts (with_cells t (drop q run)).1).0)
-        (pass_all e m (q + size t) ts) (pass e m q t 256) (q + size t) (q + (size t + sizes ts)) first
-        (λ p h. all_stay ts e m (q + size t) p h) more
+        (pass_all e m (q + size t) ts) (pass e m q t None) (q + size t) (q + (size t + sizes ts)) first
+        (λ p. all_stay ts e m (q + size t) p) more
 
   -- what is found of the whole tree
-  pub finds : (t : Tree) (s : ℕ) → size t ≤ length run → size t ≤ 256 → s ≡ pass false false 0 t 256
+  pub finds : (t : Tree) (s : Option ℕ) → size t ≤ length run → s ≡ pass false false 0 t None
       → Agrees s (bad_cell false false 0 (with_cells t run).0) (size t)
-  finds t s long low e =
+  finds t s long e =
       let zero : 0 + size t ≡ size t = omega arith in
-      rw e (rw zero at (pass_is t false false 0 (omega arith) (omega arith)))
+      rw e (rw zero at (pass_is t false false 0 (omega arith)))
 
   -- ---- children that are read, the last first
   sizes_onto : (kids ts : Forest) → sizes (onto kids ts) ≡ sizes (onto kids []) + sizes ts
@@ -121,7 +120,7 @@ module _ (times : List Float) (places marks : List ℕ) where
   sizes_onto [] ts = omega arith
   sizes_onto (t ◂ kids) ts = omega (arith, sizes_onto kids (t ◂ ts), sizes_onto kids (t ◂ []))
 
-  pass_onto : (kids ts : Forest) (e m : Bool) (q s : ℕ)
+  pass_onto : (kids ts : Forest) (e m : Bool) (q : ℕ) (s : Option ℕ)
       → pass_all e m q (onto kids ts) s ≡ pass_all e m (q + sizes (onto kids [])) ts (pass_all e m q (onto kids []) s)
   unfolding pass size
   pass_onto [] ts e m q s = rw (add-zero q)
@@ -141,10 +140,10 @@ module _ (times : List Float) (places marks : List ℕ) where
   may_of (List.◌∷◌ (frame p k n l kids m) σ) = marks_children k
 
   -- s is the first bad cell before `at`
-  abbrev Celled : List Frame → ℕ → ℕ → Type 0
-  Celled List.[] s at = s ≡ 256
+  abbrev Celled : List Frame → Option ℕ → ℕ → Type 0
+  Celled List.[] s at = s ≡ None
   Celled (List.◌∷◌ (frame p k n l kids m) σ) s at =
-      (s₀ : ℕ) × (Celled σ s₀ p × ((suc p + sizes (onto kids []) ≡ at) ×
+      (s₀ : Option ℕ) × (Celled σ s₀ p × ((suc p + sizes (onto kids []) ≡ at) ×
       (s ≡ pass_all (ended_of σ || ended_in (cell p)) (marks_children k) (suc p) (onto kids []) (first_of s₀ (cell_allowed (ended_of σ) (may_of σ) k n (cell p)) p))))
 
   -- the code's arrays have for each open node what is said around it
@@ -153,21 +152,21 @@ module _ (times : List Float) (places marks : List ℕ) where
   Flags under may (List.◌∷◌ f σ) = (get_or under (length σ) false ≡ ended_of σ) × ((get_or may (length σ) false ≡ may_of σ) × Flags under may σ)
 
   -- what is known where a tree is next, and where one is read
-  pub record Known (under may : List Bool) (ended mayEnd : Bool) (s at : ℕ) (σ : List Frame) : Type 0 where
+  pub record Known (under may : List Bool) (ended mayEnd : Bool) (s : Option ℕ) (at : ℕ) (σ : List Frame) : Type 0 where
     cells_are : Celled σ s at
     flags : Flags under may σ
     pub is_ended : ended ≡ ended_of σ
     pub is_may : mayEnd ≡ may_of σ
 
-  pub record Done (under may : List Bool) (ended mayEnd : Bool) (s : ℕ) (t : Tree) (q : ℕ) (σ : List Frame) : Type 0 where
-    before : ℕ
+  pub record Done (under may : List Bool) (ended mayEnd : Bool) (s : Option ℕ) (t : Tree) (q : ℕ) (σ : List Frame) : Type 0 where
+    before : Option ℕ
     cells_are : Celled σ before q
     passes : s ≡ pass (ended_of σ) (may_of σ) q t before
     flags : Flags under may σ
     is_ended : ended ≡ ended_of σ
     is_may : mayEnd ≡ may_of σ
 
-  pub first_known : (under may : List Bool) → Known under may false false 256 0 List.[]
+  pub first_known : (under may : List Bool) → Known under may false false None 0 List.[]
   first_known under may = record { cells_are = refl; flags = tt; is_ended = refl; is_may = refl }
 
   flags_keep : (under may : List Bool) (i : ℕ) (a b : Bool) (σ : List Frame) → length σ ≤ i → Flags under may σ → Flags (set under i a) (set may i b) σ
@@ -177,7 +176,7 @@ module _ (times : List Float) (places marks : List ℕ) where
     (get_or-set_other may i (length σ) b false (omega arith) ∙ y, flags_keep under may i a b σ (omega arith) f),
   )
 
-  module _ {under may : List Bool} {ended mayEnd : Bool} {s at : ℕ} where
+  module _ {under may : List Bool} {ended mayEnd : Bool} {s : Option ℕ} {at : ℕ} where
     -- the cell at `at` is looked at
     module _ (k : Kind) (n : ℕ) (l : Float) (fine : Bool) (is : fine ≡ cell_allowed ended mayEnd k n (cell at)) where
       looked : (σ : List Frame) → Known under may ended mayEnd s at σ → fine ≡ cell_allowed (ended_of σ) (may_of σ) k n (cell at)
@@ -212,7 +211,7 @@ module _ (times : List Float) (places marks : List ℕ) where
         is_may = refl;
       }
 
-  module _ {under may : List Bool} {ended mayEnd : Bool} {s : ℕ} where
+  module _ {under may : List Bool} {ended mayEnd : Bool} {s : Option ℕ} where
     module _ (p : ℕ) (k : Kind) (n : ℕ) (l : Float) (kids : Forest) (m : ℕ) (σ : List Frame) (t : Tree) (q : ℕ)
         (h : Done under may ended mayEnd s t q (List.◌∷◌ (frame p k n l kids m) σ)) where
       -- the children up to t
@@ -240,5 +239,5 @@ module _ (times : List Float) (places marks : List ℕ) where
           let f = h.flags in
           rw top (record { before = c.0; cells_are = c.1.0; passes = upto; flags = f.1.1; is_ended = f.0; is_may = f.1.0 })
 
-  pub root_passes : {under may : List Bool} {ended mayEnd : Bool} {s : ℕ} (t : Tree) → Done under may ended mayEnd s t 0 List.[] → s ≡ pass false false 0 t 256
+  pub root_passes : {under may : List Bool} {ended mayEnd : Bool} {s : Option ℕ} (t : Tree) → Done under may ended mayEnd s t 0 List.[] → s ≡ pass false false 0 t None
   root_passes {s} t h = rw (← h.cells_are) h.passes

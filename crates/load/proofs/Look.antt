@@ -1,6 +1,6 @@
 -- The invariant of the two loops of the pass, and what each way through a turn makes of it.
 use mathlib.Core.Path.{◌≡◌, refl, sym, ap, subst, ◌∙◌}
-use mathlib.Core.Bool.{Bool, true, false, ◌||◌}
+use mathlib.Core.Bool.{Bool, true, false, ◌||◌, false≢true}
 use mathlib.Core.List.{List}
 use Prim.Native.Nat.{ℕ, zero, suc, ◌+◌, ◌-◌, ◌≤◌, ◌<◌, min}
 use native.Mathlib.Omega.{arith}
@@ -14,18 +14,18 @@ use Rattle.rules.specs.Tree.{zero_time, size}
 use Rattle.rules.specs.Table as T
 use Rattle.rules.specs.Table.{most_deep, cleaned, rows, row_allowed, got, fault, read_tree, table, good, bad}
 use Rattle.rules.specs.Cells.{cells, with_cells, cell_allowed, ended_in, bad_cell}
-use Rattle.tables.specs.declared.table.Row.{Row}
-use Rattle.tables.specs.declared.table.Row.TheVariants as row
+use Rattle.std.proofs.Common.{Option, Some, None, Ok, Err, IsErr, IsErrAnd}
+use Rattle.lent.specs.Lengths.{rows_length, cells_length}
 use Rattle.tables.specs.Checks.{row_of}
-use Rattle.tables.proofs.Rows.{length_rows, row_bad, row_allowed_lem, row_children, any_default}
+use Rattle.tables.proofs.Rows.{row_bad, row_allowed_lem, row_children, any_default}
 use Rattle.tables.proofs.Depth.{read_depth}
 use Rattle.tables.proofs.Scan.{Reading, Closing, start, past, too_deep, refuses, ends_alike, descends, leaves, nexts, begins_before, closes, Whole, whole}
-use Rattle.cells.proofs.Held.{cell_at, length_cells}
+use Rattle.cells.proofs.Held.{cell_at}
 use Rattle.work.specs.Word.{below_of}
 use Rattle.refine.specs.Words.{pack}
-use Rattle.load.specs.declared.pass.Scanned.TheVariants.{Faulty, Good}
-use Rattle.cells.specs.Check.{first_of}
-use Rattle.load.specs.Scans.{scanned_as, with_below, Passes, Lent, Scans}
+use Rattle.load.specs.declared.found.Fault.TheVariants as F
+use Rattle.load.specs.declared.found.Fault.{Fault}
+use Rattle.load.specs.Scans.{Scanned, first_of, with_below, Passes, Lent, Scans}
 use Rattle.load.proofs.Faults.{Agrees, Known, Done, first_known, leaf_done, opened, next_known, close_done, root_passes, finds, found_none, found_at}
 use Rattle.load.proofs.Ends.{ends_of, ends_long, end_at, set_end, below_none, below_with, Packed, packed_new, packed_with, packed_other, packed_loads}
 
@@ -63,13 +63,13 @@ pub record In (kinds ns : List ℕ) (limits times : List Float) (places marks : 
 pub all_in : {kinds ns : List ℕ} {limits times : List Float} {places marks : List ℕ} {n at : ℕ}
     → Lent kinds ns limits times places marks n → at < min (length (rows kinds ns limits)) 256 → In kinds ns limits times places marks at
 all_in {kinds = kinds} {ns = ns} {limits = limits} lent h =
-    let long = length_rows kinds ns limits in
+    let long = rows_length kinds ns limits in
     record { in_table = h; in_kinds = omega arith; in_ns = omega arith; in_limits = omega arith; in_times = omega arith; in_places = omega arith; in_marks = omega arith }
 
 -- the node at `at`: how many children its row tells, its word, and whether its cell is one that it allows; the code reads the limit with a default of its own
 pub record Node
     (kinds ns : List ℕ) (limits times : List Float) (places marks : List ℕ) (ended mayEnd : Bool) (at c w : ℕ) (fine : Bool) : Type 0 where
-  pub told : row_of (get_or kinds at 0) (get_or ns at 0) (cleaned (get_or limits at nan)) ≡ row.Children c
+  pub told : row_of (get_or kinds at 0) (get_or ns at 0) (cleaned (get_or limits at nan)) ≡ Some c
   pub packed : w ≡ pack 0 (get_or kinds at 0) (get_or places at 0) (get_or marks at 0) false 0
   pub looks : fine ≡ cell_allowed ended mayEnd (kind_of (get_or kinds at 0)) (get_or ns at 0) (cell_at times places marks at)
 
@@ -91,11 +91,11 @@ moved f long low inside room = record {
 
 module _ (kinds ns : List ℕ) (limits times : List Float) (places marks : List ℕ) where
   -- a tree is next, or one has ended; s is the first bad cell so far
-  abbrev pub Nodes : List ℕ → List ℕ → List ℕ → List Bool → List Bool → List ℕ → ℕ → ℕ → Bool → Bool → ℕ → ℕ → Type 0
+  abbrev pub Nodes : List ℕ → List ℕ → List ℕ → List Bool → List Bool → List ℕ → ℕ → ℕ → Bool → Bool → Option ℕ → ℕ → Type 0
   Nodes ws₀ begins owed under may ws open' left ended mayEnd s at = Kept kinds ns limits places marks
       (Reading kinds ns limits most_deep (Known times places marks under may ended mayEnd s at) begins owed (ends_of ws) open' left at) ws₀ begins owed under may ws open' at
 
-  abbrev pub Ended : List ℕ → List ℕ → List ℕ → List Bool → List Bool → List ℕ → ℕ → ℕ → Bool → Bool → ℕ → ℕ → Type 0
+  abbrev pub Ended : List ℕ → List ℕ → List ℕ → List Bool → List Bool → List ℕ → ℕ → ℕ → Bool → Bool → Option ℕ → ℕ → Type 0
   Ended ws₀ begins owed under may ws open' left ended mayEnd s at = Kept kinds ns limits places marks
       (Closing kinds ns limits most_deep (Done times places marks under may ended mayEnd s) begins owed (ends_of ws) open' left at) ws₀ begins owed under may ws open' at
 
@@ -115,6 +115,12 @@ refused : (kinds ns : List ℕ) (limits : List Float) (at : ℕ) → read_tree m
 unfolding table
 refused kinds ns limits at e = rw e
 
+-- what is made of the table's fault
+pub bad_table : (kinds ns : List ℕ) (limits times : List Float) (places marks : List ℕ) (fresh : Bool) (ws₀ ws : List ℕ) (r : Scanned) (p : ℕ)
+    → IsErr r × IsErrAnd r (λ (f : Fault). f ≡ F.Table p) → table kinds ns limits ≡ bad p → Scans kinds ns limits times places marks fresh ws₀ ws r
+bad_table kinds ns limits times places marks fresh ws₀ ws (Ok n) p h e = absurd (false≢true h.0)
+bad_table kinds ns limits times places marks fresh ws₀ ws (Err f) p h e = rw h.1 e
+
 -- ---- Waits that are plainly good, of which the innermost node has one more
 pub record Leaf
     (kinds ns : List ℕ) (limits times : List Float) (places marks : List ℕ) (ended mayEnd : Bool) (ends : List ℕ) (i : ℕ) : Type 0 where
@@ -124,7 +130,7 @@ pub record Leaf
   ends_here : get_or ends i 0 ≡ i + 1
 
 module _ (kinds ns : List ℕ) (limits times : List Float) (places marks : List ℕ) (under may : List Bool) (ended mayEnd : Bool)
-    (begins owed ends : List ℕ) (open' s : ℕ) (room : open' < most_deep) where
+    (begins owed ends : List ℕ) (open' : ℕ) (s : Option ℕ) (room : open' < most_deep) where
   abbrev At : ℕ → ℕ → Type 0
   At left at = Reading kinds ns limits most_deep (Known times places marks under may ended mayEnd s at) begins owed ends open' left at
 
@@ -153,7 +159,7 @@ module _ (kinds ns : List ℕ) (limits times : List Float) (places marks : List 
 module _ {kinds ns : List ℕ} {limits times : List Float} {places marks : List ℕ} where
   pub first : {begins owed : List ℕ} {under may : List Bool} {ws : List ℕ}
       → length begins ≡ most_deep → length owed ≡ most_deep → length under ≡ most_deep → length may ≡ most_deep → length ws ≡ 260
-      → Nodes kinds ns limits times places marks ws begins owed under may ws 0 1 false false 256 0
+      → Nodes kinds ns limits times places marks ws begins owed under may ws 0 1 false false None 0
   first {begins} {owed} {under} {may} {ws} lb lo lu lm lw = record {
     state = start kinds ns limits begins owed (ends_of ws) (first_known times places marks under may);
     fits = record { begins_long = lb; owed_long = lo; under_long = lu; may_long = lm; long = lw; low = omega arith; inside = omega arith; room = omega arith };
@@ -161,7 +167,7 @@ module _ {kinds ns : List ℕ} {limits times : List Float} {places marks : List 
     stays = λ i h. refl;
   }
 
-  module _ {ws₀ begins owed : List ℕ} {under may : List Bool} {ws : List ℕ} {open' left at s : ℕ} {ended mayEnd : Bool} where
+  module _ {ws₀ begins owed : List ℕ} {under may : List Bool} {ws : List ℕ} {open' left at : ℕ} {s : Option ℕ} {ended mayEnd : Bool} where
     -- ---- the answers
     pub at_end : Nodes kinds ns limits times places marks ws₀ begins owed under may ws open' left ended mayEnd s at → min (length (rows kinds ns limits)) 256 ≤ at → table kinds ns limits ≡ bad at
     at_end v h = refused kinds ns limits at (past kinds ns limits begins owed (ends_of ws) open' left at v.state h)
@@ -189,10 +195,10 @@ module _ {kinds ns : List ℕ} {limits times : List Float} {places marks : List 
 
         found : Agrees s (bad_cell false false 0 (with_cells w.tree (cells times places marks)).0) (size w.tree)
         found = finds times places marks w.tree s
-            (omega (arith, w.sized, all_rows, length_cells times places marks, lent.nodes, lent.times_long, lent.places_long, lent.marks_long))
-            (omega (arith, w.sized, v.fits.low)) (root_passes times places marks w.tree w.known)
+            (omega (arith, w.sized, all_rows, cells_length times places marks, lent.nodes, lent.times_long, lent.places_long, lent.marks_long))
+            (root_passes times places marks w.tree w.known)
 
-        pub accepted : s ≡ 256 → Scans kinds ns limits times places marks false ws₀ ws (Good at)
+        pub accepted : s ≡ None → Scans kinds ns limits times places marks false ws₀ ws (Ok at)
         accepted z = record {
           tree = w.tree;
           is = is_good;
@@ -207,16 +213,9 @@ module _ {kinds ns : List ℕ} {limits times : List Float} {places marks : List 
           words = packed_loads kinds places marks at ws₀ ws (omega (arith, v.fits.low, v.fits.long)) (v.fits.long ∙ sym long₀) v.words v.stays;
         }
 
-        pub faulted : (s ≡ 256 → ⊥) → Scans kinds ns limits times places marks false ws₀ ws (Faulty s)
-        faulted z =
-            (refl, record { tree = w.tree; is = is_good; sized = omega (arith, w.sized, all_rows); bad_at = found_at _ s (size w.tree) found z })
-
-        pub tells : Scans kinds ns limits times places marks false ws₀ ws (scanned_as s at)
-        tells = go (eqb s 256) refl
-          where
-            go : (b : Bool) → eqb s 256 ≡ b → Scans kinds ns limits times places marks false ws₀ ws (scanned_as s at)
-            go true e = rw e (accepted (eqb-true s 256 e))
-            go false e = rw e (faulted (eqb-false s 256 e))
+        pub faulted : {p : ℕ} → s ≡ Some p → Scans kinds ns limits times places marks false ws₀ ws (Err (F.Cell p))
+        faulted {p} z =
+            (refl, record { tree = w.tree; is = is_good; sized = omega (arith, w.sized, all_rows); bad_at = found_at _ s (size w.tree) found p z })
 
     -- ---- a run of plain Waits
     module _ {ws' : List ℕ} {to next : ℕ} (v : Nodes kinds ns limits times places marks ws₀ begins owed under may ws open' left ended mayEnd s at)
@@ -229,7 +228,7 @@ module _ {kinds ns : List ℕ} {limits times : List Float} {places marks : List 
           go true e none = absurd (omega (arith, a, b, run.upper, none e))
           go false e none =
               let p = run.plain i a b in
-              let in_limits : i < length limits = omega (arith, b, run.upper, inside, length_rows kinds ns limits) in
+              let in_limits : i < length limits = omega (arith, b, run.upper, inside, rows_length kinds ns limits) in
               let limit = any_default limits i nan zero_time in_limits in
               let is = rw limit at p.row in
               let below : below_of (get_or ws' i 0) ≡ 0 = ap below_of (run.word i a b) ∙ below_none (get_or kinds i 0) (get_or places i 0) (get_or marks i 0) in
@@ -282,15 +281,15 @@ module _ {kinds ns : List ℕ} {limits times : List Float} {places marks : List 
       owes = v.state.owes
 
       -- the code reads the limit with a default of its own
-      abbrev told : Row
+      abbrev told : Option ℕ
       told = row_of (get_or kinds at 0) (get_or ns at 0) (cleaned (get_or limits at nan))
 
       same : row_of (get_or kinds at 0) (get_or ns at 0) (cleaned (get_or limits at zero_time)) ≡ told
       same =
           ap (λ (l : Float). row_of (get_or kinds at 0) (get_or ns at 0) (cleaned l))
-          (any_default limits at zero_time nan (omega (arith, in_rows, length_rows kinds ns limits)))
+          (any_default limits at zero_time nan (omega (arith, in_rows, rows_length kinds ns limits)))
 
-      pub row_refused : told ≡ row.Bad → table kinds ns limits ≡ bad at
+      pub row_refused : told ≡ None → table kinds ns limits ≡ bad at
       row_refused h =
           refused kinds ns limits at (refuses kinds ns limits begins owed (ends_of ws) open' left at v.state low in_rows v.fits.room (row_bad _ _ _ (same ∙ h)))
 

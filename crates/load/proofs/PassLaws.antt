@@ -1,6 +1,6 @@
 -- A Wait that is plainly good, and a run of such Waits.
 use mathlib.Core.Path.{◌≡◌, refl, sym, ◌∙◌}
-use mathlib.Core.Bool.{Bool, true, false, ◌&&◌, and-true, false≢true}
+use mathlib.Core.Bool.{Bool, true, false, and-true, false≢true}
 use mathlib.Core.List.{List}
 use Prim.Native.Nat.{ℕ, zero, suc, ◌+◌, ◌*◌, ◌≤◌, ◌<◌}
 use native.Mathlib.Nat.{zero-mul, mul-pos, zero-lt-suc}
@@ -13,7 +13,7 @@ use lib.ListN.{length, get_or, set, length-set}
 use lib.Seq.{get_or-set_same, get_or-set_other}
 use Rattle.rules.specs.declared.behavior.Kind.TheVariants.{Wait}
 use Rattle.rules.specs.Kinds.{kind_of}
-use Rattle.rules.specs.Table.{cleaned, number, zero_bits, row_allowed}
+use Rattle.rules.specs.Table.{cleaned, number, row_allowed}
 use Rattle.rules.specs.Cells.{cell_of, elapsed, in_use, cell_allowed}
 use Rattle.refine.specs.Words.{pack}
 use Rattle.load.specs.Scans.{PlainWait, Passes}
@@ -41,19 +41,6 @@ between (fin true (suc m) e) a b =
 module _ (m : Bool) (x : Float) (k : ℕ) where
   pub unmarked : k ≡ 0 → elapsed x ≡ in_use m Wait 0 (cell_of x 0 k)
   unmarked h = rw h (sym (and-true (elapsed x)))
-
-  none : (a b : Bool) → false ≡ a && false && b && true
-  none true b = refl
-  none false b = refl
-
-  pub may_not : (k ≡ 0 → ⊥) → m ≡ false → false ≡ in_use m Wait 0 (cell_of x 0 k)
-  may_not h e = rw (ne_eqb k 0 h, e) (none (eqb k 1) (zero_bits x))
-
-  pub no_mark : (k ≡ 0 → ⊥) → (k ≡ 1 → ⊥) → false ≡ in_use m Wait 0 (cell_of x 0 k)
-  no_mark h g = rw (ne_eqb k 0 h, ne_eqb k 1 g)
-
-  pub marked : k ≡ 1 → m ≡ true → zero_bits x ≡ in_use m Wait 0 (cell_of x 0 k)
-  marked h e = rw (h, e) (sym (and-true (zero_bits x)))
 
 pub plain : (m : Bool) (k n p : ℕ) (l x : Float) (mark : ℕ) → k + n + p ≤ 0 → number (cleaned l) ≡ true → in_use m Wait 0 (cell_of x 0 mark) ≡ true → PlainWait m k n l x p mark
 unfolding row_allowed cell_allowed kind_of

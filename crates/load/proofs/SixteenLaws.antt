@@ -1,49 +1,82 @@
 -- Groups of sixteen nodes: what a fold by `|` tells, when a time and its limit are good, and words that are set to 0.
 use mathlib.Core.Path.{◌≡◌, refl, sym, ◌∙◌}
 use mathlib.Core.Bool.{Bool, true, false, not, ◌&&◌, ◌||◌, false≢true}
-use mathlib.Core.List.{List}
+use mathlib.Core.List.{List, [], ◌∷◌, ◌++◌}
 use Prim.Native.Nat.{ℕ, zero, suc, ◌+◌, ◌-◌, ◌*◌, ◌/◌, ◌%◌, ◌≤◌, ◌<◌}
 use native.Mathlib.Nat.{mul-pos, zero-lt-suc}
 use native.Mathlib.Omega.{arith}
-use borrow.Author.Count.{below_more}
 use borrow.Author.Tests.{eqb-true, eqb-false, lt-ltb, ltb-true, ltb-false}
-use lib.Bits.{bit_or}
 use lib.Dec.{T, eqb, ltb}
 use lib.Ieee.{Float, nan, inf, fin, binary64, fits, is_nan, of_bits, of_fields, to_bits, lt, eq, le, up, down}
 use lib.Ieee.Fits.{up_pos, down_pos}
-use lib.ListN.{length, get_or, set, length-set}
-use lib.Seq.{get_or-set_same, get_or-set_other}
+use borrow.Rule.Slice.PartMut.{mid_of}
+use lib.Bits.{bit_or}
+use lib.ListN.{length, get_or, set, take, drop, length-set, length-drop}
+use lib.Seq.{get_or-set_other}
+use Rattle.std.specs.List.{All, fold, zip}
+use Rattle.std.proofs.lemmas.Bool.{and_parts}
+use Rattle.std.proofs.lemmas.List.{get_or-take, get_or-drop, length-take-le}
+use Rattle.std.proofs.lemmas.List.Elements.{All-push, All-tail}
+use Rattle.work.proofs.Laws.{or_first, or_second}
 use Rattle.rules.specs.Table.{cleaned, number}
 use Rattle.rules.specs.Cells.{elapsed}
 use Rattle.tables.proofs.Bits.{elapsed_bits}
-use Rattle.work.proofs.Laws.{or_first, or_second}
 use Rattle.refine.specs.Words.{pack}
 use Rattle.load.specs.Scans.{PlainWait, Passes}
-use Rattle.load.specs.Sixteens.{Covers, Bare, Timed, Groups, Cleared}
+use Rattle.load.specs.Sixteens.{Bare, Timed, Groups, Cleared}
 use Rattle.load.proofs.PassLaws.{plain, unmarked}
 
--- ---- a fold by `|` is above each
-pub covers_none : {xs : List ℕ} {at all : ℕ} → Covers xs at 0 all
-covers_none = record { each = λ k h. absurd (omega arith) }
+-- ---- a fold over sixteen elements
+module _ {A : Type 0} (same : A → A → Bool) (z : A) where
+  abbrev pub zeros : Bool → A → Bool
+  zeros b x = b && same x z
 
-covers_more : {xs : List ℕ} {at n a b : ℕ} → Covers xs at n a → a ≤ b → get_or xs (at + n) 0 ≤ b → Covers xs at (n + 1) b
-covers_more {xs} {at} {n} {a} {b} h l here = record { each = below_more (λ k. get_or xs (at + k) 0 ≤ b) n (λ k i. let e = h.each k i in omega arith) here }
+  zero_more : (x : A) (xs : List A) → same x z ≡ true → ((i : ℕ) → i < length xs → same (get_or xs i z) z ≡ true)
+      → (i : ℕ) → i < length (x ∷ xs) → same (get_or (x ∷ xs) i z) z ≡ true
+  zero_more x xs e r zero h = e
+  zero_more x xs e r (suc i) h = r i (omega arith)
 
-abbrev folded : List ℕ → List ℕ → ℕ → ℕ → ℕ → ℕ
-folded xs ys at n all = bit_or (bit_or all (get_or xs (at + n) 0)) (get_or ys (at + n) 0)
+  all_zero : (b : Bool) (xs : List A) → fold zeros b xs ≡ true → (b ≡ true) × ((i : ℕ) → i < length xs → same (get_or xs i z) z ≡ true)
+  all_zero b [] e = (e, λ i h. absurd (omega arith))
+  all_zero b (x ∷ xs) e =
+      let on = all_zero (b && same x z) xs e in
+      let parts = and_parts b (same x z) on.0 in
+      (parts.0, zero_more x xs parts.1 on.1)
 
-module _ {xs ys : List ℕ} {at n all : ℕ} where
-  pub covers_both : Covers xs at n all → Covers ys at n all → (Covers xs at (n + 1) (folded xs ys at n all)) × (Covers ys at (n + 1) (folded xs ys at n all))
-  covers_both a b =
-      let x = get_or xs (at + n) 0 in
-      let y = get_or ys (at + n) 0 in
-      let p = or_first all x in
-      let q = or_second all x in
-      let r = or_first (bit_or all x) y in
-      (covers_more a (omega arith) (omega arith), covers_more b (omega arith) (or_second (bit_or all x) y))
+  pub part_zero : (at k : ℕ) (xs : List A) → at + k ≤ length xs → fold zeros true (mid_of at k xs) ≡ true
+      → (i : ℕ) → at ≤ i → i < at + k → same (get_or xs i z) z ≡ true
+  part_zero at k xs n e i g h =
+      let long : length (mid_of at k xs) ≡ k = length-take-le k (drop at xs) (rw length-drop (omega arith)) in
+      let on : at + (i - at) ≡ i = omega arith in
+      let here = (all_zero true (mid_of at k xs) e).1 (i - at) (omega arith) in
+      rw (get_or-take k (drop at xs) (i - at) z (omega arith), get_or-drop at xs (i - at) z, on) at here
 
-pub covers_zero : {xs : List ℕ} {at n all : ℕ} → Covers xs at n all → all ≤ 0 → (k : ℕ) → k < n → get_or xs (at + k) 0 ≡ 0
-covers_zero c z k h = let e = c.each k h in omega arith
+-- ---- a fold over times and limits
+abbrev pub Good : Float × Float → Type 0
+Good p = Timed p.1 p.0
+
+abbrev pub Below : List (Float × Float) → ℕ → Type 0
+Below ps all = all < 0x8000000000000000 → All Good ps
+
+pub below_push : (ps : List (Float × Float)) (p : Float × Float) (a r b : ℕ) → Below ps a → (r < 0x8000000000000000 → Good p) → b ≡ bit_or a r → Below (ps ++ (p ∷ [])) b
+below_push ps p a r b h g e low =
+    let l = or_first a r in
+    let m = or_second a r in
+    All-push Good ps p (h (omega arith)) (g (omega arith))
+
+good_at : (ts ls : List Float) → All Good (zip ts ls) → (i : ℕ) → i < length ts → i < length ls → Timed (get_or ls i nan) (get_or ts i nan)
+good_at [] ls h i m n = absurd (omega arith)
+good_at (t ∷ ts) [] h i m n = absurd (omega arith)
+good_at (t ∷ ts) (l ∷ ls) h zero m n = h 0 (t, l) (omega arith)
+good_at (t ∷ ts) (l ∷ ls) h (suc i) m n = good_at ts ls (All-tail Good (t, l) (zip ts ls) h) i (omega arith) (omega arith)
+
+pub timed_part : (n : ℕ) (ts ls : List Float) → n ≤ length ts → n ≤ length ls → All Good (zip (take n ts) (take n ls))
+    → (i : ℕ) → i < n → Timed (get_or ls i nan) (get_or ts i nan)
+timed_part n ts ls k m h i low =
+    let times = length-take-le n ts k in
+    let limits = length-take-le n ls m in
+    let here = good_at (take n ts) (take n ls) h i (omega arith) (omega arith) in
+    rw (get_or-take n ts i nan low, get_or-take n ls i nan low) at here
 
 -- ---- a time that is at most a limit, which is below infinity
 abbrev infinity : Float
@@ -137,20 +170,6 @@ groups_none l h = record {
   long = l;
   bare = λ b i e. absurd (false≢true (sym (h b i) ∙ e));
   timed = λ b i e. absurd (false≢true (sym (h b i) ∙ e));
-}
-
--- ---- words that are set to 0
-pub cleared_none : {ws : List ℕ} {at : ℕ} → length ws ≡ 260 → Cleared ws ws at 0
-cleared_none l = record { long = l; zeros = λ k h. absurd (omega arith); before = λ i h. refl; behind = λ i h. refl }
-
-pub cleared_more : {ws₀ ws : List ℕ} {at n : ℕ} → Cleared ws₀ ws at n → at + n < 260 → Cleared ws₀ (set ws (at + n) 0) at (n + 1)
-cleared_more {ws₀} {ws} {at} {n} c room = record {
-  long = length-set ws (at + n) 0 ∙ c.long;
-  zeros = below_more (λ k. get_or (set ws (at + n) 0) (at + k) 0 ≡ 0) n
-      (λ k h. get_or-set_other ws (at + n) (at + k) 0 0 (omega (arith, h)) ∙ c.zeros k h)
-      (get_or-set_same ws (at + n) 0 0 (omega (arith, c.long)));
-  before = λ i h. get_or-set_other ws (at + n) i 0 0 (omega (arith, h)) ∙ c.before i h;
-  behind = λ i h. get_or-set_other ws (at + n) i 0 0 (omega (arith, h)) ∙ c.behind i (omega (arith, h));
 }
 
 -- ---- sixteen Waits more

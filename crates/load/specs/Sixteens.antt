@@ -3,10 +3,8 @@ use Rattle.std.specs.Prelude.{◌≡◌, Bool, true, false, List, ℕ, ◌+◌, 
 use Rattle.std.specs.Float.{nan}
 use Rattle.rules.specs.Table.{cleaned, number}
 use Rattle.rules.specs.Cells.{elapsed}
-
--- none of the n numbers from `at` on is above `all`
-pub record Covers (xs : List ℕ) (at n all : ℕ) : Type 0 where
-  pub each : (k : ℕ) → k < n → get_or xs (at + k) 0 ≤ all
+use Rattle.lent.specs.declared.table.Table.{Table}
+use Rattle.lent.specs.declared.cells.Cells.{Cells}
 
 -- a Wait without place and mark, as far as it is not a matter of limit and time
 pub record Bare (kinds ns places marks : List ℕ) (i : ℕ) : Type 0 where
@@ -25,6 +23,9 @@ pub record Groups (kinds ns : List ℕ) (limits times : List Float) (places mark
   pub long : length plain ≡ 16
   pub bare : (b : ℕ) → b < 16 → get_or plain b false ≡ true → (k : ℕ) → k < 16 → Bare kinds ns places marks (16 * b + 1 + k)
   pub timed : (b : ℕ) → b < 16 → get_or plain b false ≡ true → (k : ℕ) → k < 16 → Timed (get_or limits (16 * b + 1 + k) nan) (get_or times (16 * b + 1 + k) nan)
+
+abbrev pub GroupsIn : Table → Cells → List Bool → Type 0
+GroupsIn t c plain = Groups t.kinds.now t.ns.now t.limits.now c.times.now c.places.now c.marks.now plain
 
 -- the n words from `at` on are 0; all others stay
 pub record Cleared (ws₀ ws : List ℕ) (at n : ℕ) : Type 0 where

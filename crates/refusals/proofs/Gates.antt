@@ -1,76 +1,52 @@
 -- Each way through the checks leaves of the call what the rules say.
 use mathlib.Core.Path.{◌≡◌, refl, sym, ap, ◌∙◌}
-use mathlib.Core.Bool.{Bool, true, false, cond, not, ◌&&◌, ◌||◌}
+use mathlib.Core.Bool.{Bool, true, false, cond, not, ◌&&◌, ◌||◌, false≢true}
 use mathlib.Core.List.{List}
 use Prim.Native.Nat.{ℕ, ◌≤◌, ◌<◌}
 use native.Mathlib.Omega.{arith}
-use borrow.Author.Tests.{leb-true, lt-ltb, le-ltb}
+use Rattle.std.proofs.Common.{Option, Some, None, ok_or, Result, Ok, Err, IsErr, IsErrAnd}
+use borrow.Author.Tests.{leb-true, leb-false, lt-ltb, le-ltb}
 use lib.Dec.{leb}
 use lib.Ieee.{Float, binary64}
 use lib.ListN.{length, replicate}
 use Rattle.rules.specs.declared.answer.Answer.{Answer}
 use Rattle.rules.specs.declared.answer.Answer.TheVariants.{BadTable, TooShort, BadCell, BadTime, BadAnswer, Finished, NoRoom}
 use Rattle.rules.specs.declared.event.Event.{Event}
-use Rattle.rules.specs.declared.event.Event.TheVariants.{Update}
 use Rattle.rules.specs.Outcome.{Out, world, done, asks, short}
-use Rattle.rules.specs.Table.{most_deep, cleaned, number, Table, good, bad, rows, table}
+use Rattle.rules.specs.Table.{most_deep, Table, good, bad, rows, table}
 use Rattle.rules.specs.Tree.{Tree, fresh, size}
 use Rattle.rules.specs.Cells.{Found, faulty, none, bad_cell}
-use Rattle.rules.specs.Call.{Given, Left, run_length, bad_answer, cleaned_event, time_allowed, refused, walked, too_short, on_table, on_inputs, at_entry, walk_from, tick_call, restart_call}
+use Rattle.rules.specs.Call.{Run, Given, Left, run_length, bad_answer, cleaned_event, time_allowed, refused, walked, too_short, on_table, on_inputs, at_entry, walk_from, tick_call, restart_call}
 use Rattle.rules.specs.Levels.{Levels, flat_left, entries, cleared, of_walk, no_room, with_room}
 use Rattle.laws.specs.Tables.{tabled, fresh_fine}
 use Rattle.laws.specs.Fresh.{made_fresh}
 use Rattle.laws.specs.Memory.{held}
 use Rattle.laws.specs.Zeros.{with_event, same_event, same_walk}
-use Rattle.tables.specs.declared.number.Number.{Number}
-use Rattle.tables.specs.declared.number.Number.TheVariants as number
-use Rattle.tables.specs.declared.answers.Answered.{Answered}
-use Rattle.tables.specs.declared.answers.Answered.TheVariants as answered
-use Rattle.tables.specs.declared.table.Checked.{Checked}
-use Rattle.tables.specs.declared.table.Checked.TheVariants as checked
-use Rattle.tables.specs.Checks.{number_of, answered_of, first_bad, Standing, Tabled}
+use Rattle.tables.specs.declared.table.BadTable.{BadTable as Misplaced}
+use Rattle.tables.specs.Checks.{answered_of, first_bad, Standing, Tabled}
 use Rattle.tables.proofs.Good.{found_good, found_bad}
 use Rattle.cells.specs.Long.{Long, long}
-use Rattle.load.specs.declared.pass.Scanned.{Scanned}
-use Rattle.load.specs.declared.pass.Scanned.TheVariants.{Bad, Faulty, Good}
-use Rattle.load.specs.Scans.{Lent, Fault, Accepted, Scans}
-use Rattle.refusals.specs.declared.gate.Gate.{Gate}
-use Rattle.refusals.specs.declared.gate.Gate.TheVariants.{Refused, Open}
-use Rattle.refusals.specs.declared.gate.Timed.{Timed as Chosen}
-use Rattle.refusals.specs.declared.gate.Timed.TheVariants as timed
-use Rattle.refusals.specs.Due.{call_of, whole_call, entries_of, begun, walk_with, Due, unmatched_as, Unmatched, timed_of, Refuses, Passed}
+use Rattle.load.specs.declared.found.Fault.{Fault}
+use Rattle.load.specs.declared.found.Fault.TheVariants as fault
+use Rattle.load.specs.Scans as S
+use Rattle.load.specs.Scans.{Scanned, Lent, Accepted, Scans}
+use Rattle.refusals.specs.Due.{call_of, whole_call, entries_of, begun, walk_with, Due, unmatched_as, Unmatched, timed_of, short_for, refused_as, Refuses, Passed}
 
 -- ---- what the check of answers said
-answered_bad : (o : Found) (r : Answered) (i : ℕ) → r ≡ answered_of o → r ≡ answered.Bad i → o ≡ faulty i
+answered_bad : (o : Found) (r : Option ℕ) (i : ℕ) → r ≡ answered_of o → r ≡ Some i → o ≡ faulty i
 answered_bad (faulty q) r i e h = cc
 answered_bad (none q) r i e h = cc
 
-answered_good : (o : Found) (r : Answered) → r ≡ answered_of o → r ≡ answered.Good → (q : ℕ) × (o ≡ none q)
+answered_good : (o : Found) (r : Option ℕ) → r ≡ answered_of o → r ≡ None → (q : ℕ) × (o ≡ none q)
 answered_good (faulty q) r e h = (0, cc)
 answered_good (none q) r e h = (q, refl)
 
-number_test : (b : Bool) (x y : Float) → cond b (number.Good x) number.Bad ≡ number.Good y → (b ≡ true) × (y ≡ x)
-number_test true x y e = (refl, cc)
-number_test false x y e = (cc, cc)
-
-no_number_test : (b : Bool) (x : Float) → cond b (number.Good x) number.Bad ≡ number.Bad → b ≡ false
-no_number_test true x e = cc
-no_number_test false x e = refl
-
--- the time of an update
-module _ {x : Float} {e : Event} {r : Number} (i : e ≡ Update x) (k : r ≡ number_of x) where
-  pub time_used : (y : Float) → r ≡ number.Good y → timed.Good (Update y) ≡ timed_of e
-  time_used y h = let t = number_test (number (cleaned x)) (cleaned x) y (sym k ∙ h) in rw (i, t.0, t.1)
-
-  pub time_refused : r ≡ number.Bad → timed.Bad ≡ timed_of e
-  time_refused h = rw (i, no_number_test (number (cleaned x)) (cleaned x) (sym k ∙ h))
-
 -- the event to use
-used_test : (b : Bool) (e u : Event) → cond b (timed.Good e) timed.Bad ≡ timed.Good u → (b ≡ true) × (u ≡ e)
+used_test : (b : Bool) (e u : Event) → cond b (Some e) None ≡ Some u → (b ≡ true) × (u ≡ e)
 used_test true e u h = (refl, cc)
 used_test false e u h = (cc, cc)
 
-unused_test : (b : Bool) (e : Event) → cond b (timed.Good e) timed.Bad ≡ timed.Bad → b ≡ false
+unused_test : (b : Bool) (e : Event) → cond b (Some e) None ≡ None → b ≡ false
 unused_test true e h = cc
 unused_test false e h = refl
 
@@ -150,16 +126,16 @@ module _ (fresh : Bool) (k : ℕ) (g : Given) {t : Tree} {n : ℕ} (is : table g
       bad_cell_lem e p b = behind_room _ (room_found ∙ rw (e, due_of, b)) refl
 
 -- which of the two, by the table's check alone
-module _ (kinds ns : List ℕ) (limits : List Float) (ends₀ ends : List ℕ) (r : Checked) (k : Tabled most_deep kinds ns limits ends₀ ends r) where
+module _ (kinds ns : List ℕ) (limits : List Float) (ends₀ ends : List ℕ) (r : Result ℕ Misplaced) (k : Tabled most_deep kinds ns limits ends₀ ends r) where
   sized_rows : (t : Tree) → table kinds ns limits ≡ good t → size t ≡ length (rows kinds ns limits)
   unfolding table
   sized_rows t e = let s : Standing most_deep kinds ns limits ends t = rw e at k.tree in sym s.nodes
 
-  pub unmatched_bad : (p : ℕ) → r ≡ checked.Bad p → Unmatched kinds ns limits (BadTable p)
+  pub unmatched_bad : (b : Misplaced) → r ≡ Err b → {a : Answer} → a ≡ BadTable b.0 → Unmatched kinds ns limits a
   unfolding table
-  unmatched_bad p e = record { says = rw (found_bad kinds ns limits ends₀ ends r k p e); sized = sized_rows }
+  unmatched_bad b e h = record { says = rw (found_bad kinds ns limits ends₀ ends r k b e) h; sized = sized_rows }
 
-  pub unmatched_good : (n : ℕ) → r ≡ checked.Good n → Unmatched kinds ns limits TooShort
+  pub unmatched_good : (n : ℕ) → r ≡ Ok n → Unmatched kinds ns limits TooShort
   unfolding table
   unmatched_good n e = record { says = rw (found_good kinds ns limits ends₀ ends r k n e).is; sized = sized_rows }
 
@@ -191,15 +167,9 @@ pub lent : (g : Given) (n : ℕ) → n ≡ length (rows g.kinds g.ns g.limits) �
     → Lent g.kinds g.ns g.limits g.cells'.times g.cells'.places g.cells'.marks n
 lent g n z e = let l = (all_long g n e).0 in record { nodes = z; times_long = l.times; places_long = l.places; marks_long = l.marks }
 
-module _ (kinds ns : List ℕ) (limits times : List Float) (places marks : List ℕ) (fresh : Bool) (ws₀ ws : List ℕ) (r : Scanned) (s : Scans kinds ns limits times places marks fresh ws₀ ws r) where
-  pub scan_bad : (p : ℕ) → r ≡ Bad p → table kinds ns limits ≡ bad p
-  scan_bad p e = rw e at s
-
-  pub scan_faulty : (p : ℕ) → r ≡ Faulty p → (fresh ≡ false) × Fault kinds ns limits times places marks p
-  scan_faulty p e = rw e at s
-
-  pub scan_good : (n : ℕ) → r ≡ Good n → ws₀ ≡ replicate 260 0 → Accepted kinds ns limits times places marks fresh (replicate 260 0) ws n
-  scan_good n e z = rw (e, z) at s
+-- the pass over the cells as they were lent
+abbrev pub Passing : Given → Bool → List ℕ → List ℕ → Scanned → Type 0
+Passing g fresh ws₀ ws r = Scans g.kinds g.ns g.limits g.cells'.times g.cells'.places g.cells'.marks fresh ws₀ ws r
 
 -- the table's tree and its words were found, it has its memory, and there is room
 pub record Fit (fresh : Bool) (k : ℕ) (g : Given) (ws : List ℕ) (n : ℕ) : Type 0 where
@@ -242,36 +212,56 @@ module _ {k : ℕ} {g : Given} {ws : List ℕ} {n : ℕ} where
       let f = t.accepted.fine refl in
       record { fit = t; behind = t.accepted.behind; fine = f; is = room_found false k g t.accepted.is t.accepted.sized t.long ∙ rw (due_of, f) }
 
--- what the pass found of a call whose memory is as long as its rows
-pub found :
-    {fresh : Bool} {k m : ℕ} (g : Given) {ws₀ ws : List ℕ} {r : Scanned} {n : ℕ}
-    → Scans g.kinds g.ns g.limits g.cells'.times g.cells'.places g.cells'.marks fresh ws₀ ws r
-    → r ≡ Good n
-    → ws₀ ≡ replicate 260 0
-    → m ≡ length (rows g.kinds g.ns g.limits)
-    → too_short g m ≡ false
-    → most_deep ≤ k
-    → Held fresh k g ws n
-found {fresh = fresh} g s e z m long room =
-    let a = scan_good g.kinds g.ns g.limits g.cells'.times g.cells'.places g.cells'.marks fresh _ _ _ s _ e z in
-    held_cells fresh (record { accepted = a; long = ap (λ (n : ℕ). too_short g n) (a.nodes ∙ sym m) ∙ long; entries = room })
+-- the cells are looked at through runs that are the same
+module _ (g : Given) {cs : Run} (c : cs ≡ g.cells') where
+  pub as_lent : (fresh : Bool) (ws₀ ws : List ℕ) (r : Scanned) → Scans g.kinds g.ns g.limits cs.times cs.places cs.marks fresh ws₀ ws r → Passing g fresh ws₀ ws r
+  as_lent fresh ws₀ ws r s = rw c at s
+
+  pub as_held : (n : ℕ) → Lent g.kinds g.ns g.limits g.cells'.times g.cells'.places g.cells'.marks n → Lent g.kinds g.ns g.limits cs.times cs.places cs.marks n
+  as_held n l = rw c l
+
+  pub as_short : {ss : Run} → ss ≡ g.spare → (n : ℕ) {r : Bool} → r ≡ short_for n cs ss g.board → r ≡ too_short g n
+  as_short s n e = rw (c, s) at e
+
+-- what the pass refused, and what it found, of a call whose memory is as long as its rows
+module _ (fresh : Bool) (k : ℕ) (g : Given) (m : ℕ) (is : m ≡ length (rows g.kinds g.ns g.limits)) (long : too_short g m ≡ false) where
+  pub refused_lem : (ws₀ ws : List ℕ) {r : Scanned} → Passing g fresh ws₀ ws r → (f : Fault) → r ≡ Err f → {a : Answer} → a ≡ refused_as f k → Refuses fresh k g a
+  refused_lem ws₀ ws s (fault.Table p) e h = rw h (bad_table fresh k g p (rw e at s))
+  refused_lem ws₀ ws s (fault.Cell p) e h =
+      let f : (fresh ≡ false) × S.Faulty g.kinds g.ns g.limits g.cells'.times g.cells'.places g.cells'.marks p = rw e at s in
+      go (leb most_deep k) refl h f
+    where
+      go : (b : Bool) → leb most_deep k ≡ b → {a : Answer} → a ≡ cond b (BadCell p) NoRoom
+          → (fresh ≡ false) × S.Faulty g.kinds g.ns g.limits g.cells'.times g.cells'.places g.cells'.marks p → Refuses fresh k g a
+      go true t h f = rw h (bad_cell_lem fresh k g f.1.is (f.1.sized ∙ sym is) long (leb-true most_deep k t) f.0 p f.1.bad_at)
+      go false t h f = rw h (no_room_lem fresh k g f.1.is (f.1.sized ∙ sym is) long (leb-false most_deep k t))
+
+  pub no_room_found : (ws₀ ws : List ℕ) {r : Scanned} {n : ℕ} → Passing g fresh ws₀ ws r → r ≡ Ok n → k < most_deep → Refuses fresh k g NoRoom
+  no_room_found ws₀ ws s e h =
+      let a = rw e at s in
+      no_room_lem fresh k g a.is (a.sized ∙ a.nodes ∙ sym is) long h
+
+  pub found : (ws₀ ws : List ℕ) {r : Scanned} {n : ℕ} → Passing g fresh ws₀ ws r → r ≡ Ok n → ws₀ ≡ replicate 260 0 → most_deep ≤ k → Held fresh k g ws n
+  found ws₀ ws s e z room =
+      let a = rw (e, z) at s in
+      held_cells fresh (record { accepted = a; long = ap (λ (n : ℕ). too_short g n) (a.nodes ∙ sym is) ∙ long; entries = room })
 
 module _ {fresh : Bool} {k : ℕ} {g : Given} {ws : List ℕ} {n : ℕ} where
   -- ---- 5
-  module _ (t : Held fresh k g ws n) {r : Chosen} (c : r ≡ timed_of g.event) where
-    pub bad_time : r ≡ timed.Bad → Refuses fresh k g BadTime
+  module _ (t : Held fresh k g ws n) {r : Option Event} (c : r ≡ timed_of g.event) where
+    pub bad_time : r ≡ None → Refuses fresh k g BadTime
     bad_time h = behind_fit t.fit _ (rw (t.is, unused_test (time_allowed g.event) (cleaned_event g.event) (sym c ∙ h))) refl
 
-    pub fine_time : (u : Event) → r ≡ timed.Good u → Timed fresh k g ws n u
+    pub fine_time : (u : Event) → r ≡ Some u → Timed fresh k g ws n u
     fine_time u h = let b = used_test (time_allowed g.event) (cleaned_event g.event) u (sym c ∙ h) in record { held = t; time = b.0; clean = b.1 }
 
   -- ---- 6
-  module _ {u : Event} (t : Timed fresh k g ws n u) {r : Answered} (c : r ≡ first_bad g.statuses g.leftovers) where
-    pub bad_answer_lem : (i : ℕ) → r ≡ answered.Bad i → Refuses fresh k g (BadAnswer i)
+  module _ {u : Event} (t : Timed fresh k g ws n u) {r : Option ℕ} (c : r ≡ first_bad g.statuses g.leftovers) where
+    pub bad_answer_lem : (i : ℕ) → r ≡ Some i → Refuses fresh k g (BadAnswer i)
     unfolding first_bad
     bad_answer_lem i h = behind_fit t.held.fit _ (rw (t.held.is, t.time, answered_bad (bad_answer 0 g.statuses g.leftovers) r i c h)) refl
 
-    pub fine_answers : r ≡ answered.Good → Answerable fresh k g ws n u
+    pub fine_answers : r ≡ None → Answerable fresh k g ws n u
     unfolding first_bad
     fine_answers h = let a = answered_good (bad_answer 0 g.statuses g.leftovers) r c h in record { timed = t; count = a.0; fine = a.1 }
 
@@ -316,19 +306,33 @@ module _ {fresh : Bool} {k : ℕ} {g : Given} {ws : List ℕ} {n : ℕ} where
           walks = walks f;
         }
 
-    pub due : (fresh ≡ false → g.record'.finished ≡ false) → Passed fresh k g ws (Open n u)
+    pub due : (fresh ≡ false → g.record'.finished ≡ false) → Passed fresh k g ws (Ok (n, u))
     due f = rw t.timed.clean (t.timed.held.fit.entries, used_alike fresh g, due_clean f)
 
+-- what `?` hands on
+pub handed : (fresh : Bool) (k : ℕ) (g : Given) (ws : List ℕ) (r : Result (ℕ × Event) Answer) (a : Answer)
+    → IsErr r × IsErrAnd r (λ (b : Answer). b ≡ a) → Refuses fresh k g a → Passed fresh k g ws r
+handed fresh k g ws (Ok p) a h f = absurd (false≢true h.0)
+handed fresh k g ws (Err b) a h f = rw h.1 f
+
+pub no_time : (o : Option Event) (a : Answer) → ok_or o BadTime ≡ Err a → (o ≡ None) × (a ≡ BadTime)
+no_time None a e = (refl, cc)
+no_time (Some u) a e = (cc, cc)
+
+pub a_time : (o : Option Event) (u : Event) → ok_or o BadTime ≡ Ok u → o ≡ Some u
+a_time None u e = cc
+a_time (Some v) u e = cc
+
 -- ---- what the checks leave, told by their answer
-module _ (fresh : Bool) (k : ℕ) (g : Given) (ws : List ℕ) (o : Gate) (p : Passed fresh k g ws o) where
-  pub passed_refused : (a : Answer) → o ≡ Refused a → Refuses fresh k g a
+module _ (fresh : Bool) (k : ℕ) (g : Given) (ws : List ℕ) (o : Result (ℕ × Event) Answer) (p : Passed fresh k g ws o) where
+  pub passed_refused : (a : Answer) → o ≡ Err a → Refuses fresh k g a
   passed_refused a e = rw e at p
 
-  pub passed_open : (n : ℕ) (u : Event) → o ≡ Open n u → Passed fresh k g ws (Open n u)
+  pub passed_open : (n : ℕ) (u : Event) → o ≡ Ok (n, u) → Passed fresh k g ws (Ok (n, u))
   passed_open n u e = rw e at p
 
   -- a walk leaves the entries zero
-  pub passed_on : (n : ℕ) (u : Event) (l : Left) → o ≡ Open n u → call_of fresh (with_event u g) ≡ l → (flat : Bool) (r r' : Levels) → entries_of flat r ≡ k → r' ≡ cond flat (cleared r) r
+  pub passed_on : (n : ℕ) (u : Event) (l : Left) → o ≡ Ok (n, u) → call_of fresh (with_event u g) ≡ l → (flat : Bool) (r r' : Levels) → entries_of flat r ≡ k → r' ≡ cond flat (cleared r) r
       → whole_call flat fresh g r ≡ flat_left l r'
   passed_on n u l e h true r r' q z =
       let passed = passed_open n u e in

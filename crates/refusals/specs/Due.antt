@@ -1,8 +1,8 @@
 -- What the checks before a walk leave of a call: a refusal, or the walk. A restart is a call whose walk starts fresh.
-use Rattle.std.specs.Prelude.{◌≡◌, Bool, true, false, cond, not, ◌||◌, List, ℕ, ◌≤◌, leb, Float, length, replicate}
+use Rattle.std.specs.Prelude.{◌≡◌, Bool, true, false, cond, not, ◌||◌, List, ℕ, ◌≤◌, leb, Float, length, replicate, Option, Some, None, Result, Ok, Err}
 use Rattle.std.specs.Float.{Format, binary64}
 use Rattle.rules.specs.declared.answer.Answer.{Answer}
-use Rattle.rules.specs.declared.answer.Answer.TheVariants.{BadTable, TooShort}
+use Rattle.rules.specs.declared.answer.Answer.TheVariants.{BadTable, TooShort, BadCell, NoRoom}
 use Rattle.rules.specs.declared.event.Event.{Event}
 use Rattle.rules.specs.Tree.{Cell, fresh_cell, Tree, size, depth}
 use Rattle.rules.specs.Outcome.{world, Out}
@@ -17,10 +17,8 @@ use Rattle.tables.specs.At.{At}
 use Rattle.cells.specs.Long.{Long}
 use Rattle.load.specs.Load.{load_words}
 use Rattle.load.specs.Scans.{start_from}
-use Rattle.refusals.specs.declared.gate.Gate.{Gate}
-use Rattle.refusals.specs.declared.gate.Gate.TheVariants.{Refused, Open}
-use Rattle.refusals.specs.declared.gate.Timed.{Timed}
-use Rattle.refusals.specs.declared.gate.Timed.TheVariants as timed
+use Rattle.load.specs.declared.found.Fault.{Fault}
+use Rattle.load.specs.declared.found.Fault.TheVariants as fault
 
 -- the calls of this build: their times are f64
 unfoldable pub call_of : Bool → Given → Left
@@ -80,14 +78,19 @@ pub record Unmatched (kinds ns : List ℕ) (limits : List Float) (a : Answer) : 
   pub sized : (t : Tree) → table kinds ns limits ≡ good t → size t ≡ length (rows kinds ns limits)
 
 -- the event to use
-abbrev pub timed_of : Event → Timed
-timed_of e = cond (time_allowed e) (timed.Good (cleaned_event e)) timed.Bad
+abbrev pub timed_of : Event → Option Event
+timed_of e = cond (time_allowed e) (Some (cleaned_event e)) None
+
+-- what is refused of a table or a cell; a bad cell is told only of k entries or more than a walk needs
+abbrev pub refused_as : Fault → ℕ → Answer
+refused_as (fault.Table p) k = BadTable p
+refused_as (fault.Cell p) k = cond (leb most_deep k) (BadCell p) NoRoom
 
 -- a refusal leaves the room as it is, of so many entries at hand
 abbrev pub Refuses : Bool → ℕ → Given → Answer → Type 0
 Refuses fresh k g a = (flat : Bool) (r : Levels) → entries_of flat r ≡ k → whole_call flat fresh g r ≡ flat_left (refused g a) r
 
 -- a refusal; or there is room, and the call is that with the event to use, of which the walk is left
-abbrev pub Passed : Bool → ℕ → Given → List ℕ → Gate → Type 0
-Passed fresh k g ws (Refused a) = Refuses fresh k g a
-Passed fresh k g ws (Open n e) = (most_deep ≤ k) × (call_of fresh (with_event e g) ≡ call_of fresh g) × Due fresh (with_event e g) ws n
+abbrev pub Passed : Bool → ℕ → Given → List ℕ → Result (ℕ × Event) Answer → Type 0
+Passed fresh k g ws (Err a) = Refuses fresh k g a
+Passed fresh k g ws (Ok (n, e)) = (most_deep ≤ k) × (call_of fresh (with_event e g) ≡ call_of fresh g) × Due fresh (with_event e g) ws n

@@ -1,158 +1,96 @@
 // The checks before a walk, in document 01's order.
 ghost use Rattle.std.specs.Prelude.{◌≡◌, ℕ, replicate};
-ghost use Rattle.rules.specs.Call.{run, given};
-ghost use Rattle.rules.specs.Levels.{levels};
-ghost use Rattle.refusals.specs.Due.{entries_of, timed_of, short_for, Unmatched, Passed};
+ghost use Rattle.lent.specs.Lent.{run_of, given_of};
+ghost use Rattle.refusals.specs.Due.{timed_of, short_for, Unmatched, refused_as, Passed};
 
-use cells::long_enough;
-use load::{Scanned, scan};
+use lent::{Answers, Cells, CellsMut, Table};
+use load::{Fault, scan};
 use rules::{Answer, Event, Record};
-use tables::{
-    Answered, Checked, MOST_DEEP, Number, bad_answer, check_table, least, number_of, rows_of,
-};
-
-// What is to be done: nothing but to answer, or the walk of a tree of so many nodes with an event.
-#[derive(Clone, Copy)]
-pub enum Gate {
-    Refused(Answer),
-    Open(usize, Event),
-}
+use tables::{MOST_DEEP, bad_answer, check_table, number_of};
 
 // The event to use.
-#[derive(Clone, Copy)]
-enum Timed {
-    Good(Event),
-    Bad,
-}
-
-fn event_of(event: Event) -> Timed
+fn event_of(event: Event) -> Option<Event>
     ensures { result ≡ timed_of event }
 {
     match event {
-        Event::Update(dt) => match number_of(dt) {
-            Number::Good(number) => Timed::Good(Event::Update(number)),
-            Number::Bad => Timed::Bad,
-        },
-        Event::Other => Timed::Good(Event::Other),
-    }
-}
-
-// How many entries are at hand. A walk with recursion needs no room, and finds enough.
-pub fn entries_of(opens: &[u64], counts: &[u32], wholes: &[f64], rests: &[f64], flat: bool) -> usize
-    ensures { result ≡ entries_of flat (levels opens.now counts.now wholes.now rests.now) }
-{
-    if flat {
-        least(
-            least(opens.len(), counts.len()),
-            least(wholes.len(), rests.len()),
-        )
-    } else {
-        16
+        Event::Update(dt) => Some(Event::Update(number_of(dt)?)),
+        Event::Other => Some(Event::Other),
     }
 }
 
 // Whether cells, spare or board have fewer than n entries.
-fn too_short(
-    times: &[f64],
-    places: &[u16],
-    marks: &[u8],
-    sinces: &[u64],
-    spare_times: &[f64],
-    spare_places: &[u16],
-    spare_marks: &[u8],
-    spare_sinces: &[u64],
-    board: &[u8],
-    n: usize,
-) -> bool
-    ensures { result ≡ short_for n (run times.now places.now marks.now sinces.now)
-        (run spare_times.now spare_places.now spare_marks.now spare_sinces.now) board.now }
+fn too_short(cells: &Cells, spare: &Cells, board: &[u8], n: usize) -> bool
+    ensures { result ≡ short_for n (run_of cells.now) (run_of spare.now) board.now }
 {
-    if !long_enough(times, places, marks, sinces, n) {
-        return true;
-    }
-    if !long_enough(spare_times, spare_places, spare_marks, spare_sinces, n) {
-        return true;
-    }
-    board.len() < n
+    cells.len() < n || spare.len() < n || board.len() < n
 }
 
 // Refusal 3 or 4, where memory is shorter than the table.
-fn unmatched(kinds: &[u8], ns: &[u16], limits: &[f64]) -> Answer
-    ensures { Unmatched kinds.now ns.now limits.now result }
+fn unmatched(table: &Table) -> Answer
+    ensures { Unmatched table.now.kinds.now table.now.ns.now table.now.limits.now result }
 {
     let mut ends = [0u16; 256];
-    match check_table(kinds, ns, limits, &mut ends, MOST_DEEP) {
-        Checked::Bad(p) => Answer::BadTable(p),
-        Checked::Good(_) => Answer::TooShort,
+    match check_table(table, &mut ends, MOST_DEEP) {
+        Err(bad) => Answer::from(bad),
+        Ok(_) => Answer::TooShort,
     }
 }
 
-// Refusals 3, 4, 13, 9, 5, 6 and 2; a tree that starts fresh knows no 9 and no 2. Of a tree that is due, work gets the words.
-// The lengths come first, for then one pass tells the others: a good table has a node in each of its rows.
+// Refusal 3, 13 or 9. A bad cell is told only where there is room.
+fn refused(fault: Fault, entries: usize) -> Answer
+    ensures { result ≡ refused_as fault entries }
+{
+    match fault {
+        Fault::Table(p) => Answer::BadTable(p),
+        Fault::Cell(p) => {
+            if 16 <= entries {
+                Answer::BadCell(p)
+            } else {
+                Answer::NoRoom
+            }
+        }
+    }
+}
+
+// Refusals 3, 4, 13, 9, 5, 6 and 2; a tree that starts fresh knows no 9 and no 2. Of a tree that is due, work gets the words, and how
+// many nodes it has is told, with the event to use. The lengths come first, for then one pass tells the others: a good table has a node
+// in each of its rows. In place: a call is compiled for each of what walks, and would else call out.
+#[inline(always)]
 pub fn checks(
     record: Record,
-    kinds: &[u8],
-    ns: &[u16],
-    limits: &[f64],
+    table: &Table,
     work: &mut [u32; 260],
-    times: &[f64],
-    places: &[u16],
-    marks: &[u8],
-    sinces: &[u64],
-    spare_times: &[f64],
-    spare_places: &[u16],
-    spare_marks: &[u8],
-    spare_sinces: &[u64],
+    cells: &CellsMut,
+    spare: &CellsMut,
     board: &[u8],
     event: Event,
-    statuses: &[u8],
-    leftovers: &[f64],
+    answers: &Answers,
     entries: usize,
     fresh: bool,
-) -> Gate
+) -> Result<(usize, Event), Answer>
     requires { work.old ≡ replicate 260 0 }
-    ensures { (fuel : ℕ) → Passed fresh entries (given «record» kinds.now ns.now limits.now
-        (run times.now places.now marks.now sinces.now)
-        (run spare_times.now spare_places.now spare_marks.now spare_sinces.now) board.now event fuel statuses.now
-        leftovers.now) work.new result }
+    ensures { (fuel : ℕ) → Passed fresh entries (given_of «record» table.now cells.now spare.now board.now event fuel answers.now)
+        work.new result }
 {
-    let rows = rows_of(kinds, ns, limits);
-    if too_short(
-        times,
-        places,
-        marks,
-        sinces,
-        spare_times,
-        spare_places,
-        spare_marks,
-        spare_sinces,
-        board,
-        rows,
-    ) {
-        return Gate::Refused(unmatched(kinds, ns, limits));
+    let rows = table.rows();
+    let lent = cells.as_cells();
+    if too_short(&lent, &spare.as_cells(), board, rows) {
+        return Err(unmatched(table));
     }
-    match scan(kinds, ns, limits, times, places, marks, work, rows, fresh) {
-        Scanned::Bad(p) => Gate::Refused(Answer::BadTable(p)),
-        Scanned::Faulty(p) => {
-            if 16 <= entries {
-                return Gate::Refused(Answer::BadCell(p));
-            }
-            Gate::Refused(Answer::NoRoom)
-        }
-        Scanned::Good(n) => {
-            if entries < 16 {
-                return Gate::Refused(Answer::NoRoom);
-            }
-            let Timed::Good(used) = event_of(event) else {
-                return Gate::Refused(Answer::BadTime);
-            };
-            if let Answered::Bad(i) = bad_answer(statuses, leftovers) {
-                return Gate::Refused(Answer::BadAnswer(i));
-            }
-            if !fresh && record.finished {
-                return Gate::Refused(Answer::Finished);
-            }
-            Gate::Open(n, used)
-        }
+    // A match: of `map_err` the proof knows nothing of the error's arm.
+    let n = match scan(table, &lent, work, rows, fresh) {
+        Ok(n) => n,
+        Err(fault) => return Err(refused(fault, entries)),
+    };
+    if entries < 16 {
+        return Err(Answer::NoRoom);
     }
+    let used = event_of(event).ok_or(Answer::BadTime)?;
+    if let Some(i) = bad_answer(answers) {
+        return Err(Answer::BadAnswer(i));
+    }
+    if !fresh && record.finished {
+        return Err(Answer::Finished);
+    }
+    Ok((n, used))
 }

@@ -3,4 +3,4 @@
 
 mod gate;
 
-pub use gate::{Gate, checks, entries_of};
+pub use gate::checks;

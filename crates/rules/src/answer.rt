@@ -1,7 +1,6 @@
 // What a call answers, and the record that stands between calls.
 ghost use Rattle.std.specs.Prelude.{◌≡◌};
-ghost use Rattle.rules.specs.Tree.{zero_time};
-ghost use Rattle.rules.specs.Call.{age, numbers, said_of};
+ghost use Rattle.rules.specs.Call.{age, said_of};
 
 use crate::status::Status;
 
@@ -24,10 +23,11 @@ pub struct Called {
 pub fn age(ticks: u64, since: u64) -> u64
     ensures { result ≡ age ticks since }
 {
-    std::num::wrapping_sub_u64(ticks, since)
+    ticks.wrapping_sub(since)
 }
 
-// What a tick and a restart can say, as a case for each number.
+// What a tick and a restart can say, as a case for each number of the C interface. No Result: a question and a
+// walk that ran out of fuel are answers of a walk, as an end is, and no errors.
 #[derive(Clone, Copy)]
 pub enum Answer {
     Ticked {
@@ -50,8 +50,9 @@ pub enum Answer {
     NoRoom,
 }
 
-// What the finish bound can say: a number of ticks, none, above 2^53; or 3 and 8.
-#[derive(Clone, Copy)]
+// What the finish bound can say: a number of ticks, none, above 2^53; or 3 and 8. Five cases in one: as `finish`'s
+// theorems (Answered) tell them apart.
+#[derive(Clone, Copy, PartialEq, Eq)]
 pub enum BoundAnswer {
     Within(u64),
     Never,
@@ -60,9 +61,9 @@ pub enum BoundAnswer {
     NoBound,
 }
 
-// An answer in document 01's numbers; a field that its line does not name is 0.
+// An answer in document 01's numbers, which the C interface needs; a field that its line does not name is 0.
 #[repr(C)]
-#[derive(Clone, Copy)]
+#[derive(Clone, Copy, Default)]
 pub struct Said {
     pub no: u8,
     pub status: u8,
@@ -72,55 +73,51 @@ pub struct Said {
     pub time: f64,
 }
 
-impl Answer {
-    // The answer in numbers.
-    pub fn said(self) -> Said
-        ensures { result ≡ said_of self }
-    {
-        match self {
+// The answer in numbers.
+impl From<Answer> for Said {
+    ghost from_gives = { λ a s. s ≡ said_of a };
+
+    fn from(answer: Answer) -> Said {
+        let bare = Said::default();
+        match answer {
             Answer::Ticked {
                 status,
                 leftover,
                 visits,
                 used,
             } => Said {
-                no: 0,
-                status: status.byte(),
+                status: u8::from(status),
                 visits,
                 used,
-                extra: 0,
                 time: leftover,
+                ..bare
             },
             Answer::Asked { action, dt } => Said {
                 no: 1,
-                status: 0,
-                visits: 0,
-                used: 0,
-                extra: action as usize,
+                extra: usize::from(action),
                 time: dt,
+                ..bare
             },
-            Answer::Finished => bare(2, 0),
-            Answer::BadTable(p) => bare(3, p),
-            Answer::TooShort => bare(4, 0),
-            Answer::BadTime => bare(5, 0),
-            Answer::BadAnswer(i) => bare(6, i),
-            Answer::OutOfFuel => bare(7, 0),
-            Answer::BadCell(p) => bare(9, p),
-            Answer::NoRoom => bare(13, 0),
+            Answer::Finished => Said { no: 2, ..bare },
+            Answer::BadTable(p) => Said {
+                no: 3,
+                extra: p,
+                ..bare
+            },
+            Answer::TooShort => Said { no: 4, ..bare },
+            Answer::BadTime => Said { no: 5, ..bare },
+            Answer::BadAnswer(i) => Said {
+                no: 6,
+                extra: i,
+                ..bare
+            },
+            Answer::OutOfFuel => Said { no: 7, ..bare },
+            Answer::BadCell(p) => Said {
+                no: 9,
+                extra: p,
+                ..bare
+            },
+            Answer::NoRoom => Said { no: 13, ..bare },
         }
-    }
-}
-
-// An answer that names no field but perhaps a place or an index.
-fn bare(no: u8, extra: usize) -> Said
-    ensures { result ≡ numbers no 0 0 0 extra zero_time }
-{
-    Said {
-        no,
-        status: 0,
-        visits: 0,
-        used: 0,
-        extra,
-        time: 0.0,
     }
 }

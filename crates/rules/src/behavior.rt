@@ -1,9 +1,9 @@
 // The kinds of nodes and how many children each allows.
-ghost use Rattle.std.specs.Prelude.{◌≡◌, ◌-◌};
+ghost use Rattle.std.specs.Prelude.{◌≡◌, ◌<◌, ◌≤◌, MatchResult};
 ghost use Rattle.rules.specs.Kinds.{code, kind_of, fewest, most, children, timed, marks_children, memory};
 ghost use Rattle.rules.specs.Cells.{last_place};
 
-#[derive(Clone, Copy)]
+#[derive(Clone, Copy, PartialEq, Eq)]
 pub enum Kind {
     Wait,
     WaitForever,
@@ -24,11 +24,30 @@ pub enum Kind {
     Race,
 }
 
-// n less k, cut off at 0.
-fn below(n: u16, k: u16) -> u16
-    ensures { result ≡ n - k }
-{
-    if n < k { 0 } else { n - k }
+// A number that is no kind's.
+#[derive(Clone, Copy, PartialEq, Eq)]
+pub struct NoKind(pub u8);
+
+impl TryFrom<u8> for Kind {
+    type Error = NoKind;
+
+    ghost try_from_gives = { λ n r. MatchResult r (λ k. (n ≤ 16) × (k ≡ kind_of n)) (λ e. (16 < n) × (e.0 ≡ n)) };
+
+    fn try_from(number: u8) -> Result<Kind, NoKind> {
+        if number <= Kind::LAST {
+            Ok(Kind::of(number))
+        } else {
+            Err(NoKind(number))
+        }
+    }
+}
+
+impl From<Kind> for u8 {
+    ghost from_gives = { λ k n. n ≡ code k };
+
+    fn from(kind: Kind) -> u8 {
+        kind as u8
+    }
 }
 
 impl Kind {
@@ -39,6 +58,7 @@ impl Kind {
     pub const MANY: u16 = 65535;
 
     // The kind of a number; a number past the last is taken for the last.
+    #[tactic(auto, unfolding(crate::specs::Kinds::kind_of))]
     pub fn of(number: u8) -> Kind
         ensures { result ≡ kind_of number }
     {
@@ -60,31 +80,6 @@ impl Kind {
             14 => Kind::WhenAny,
             15 => Kind::After,
             _ => Kind::Race,
-        }
-    }
-
-    // The number of the kind.
-    pub fn number(self) -> u8
-        ensures { result ≡ code self }
-    {
-        match self {
-            Kind::Wait => 0,
-            Kind::WaitForever => 1,
-            Kind::Action => 2,
-            Kind::Invert => 3,
-            Kind::AlwaysSucceed => 4,
-            Kind::Timeout => 5,
-            Kind::Select => 6,
-            Kind::If => 7,
-            Kind::Sequence => 8,
-            Kind::MemorylessSequence => 9,
-            Kind::MemorylessSelector => 10,
-            Kind::While => 11,
-            Kind::WhileAll => 12,
-            Kind::WhenAll => 13,
-            Kind::WhenAny => 14,
-            Kind::After => 15,
-            Kind::Race => 16,
         }
     }
 
@@ -132,8 +127,8 @@ impl Kind {
         match self {
             Kind::Select | Kind::Sequence | Kind::After => n,
             Kind::If => 2,
-            Kind::While => below(n, 2),
-            Kind::WhileAll => below(n, 1),
+            Kind::While => n.saturating_sub(2),
+            Kind::WhileAll => n.saturating_sub(1),
             _ => 0,
         }
     }
@@ -142,23 +137,18 @@ impl Kind {
     pub fn timed(self) -> bool
         ensures { result ≡ timed self }
     {
-        match self {
-            Kind::Wait | Kind::Timeout => true,
-            _ => false,
-        }
+        matches!(self, Kind::Wait | Kind::Timeout)
     }
 
     // Whether a child of the kind may be marked as ended.
     pub fn marks_children(self) -> bool
         ensures { result ≡ marks_children self }
     {
-        match self {
-            Kind::WhenAll | Kind::WhenAny => true,
-            _ => false,
-        }
+        matches!(self, Kind::WhenAll | Kind::WhenAny)
     }
 
     // The kind with its memory on or off; only Sequence and Select have a form of each.
+    #[tactic(auto, unfolding(crate::specs::Kinds::memory))]
     pub fn memory(self, on: bool) -> Kind
         ensures { result ≡ memory on self }
     {

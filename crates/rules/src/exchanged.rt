@@ -1,9 +1,10 @@
 // What the exchange of a branch answers.
 ghost use Rattle.std.specs.Prelude.{◌≡◌};
-ghost use Rattle.rules.specs.Exchange.{exchange_numbers, exchange_said_of};
+ghost use Rattle.rules.specs.Exchange.{exchange_said_of};
 
-// What an exchange can say, as a case for each number and for each of the two tables.
-#[derive(Clone, Copy)]
+// What an exchange can say, as a case for each number of the C interface and for each of the two tables; so its order of
+// refusals is one definition, of which `laws` and `finish` (Exchanges) speak.
+#[derive(Clone, Copy, PartialEq, Eq)]
 pub enum Exchanged {
     Done(usize),
     Finished,
@@ -17,9 +18,9 @@ pub enum Exchanged {
     ShortRoom,
 }
 
-// The answer in document 02's numbers; a field that its line does not name is 0.
+// The answer in document 02's numbers, which the C interface needs; a field that its line does not name is 0.
 #[repr(C)]
-#[derive(Clone, Copy)]
+#[derive(Clone, Copy, Default)]
 pub struct ExchangeSaid {
     pub no: u8,
     pub table: u8,
@@ -27,33 +28,36 @@ pub struct ExchangeSaid {
     pub nodes: usize,
 }
 
-impl Exchanged {
-    // The answer in numbers; a table of 1 is the branch's.
-    pub fn said(self) -> ExchangeSaid
-        ensures { result ≡ exchange_said_of self }
-    {
-        match self {
-            Exchanged::Done(n) => numbers(0, 0, 0, n),
-            Exchanged::Finished => numbers(2, 0, 0, 0),
-            Exchanged::BadTable(p) => numbers(3, 0, p, 0),
-            Exchanged::BadBranch(p) => numbers(3, 1, p, 0),
-            Exchanged::TooShort => numbers(4, 0, 0, 0),
-            Exchanged::BadCell(p) => numbers(9, 0, p, 0),
-            Exchanged::NoNode => numbers(17, 0, 0, 0),
-            Exchanged::StateHeld => numbers(18, 0, 0, 0),
-            Exchanged::TooLarge => numbers(19, 0, 0, 0),
-            Exchanged::ShortRoom => numbers(20, 0, 0, 0),
-        }
-    }
-}
+// The answer in numbers; a table of 1 is the branch's.
+impl From<Exchanged> for ExchangeSaid {
+    ghost from_gives = { λ a s. s ≡ exchange_said_of a };
 
-fn numbers(no: u8, table: u8, place: usize, nodes: usize) -> ExchangeSaid
-    ensures { result ≡ exchange_numbers no table place nodes }
-{
-    ExchangeSaid {
-        no,
-        table,
-        place,
-        nodes,
+    fn from(answer: Exchanged) -> ExchangeSaid {
+        let bare = ExchangeSaid::default();
+        match answer {
+            Exchanged::Done(nodes) => ExchangeSaid { nodes, ..bare },
+            Exchanged::Finished => ExchangeSaid { no: 2, ..bare },
+            Exchanged::BadTable(place) => ExchangeSaid {
+                no: 3,
+                place,
+                ..bare
+            },
+            Exchanged::BadBranch(place) => ExchangeSaid {
+                no: 3,
+                table: 1,
+                place,
+                ..bare
+            },
+            Exchanged::TooShort => ExchangeSaid { no: 4, ..bare },
+            Exchanged::BadCell(place) => ExchangeSaid {
+                no: 9,
+                place,
+                ..bare
+            },
+            Exchanged::NoNode => ExchangeSaid { no: 17, ..bare },
+            Exchanged::StateHeld => ExchangeSaid { no: 18, ..bare },
+            Exchanged::TooLarge => ExchangeSaid { no: 19, ..bare },
+            Exchanged::ShortRoom => ExchangeSaid { no: 20, ..bare },
+        }
     }
 }

@@ -10,8 +10,8 @@ mod number;
 mod status;
 
 pub use answer::{Answer, BoundAnswer, Called, Record, Said, age};
-pub use behavior::Kind;
+pub use behavior::{Kind, NoKind};
 pub use event::Event;
 pub use exchanged::{ExchangeSaid, Exchanged};
 pub use number::cleaned;
-pub use status::Status;
+pub use status::{NoStatus, Status};

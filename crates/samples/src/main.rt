@@ -9,10 +9,8 @@ use std::rt::Env;
 
 // A file of a name. The system's names are bytes, and those that are no text cannot be asked for.
 fn opened(rt: &HostRuntime, name: &[u8]) -> io::Result<File> {
-    match str::from_utf8(name) {
-        Ok(path) => File::open(rt, path),
-        Err(_) => Err(io::Error::from(ErrorKind::InvalidFilename)),
-    }
+    let path = str::from_utf8(name).map_err(|_| io::Error::from(ErrorKind::InvalidFilename))?;
+    File::open(rt, path)
 }
 
 // Says why a file is passed over.

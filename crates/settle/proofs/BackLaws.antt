@@ -8,11 +8,12 @@ use native.Mathlib.Numerals.{add-one}
 use native.Mathlib.Omega.{arith}
 use borrow.Author.Tests.{ne_eqb, eqb-false}
 use lib.Bits.{bit_or, or_shr, or_mod}
-use lib.ListN.{length, get_or, set, length-set}
+use lib.ListN.{length, get_or, set, take, length-set}
+use Rattle.std.specs.List.{fold}
 use Rattle.rules.specs.Call.{stamped}
 use Rattle.work.specs.Word.{anew_of}
 use Rattle.work.proofs.Laws.{or_first, or_second}
-use Rattle.settle.specs.Back.{over, stamped_over, NoneAnew}
+use Rattle.settle.specs.Back.{over, stamped_over}
 
 over_suc : (f : ℕ → ℕ) (i : ℕ) (ws l : List ℕ) → i < length ws → i < length l → set (over f i ws l) i (f (get_or ws i 0)) ≡ over f (suc i) ws l
 over_suc f i [] l a b = absurd (not-suc-le-zero a)
@@ -81,24 +82,30 @@ pub stamping_end : {this : ℕ} {ws start : List ℕ} {n i : ℕ} {l : List ℕ}
 stamping_end {n} {i} c h = let e : n ≡ i = omega (arith, c.within) in rw e c.is
 
 -- ---- no number to put
-pub stamped_none : (this n : ℕ) (ws l : List ℕ) → n ≤ length ws → n ≤ length l → NoneAnew n ws → stamped_over this n ws l ≡ l
-unfolding stamped
-stamped_none this zero ws l a b none = refl
-stamped_none this (suc n) [] l a b none = absurd (not-suc-le-zero a)
-stamped_none this (suc n) (x ∷ ws) [] a b none = absurd (not-suc-le-zero b)
-stamped_none this (suc n) (x ∷ ws) (y ∷ l) a b none =
-    rw (none 0 (omega arith)) (ap (λ t. y ∷ t) (stamped_none this n ws l (le_of_suc-le-suc a) (le_of_suc-le-suc b) (λ j h. none (suc j) (omega arith))))
-
 -- 1 in a word whose node was made fresh
-abbrev pub anew_bit : ℕ → ℕ
+abbrev anew_bit : ℕ → ℕ
 anew_bit w = w / 33554432 % 2
 
-pub or_anew : (a b : ℕ) → (anew_bit a ≤ anew_bit (bit_or a b)) × (anew_bit b ≤ anew_bit (bit_or a b))
+or_anew : (a b : ℕ) → (anew_bit a ≤ anew_bit (bit_or a b)) × (anew_bit b ≤ anew_bit (bit_or a b))
 or_anew a b =
     let x = anew_bit a in
     let y = anew_bit b in
     rw (or_shr a b 25, or_mod (a / 33554432) (b / 33554432) 1) (or_first x y, or_second x y)
 
-pub none_anew : (all n : ℕ) (ws : List ℕ) → anew_of all ≡ false → ((j : ℕ) → j < n → anew_bit (get_or ws j 0) ≤ anew_bit all) → NoneAnew n ws
+bit_stays : (ws : List ℕ) (a : ℕ) → anew_bit a ≤ anew_bit (fold bit_or a ws)
+bit_stays [] a = omega arith
+bit_stays (x ∷ ws) a = omega (arith, (or_anew a x).0, bit_stays ws (bit_or a x))
+
+none_anew : (w all : ℕ) → anew_bit w ≤ anew_bit all → anew_of all ≡ false → anew_of w ≡ false
 unfolding anew_of
-none_anew all n ws e h j l = ne_eqb (anew_bit (get_or ws j 0)) 1 (λ is. eqb-false (anew_bit all) 1 e (omega (arith, h j l, is)))
+none_anew w all h e = ne_eqb (anew_bit w) 1 (λ is. eqb-false (anew_bit all) 1 e (omega (arith, h, is)))
+
+-- no bit of all words says that a node was made fresh
+pub stamped_none : (this n a : ℕ) (ws l : List ℕ) → n ≤ length ws → n ≤ length l → anew_of (fold bit_or a (take n ws)) ≡ false → stamped_over this n ws l ≡ l
+unfolding stamped
+stamped_none this zero a ws l h k e = refl
+stamped_none this (suc n) a [] l h k e = absurd (not-suc-le-zero h)
+stamped_none this (suc n) a (x ∷ ws) [] h k e = absurd (not-suc-le-zero k)
+stamped_none this (suc n) a (x ∷ ws) (y ∷ l) h k e =
+    let here = none_anew x (fold bit_or (bit_or a x) (take n ws)) (omega (arith, (or_anew a x).1, bit_stays (take n ws) (bit_or a x))) e in
+    rw here (ap (λ t. y ∷ t) (stamped_none this n (bit_or a x) ws l (le_of_suc-le-suc h) (le_of_suc-le-suc k) e))

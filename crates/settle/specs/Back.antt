@@ -1,5 +1,5 @@
 -- Putting the working array back into the runs that a host lends.
-use Rattle.std.specs.Prelude.{◌≡◌, false, List, map, ◌++◌, ℕ, ◌<◌, take, drop, get_or}
+use Rattle.std.specs.Prelude.{List, map, ◌++◌, ℕ, take, drop}
 use Rattle.rules.specs.Call.{stamped}
 use Rattle.work.specs.Word.{anew_of}
 
@@ -10,7 +10,3 @@ over field n ws l = map field (take n ws) ++ drop n l
 -- a tick's number put over a run, for each of the first n words that say that it made their node fresh
 abbrev pub stamped_over : ℕ → ℕ → List ℕ → List ℕ → List ℕ
 stamped_over this n ws l = stamped this (map anew_of (take n ws)) l ++ drop n l
-
--- none of the first n words says that its node was made fresh
-abbrev pub NoneAnew : ℕ → List ℕ → Type 0
-NoneAnew n ws = (j : ℕ) → j < n → anew_of (get_or ws j 0) ≡ false

@@ -4,7 +4,7 @@ use Rattle.rules.specs.declared.answer.Answer.{Answer}
 use Rattle.rules.specs.declared.answer.Record.{Record}
 use Rattle.rules.specs.Call.{Run, run, counted}
 use Rattle.cells.specs.Onto.{onto}
-use Rattle.work.specs.declared.result.Result.{Result}
+use Rattle.work.specs.declared.result.Visit.{Visit}
 use Rattle.work.specs.declared.result.Seen.{Seen}
 use Rattle.work.specs.declared.result.Seen.TheVariants.{Stopped, Running, Success, Failure}
 use Rattle.work.specs.Word.{place_of, mark_of, seen_of}
@@ -28,7 +28,7 @@ has_stopped Running = false
 has_stopped Success = false
 has_stopped Failure = false
 
-module _ (r : Result) (ns : List ℕ) (n fuel lent : ℕ) (rec : Record) (c : Run) (spare : List Float) (board : List ℕ) where
+module _ (r : Visit) (ns : List ℕ) (n fuel lent : ℕ) (rec : Record) (c : Run) (spare : List Float) (board : List ℕ) where
   -- a question, or too little fuel: the times come back from the spare
   abbrev pub stopped_so : List ℕ → Settled
   stopped_so ws = settled (told_stopped ws ns r) rec (run (onto n spare c.times) c.places c.marks c.sinces) board ws

@@ -8,7 +8,7 @@ use native.Mathlib.Omega.{arith}
 use native.Mathlib.Nat.{add-zero, sub-zero}
 use native.Mathlib.Numerals.{add-one, sub-one}
 use borrow.Author.Tests.{le-leb, lt-leb, lt-ltb, le-ltb, eq-eqb, ne_eqb}
-use lib.Dec.{eqb}
+use lib.Dec.{eqb, leb}
 use lib.ListN.{set}
 use lib.Seq.{get_or-set_other, set-get_or}
 use types.Run.{OneOf}
@@ -21,12 +21,9 @@ use Rattle.rules.specs.contracts.behavior.Kind.{the_type}
 use Rattle.rules.proofs.Arms.{Each, gives}
 use Rattle.work.specs.Word.{below_of, kind_in, place_of, mark_of, seen_of, with_seen}
 use Rattle.work.specs.Array.{word_at, end_of}
-use Rattle.shown.specs.Show.{ended_at, marked_at, behind_of, each_from, ended_word, marked_word, over_words, Leaves, ended_under, ended_below, ended_words, Bare}
+use Rattle.shown.specs.Show.{ended_at, marked_at, behind_of, each_from, ended_word, marked_word, put_at, over_words, Leaves, ended_under, ended_below, ended_words, Bare}
 
 module _ (b w q : ℕ) (ws : List ℕ) (e : b ≡ below_of w) where
-  pub behind_some : 0 < b → end_of ws q ≡ behind_of w q ws
-  behind_some h = rw (ne_eqb (below_of w) 0 (λ z. omega arith))
-
   pub behind_none : b ≤ 0 → q + 1 ≡ behind_of w q ws
   behind_none h = rw (eq-eqb (below_of w) 0 (omega arith))
 
@@ -45,12 +42,6 @@ module _ (at : ℕ → ℕ → List ℕ → List ℕ) (stop : ℕ) where
     unfolding each_from
     each_less zero l = absurd (omega arith)
     each_less (suc k) l = rw (sub-one (suc k), lt-leb stop q h, ← put, ← goes)
-
-    -- with turns enough
-    pub each_next : (k : ℕ) → stop - q ≤ k → q < next → (r : List ℕ) → ((j : ℕ) → stop - next ≤ j → each_from at stop j next ws' ≡ r) → each_from at stop k q ws ≡ r
-    unfolding each_from
-    each_next zero l g r e = absurd (omega arith)
-    each_next (suc k) l g r e = rw (lt-leb stop q h, ← put, ← goes) (e k (omega arith))
 
 -- ---- leaves at once: the word of each is put through f, and it ends where the next begins
 
@@ -85,21 +76,27 @@ module _ (f : ℕ → ℕ) (q : ℕ) (ws : List ℕ) where
       let ws' = over_words f q k ws in
       get_or-set_other ws' (q + k) (q + i) (f (word_at ws' (q + k))) 0 (λ e. omega arith) ∙ later k i (omega arith)
 
-  pub each_leaves : (at : ℕ → ℕ → List ℕ → List ℕ) → Sets f at → (stop k n : ℕ) (ws' : List ℕ)
+  pub each_leaves : (stop k n : ℕ) (ws' : List ℕ)
       → ws' ≡ over_words f q k ws
       → k ≤ n
       → q + k ≤ stop
       → Leaves q k ws
-      → each_from at stop (n - k) (q + k) ws' ≡ each_from at stop n q ws
+      → each_from (put_at f) stop (n - k) (q + k) ws' ≡ each_from (put_at f) stop n q ws
   unfolding over_words
-  each_leaves at sets stop zero n ws' put h l e = rw (sub-zero n, add-zero q, put)
-  each_leaves at sets stop (suc k) n ws' put h l e =
+  each_leaves stop zero n ws' put h l e = rw (sub-zero n, add-zero q, put)
+  each_leaves stop (suc k) n ws' put h l e =
       let ahead = over_words f q k ws in
       let one : n - suc k ≡ n - k - 1 = omega arith in
       let next : q + suc k ≡ q + k + 1 = omega arith in
       let leaf = ap below_of (later k k (omega arith)) ∙ e k (omega arith) in
-      rw (put, one, next) (each_less at stop (q + k) ahead _ _ (omega arith) (sets (q + k) ahead) (behind_none _ _ _ _ (sym leaf) (omega arith)) (n - k) (omega arith)
-      ∙ each_leaves at sets stop k n ahead refl (omega arith) (omega arith) (λ i g. e i (omega arith)))
+      rw (put, one, next) (each_less (put_at f) stop (q + k) ahead _ _ (omega arith) refl (behind_none _ _ _ _ (sym leaf) (omega arith)) (n - k) (omega arith)
+      ∙ each_leaves stop k n ahead refl (omega arith) (omega arith) (λ i g. e i (omega arith)))
+
+-- each child's word is put through f, or the same is done there
+pub each_put : (f : ℕ → ℕ) (at : ℕ → ℕ → List ℕ → List ℕ) → Sets f at → (stop k q : ℕ) (ws : List ℕ) → each_from (put_at f) stop k q ws ≡ each_from at stop k q ws
+unfolding each_from
+each_put f at sets stop zero q ws = refl
+each_put f at sets stop (suc k) q ws = rw (sets q ws) (ap (cond (leb stop q) ws) (each_put f at sets stop k _ _))
 
 -- an arm of a `match` on the kind
 pub under_arm : (ns : List ℕ) {k k' : Kind} (i p : ℕ) (ws : List ℕ) {v : List ℕ} → OneOf ns (tag_of the_type k) → k ≡ k' → Each (λ k. v ≡ ended_under k i p ws) ns → v ≡ ended_under k' i p ws

@@ -34,6 +34,14 @@ ended_word s w = cond (eqb (seen_of w) 0) (with_seen w s) w
 abbrev pub marked_word : ℕ → ℕ → ℕ
 marked_word s w = cond (eqb (mark_of w) 1) (ended_word s w) w
 
+-- what stands for each word by the relation is what f gives of it
+abbrev pub Puts : (ℕ → ℕ → Type 0) → (ℕ → ℕ) → Type 0
+Puts R f = (w v : ℕ) → R w v → v ≡ f w
+
+-- the word of the child at q is put through f
+abbrev pub put_at : (ℕ → ℕ) → ℕ → ℕ → List ℕ → List ℕ
+put_at f q w ws = set ws q (f w)
+
 -- k words from q on, each put through f
 unfoldable pub over_words : (ℕ → ℕ) → ℕ → ℕ → List ℕ → List ℕ
 over_words f q zero ws = ws

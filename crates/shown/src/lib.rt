@@ -2,16 +2,13 @@
 // with which a child has ended, by the kind and place of the node above it or by its own mark.
 #![tactic(auto)]
 
-ghost use Rattle.std.specs.Prelude.{◌≡◌, true, ◌+◌, ◌≤◌, ◌<◌};
+ghost use Rattle.std.specs.Prelude.{◌≡◌, ℕ, true, ◌+◌, ◌≤◌, ◌<◌};
 ghost use Rattle.work.specs.Array.{end_of};
-ghost use Rattle.shown.specs.Show.{ended_word, marked_word, over_words, Leaves, ended_at, marked_at, behind_of, each_from, ended_below, ended_words, Bare};
+ghost use Rattle.work.specs.Flat.{seen_no};
+ghost use Rattle.shown.specs.Show.{ended_word, marked_word, Puts, put_at, over_words, Leaves, ended_at, marked_at, behind_of, each_from, ended_below, ended_words, Bare};
 
 use rules::Kind;
-use work::{below_of, end_of, kind_of, mark_of, place_of, seen_of, with_seen, words_of};
-
-const SUCCESS: u32 = 2;
-
-const FAILURE: u32 = 3;
+use work::{Seen, below_of, end_of, kind_of, mark_of, place_of, seen_of, with_seen, words_of};
 
 // Whether sixteen children from q on have none below them: each then ends where the next begins.
 fn sixteen_leaves(work: &[u32; 260], q: usize) -> bool
@@ -22,52 +19,30 @@ fn sixteen_leaves(work: &[u32; 260], q: usize) -> bool
 }
 
 // The word of a child that shows a status if no visit has seen it; and only if it has a mark.
-fn shown(w: u32, status: u32) -> u32
-    ensures { result ≡ ended_word status w }
+fn shown(w: u32, seen: Seen) -> u32
+    ensures { result ≡ ended_word (seen_no seen) w }
 {
     if seen_of(w) == 0 {
-        with_seen(w, status)
+        with_seen(w, u32::from(seen))
     } else {
         w
     }
 }
 
-fn shown_marked(w: u32, status: u32) -> u32
-    ensures { result ≡ marked_word status w }
+fn shown_marked(w: u32, seen: Seen) -> u32
+    ensures { result ≡ marked_word (seen_no seen) w }
 {
-    if mark_of(w) == 1 { shown(w, status) } else { w }
+    if mark_of(w) == 1 { shown(w, seen) } else { w }
 }
 
-// Sixteen leaves from q on, without a branch for each.
-fn show_sixteen(work: &mut [u32; 260], q: usize, status: u32)
-    requires { q + 16 ≤ 256 }
-    ensures { work.new ≡ over_words (ended_word status) q 16 work.old }
+// Sixteen words from q on, each put through a function.
+fn put_sixteen<F: Fn(u32) -> u32>(work: &mut [u32; 260], q: usize, put: &F)
+    requires here { q + 16 ≤ 256 }
+    requires callable { F.IsAlwaysCallable put.now }
+    ensures { (f : ℕ → ℕ) → Puts (F.post put.now) f → work.new ≡ over_words f q 16 work.old }
 {
-    let mut i = 0;
-    while i < 16 {
-        work[q + i] = shown(work[q + i], status);
-        i += 1;
-    }
-}
-
-fn show_sixteen_marked(work: &mut [u32; 260], q: usize, status: u32)
-    requires { q + 16 ≤ 256 }
-    ensures { work.new ≡ over_words (marked_word status) q 16 work.old }
-{
-    let mut i = 0;
-    while i < 16 {
-        work[q + i] = shown_marked(work[q + i], status);
-        i += 1;
-    }
-}
-
-// The child at q, whose word is w, shows a status if no visit has seen it.
-fn show(work: &mut [u32; 260], q: usize, w: u32, status: u32)
-    requires { q < 256 }
-    ensures { work.new ≡ ended_at status q w work.old }
-{
-    if seen_of(w) == 0 {
-        work[q] = with_seen(w, status);
+    for i in 0..16 {
+        work[q + i] = put(work[q + i]);
     }
 }
 
@@ -84,48 +59,46 @@ fn behind(work: &[u32; 260], q: usize, w: u32) -> usize
     }
 }
 
-// The children of the node at p that have a mark.
-fn show_marked(work: &mut [u32; 260], p: usize, status: u32)
-    requires { p < 256 }
-    ensures { work.new ≡ each_from (marked_at status) (end_of work.old p) 256 (p + 1) work.old }
+// So many children of the node at p, at most, each put through a function; leaves sixteen at once, without a branch for each.
+fn put_each<F: Fn(u32) -> u32>(work: &mut [u32; 260], p: usize, most: u32, put: F)
+    requires here { p < 256 }
+    requires callable { F.IsAlwaysCallable put }
+    ensures { (f : ℕ → ℕ) → Puts (F.post put) f → work.new ≡ each_from (put_at f) (end_of work.old p) most (p + 1) work.old }
 {
     let stop = end_of(work, p);
     let mut q = p + 1;
-    while q + 16 <= stop && sixteen_leaves(work, q) {
-        show_sixteen_marked(work, q, status);
-        q += 16;
-    }
-    while q < stop {
-        let w = work[q];
-        if mark_of(w) == 1 {
-            show(work, q, w, status);
-        }
-        q = behind(work, q, w);
-    }
-}
-
-// The children of the node at p before its place.
-fn show_before(work: &mut [u32; 260], p: usize, place: u32, status: u32)
-    requires { p < 256 }
-    ensures { work.new ≡ each_from (ended_at status) (end_of work.old p) place (p + 1) work.old }
-{
-    let stop = end_of(work, p);
-    let mut q = p + 1;
-    let mut left = place;
+    let mut left = most;
     while 16 <= left && q + 16 <= stop && sixteen_leaves(work, q) {
-        show_sixteen(work, q, status);
+        put_sixteen(work, q, &put);
         q += 16;
         left -= 16;
     }
-    while 0 < left {
-        if stop <= q {
-            return;
-        }
+    while 0 < left && q < stop {
         let w = work[q];
-        show(work, q, w, status);
+        let v = put(w);
+        // Only a word that changes is written: else a choice without a branch would make each turn wait for the one before it.
+        if v != w {
+            work[q] = v;
+        }
         q = behind(work, q, w);
         left -= 1;
     }
+}
+
+// The children of the node at p that have a mark.
+fn show_marked(work: &mut [u32; 260], p: usize, seen: Seen)
+    requires { p < 256 }
+    ensures { work.new ≡ each_from (marked_at (seen_no seen)) (end_of work.old p) 256 (p + 1) work.old }
+{
+    put_each(work, p, 256, |w| shown_marked(w, seen));
+}
+
+// The children of the node at p before its place.
+fn show_before(work: &mut [u32; 260], p: usize, place: u32, seen: Seen)
+    requires { p < 256 }
+    ensures { work.new ≡ each_from (ended_at (seen_no seen)) (end_of work.old p) place (p + 1) work.old }
+{
+    put_each(work, p, place, |w| shown(w, seen));
 }
 
 // The children of the node at p.
@@ -138,10 +111,10 @@ fn show_below(work: &mut [u32; 260], p: usize)
         return;
     }
     match kind_of(w) {
-        Kind::WhenAll => show_marked(work, p, SUCCESS),
-        Kind::WhenAny => show_marked(work, p, FAILURE),
-        Kind::Sequence | Kind::After => show_before(work, p, place_of(w), SUCCESS),
-        Kind::Select => show_before(work, p, place_of(w), FAILURE),
+        Kind::WhenAll => show_marked(work, p, Seen::Success),
+        Kind::WhenAny => show_marked(work, p, Seen::Failure),
+        Kind::Sequence | Kind::After => show_before(work, p, place_of(w), Seen::Success),
+        Kind::Select => show_before(work, p, place_of(w), Seen::Failure),
         _ => {}
     }
 }
@@ -149,28 +122,22 @@ fn show_below(work: &mut [u32; 260], p: usize)
 // 0 only if a word has no place and no mark, and with so many nodes ahead of it all below it stand among 256.
 fn state_in(w: u32, ahead: u32) -> u32
     requires { ahead ≤ 256 }
-    ensures { (result ≡ 0 → Bare w ahead) × (result < 131072) }
+    ensures { result ≡ 0 → Bare w ahead }
 {
     (w % 256 + w / 0x10000 % 512 * 0x10000 + ahead) / 256
 }
 
-// 0 only if nothing is to be shown. Mostly no word has a place or a mark, and a sum without a branch looks at many words at a time.
+// Whether surely nothing is to be shown. Mostly no word has a place or a mark, and without a branch many words are looked at at a time.
 // The n nodes count as the last of 256.
-fn any_state(work: &[u32; 260], n: usize) -> u32
+fn all_bare(work: &[u32; 260], n: usize) -> bool
     requires { n ≤ 256 }
-    ensures { result ≡ 0 → ended_words 0 n work.now ≡ work.now }
+    ensures { result ≡ true → ended_words 0 n work.now ≡ work.now }
 {
-    // As a slice, the array tells its length.
-    let words: &[u32] = work;
-    let mut sum = 0;
-    let mut ahead = 256 - n as u32;
-    let mut p = 0;
-    while p < n {
-        sum += state_in(words[p], ahead);
-        ahead += 1;
-        p += 1;
+    let mut states = 0;
+    for (p, w) in work[..n].iter().enumerate() {
+        states |= state_in(*w, (256 - n + p) as u32);
     }
-    sum
+    states == 0
 }
 
 // The first n nodes.
@@ -178,12 +145,10 @@ pub fn show_ended(work: &mut [u32; 260], n: usize)
     requires { n ≤ 256 }
     ensures { work.new ≡ ended_words 0 n work.old }
 {
-    if any_state(work, n) == 0 {
+    if all_bare(work, n) {
         return;
     }
-    let mut p = 0;
-    while p < n {
+    for p in 0..n {
         show_below(work, p);
-        p += 1;
     }
 }

@@ -6,22 +6,21 @@ use native.Mathlib.Nat.{zero-mul, zero-div, mul-pos, zero-lt-suc}
 use native.Mathlib.Omega.{arith}
 use borrow.Author.Tests.{lt-ltb, le-ltb, leb-true, ne_eqb, eqb-true, eqb-false, leb-false}
 use lib.Dec.{T, leb, ltb, eqb}
-use lib.Ieee.{Float, nan, inf, fin, binary64, fits, is_nan, odd, of_fields, of_bits, to_bits, ne, eq, up, down}
+use lib.Ieee.{Float, nan, inf, fin, binary64, fits, is_nan, odd, of_fields, of_bits, to_bits, eq, up, down}
 use lib.Ieee.Bits.{of_bits-to_bits}
-use lib.Ieee.Compare.{differs_from_itself}
 use lib.Ieee.Fits.{up_pos}
 use Rattle.rules.specs.Table.{cleaned, number, zero_bits}
 use Rattle.rules.specs.Cells.{elapsed}
 
--- ---- what `x != x` tells
-pub is_nan_lem : (x : Float) → ne x x ≡ true → x ≡ nan
-is_nan_lem x e = differs_from_itself x (subst T (sym e) tt)
+-- ---- what `is_nan` tells
+pub is_nan_lem : (x : Float) → is_nan x ≡ true → x ≡ nan
+unfolding is_nan
+is_nan_lem nan e = refl
+is_nan_lem (inf s) e = cc
+is_nan_lem (fin s m d) e = cc
 
-pub no_nan : (x : Float) → ne x x ≡ false → T (not (is_nan x))
-unfolding ne is_nan
-no_nan nan e = subst (λ (b : Bool). T (not b)) (sym e) tt
-no_nan (inf s) e = tt
-no_nan (fin s m d) e = tt
+pub no_nan : (x : Float) → is_nan x ≡ false → T (not (is_nan x))
+no_nan x e = rw e tt
 
 -- ---- of the three fields
 elapsed_odd : (s : Bool) (t k : ℕ) → elapsed (odd 53 s t k 1074) ≡ not s

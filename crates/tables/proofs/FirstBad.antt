@@ -1,30 +1,34 @@
--- One step of the check of the answers.
-use mathlib.Core.Path.{◌≡◌, ap}
-use mathlib.Core.Bool.{Bool, true, false}
+-- The check of the answers goes over pairs of a status and a leftover.
+use mathlib.Core.Path.{◌≡◌, refl}
+use mathlib.Core.Bool.{Bool, true, false, not, cond}
 use mathlib.Core.List.{List}
-use Prim.Native.Nat.{ℕ, ◌+◌, ◌≤◌, ◌<◌}
+use Prim.Native.Nat.{ℕ, suc}
 use native.Mathlib.Numerals.{add-one}
 use lib.Ieee.{Float}
-use lib.ListN.{length, get_or, drop, drop_of_length-le}
-use lib.Seq.{drop-cons}
+use Rattle.std.specs.Prelude.{Option, Some}
+use Rattle.std.specs.List.{position_from, zip}
+use Rattle.rules.specs.Cells.{Found, faulty}
 use Rattle.rules.specs.Call.{answer_allowed, bad_answer}
-use Rattle.tables.specs.declared.answers.Answered.TheVariants as answered
 use Rattle.tables.specs.Checks.{answered_of, first_bad}
 
-module _ (ss : List ℕ) (ls : List Float) (i : ℕ) (inv : bad_answer i (drop i ss) (drop i ls) ≡ bad_answer 0 ss ls) where
-  pub ends_first : length ss ≤ i → answered.Good ≡ first_bad ss ls
-  unfolding first_bad bad_answer
-  ends_first h = ap answered_of (rw (drop_of_length-le ss h) at inv)
+abbrev pub bad_pair : ℕ × Float → Bool
+bad_pair p = not (answer_allowed p.0 p.1)
 
-  pub ends_second : i < length ss → length ls ≤ i → answered.Good ≡ first_bad ss ls
-  unfolding first_bad bad_answer
-  ends_second g h = ap answered_of (rw (drop-cons ss i 0 g, drop_of_length-le ls h) at inv)
+one : (b : Bool) (i : ℕ) {x y : Option ℕ} → x ≡ y → cond (not b) (Some i) x ≡ cond b y (Some i)
+one true i e = e
+one false i e = refl
 
-  module _ (d : Float) (a : Bool) (g : i < length ss) (h : i < length ls) (e : a ≡ answer_allowed (get_or ss i 0) (get_or ls i d)) where
-    pub refuses : a ≡ false → answered.Bad i ≡ first_bad ss ls
-    unfolding first_bad bad_answer
-    refuses n = ap answered_of (rw (drop-cons ss i 0 g, drop-cons ls i d h, ← e, n) at inv)
+answered : (b : Bool) (i : ℕ) (r : Found) → answered_of (cond b r (faulty i)) ≡ cond b (answered_of r) (Some i)
+answered true i r = refl
+answered false i r = refl
 
-    pub goes_on : a ≡ true → bad_answer (i + 1) (drop (i + 1) ss) (drop (i + 1) ls) ≡ bad_answer 0 ss ls
-    unfolding bad_answer
-    goes_on n = rw (add-one i) (rw (drop-cons ss i 0 g, drop-cons ls i d h, ← e, n) at inv)
+from : (i : ℕ) (ss : List ℕ) (ls : List Float) → position_from bad_pair i (zip ss ls) ≡ answered_of (bad_answer i ss ls)
+unfolding bad_answer
+from i List.[] ls = refl
+from i (List.◌∷◌ s ss) List.[] = refl
+from i (List.◌∷◌ s ss) (List.◌∷◌ l ls) =
+    rw (answered (answer_allowed s l) i (bad_answer (suc i) ss ls), add-one i) (one (answer_allowed s l) i (from (suc i) ss ls))
+
+pub first : (ss : List ℕ) (ls : List Float) → position_from bad_pair 0 (zip ss ls) ≡ first_bad ss ls
+unfolding first_bad
+first ss ls = from 0 ss ls

@@ -7,11 +7,11 @@ use lib.Ieee.{Float}
 use lib.ListN.{length}
 use Rattle.rules.specs.Tree.{Tree, size, depth}
 use Rattle.rules.specs.Table.{Table, good, bad, rows, table_within}
-use Rattle.tables.specs.declared.table.Checked.{Checked}
-use Rattle.tables.specs.declared.table.Checked.TheVariants as checked
+use Rattle.std.specs.Prelude.{Result, Ok, Err}
+use Rattle.tables.specs.declared.table.BadTable.{BadTable}
 use Rattle.tables.specs.At.{At}
 use Rattle.tables.specs.Checks.{checked_of, Laid, Tabled}
-use Rattle.tables.proofs.Rows.{length_rows}
+use Rattle.lent.specs.Lengths.{rows_length}
 
 pub record Good (deep : ℕ) (kinds ns : List ℕ) (limits : List Float) (ends : List ℕ) (n : ℕ) : Type 0 where
   pub tree : Tree
@@ -27,14 +27,14 @@ pub record Good (deep : ℕ) (kinds ns : List ℕ) (limits : List Float) (ends :
   pub in_limits : n ≤ length limits
 
 -- what the table check found
-module _ {deep : ℕ} (kinds ns : List ℕ) (limits : List Float) (ends₀ ends : List ℕ) (r : Checked) (k : Tabled deep kinds ns limits ends₀ ends r) where
-  pub found_good : (n : ℕ) → r ≡ checked.Good n → Good deep kinds ns limits ends n
+module _ {deep : ℕ} (kinds ns : List ℕ) (limits : List Float) (ends₀ ends : List ℕ) (r : Result ℕ BadTable) (k : Tabled deep kinds ns limits ends₀ ends r) where
+  pub found_good : (n : ℕ) → r ≡ Ok n → Good deep kinds ns limits ends n
   found_good n e = go (table_within deep kinds ns limits) refl k.said k.tree
     where
       go : (x : Table) → table_within deep kinds ns limits ≡ x → r ≡ checked_of x → Laid deep kinds ns limits ends x → Good deep kinds ns limits ends n
       go (good t) i s l =
           let z : size t ≡ n = cc in
-          let m = length_rows kinds ns limits in
+          let m = rows_length kinds ns limits in
           record {
             tree = t;
             is = i;
@@ -50,9 +50,9 @@ module _ {deep : ℕ} (kinds ns : List ℕ) (limits : List Float) (ends₀ ends 
           }
       go (bad p) i s l = let z : ◌≡◌ {A = ℕ} 0 1 = cc in absurd (omega arith)
 
-  pub found_bad : (p : ℕ) → r ≡ checked.Bad p → table_within deep kinds ns limits ≡ bad p
-  found_bad p e = go (table_within deep kinds ns limits) k.said
+  pub found_bad : (e : BadTable) → r ≡ Err e → table_within deep kinds ns limits ≡ bad e.0
+  found_bad e is = go (table_within deep kinds ns limits) k.said
     where
-      go : (x : Table) → r ≡ checked_of x → x ≡ bad p
+      go : (x : Table) → r ≡ checked_of x → x ≡ bad e.0
       go (good t) s = cc
       go (bad q) s = cc

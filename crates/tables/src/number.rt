@@ -7,64 +7,44 @@ ghost use Rattle.tables.specs.Checks.{number_of};
 
 use rules::cleaned;
 
-// The number to use: finite with the sign bit clear, once minus zero is taken as plus zero.
-#[derive(Clone, Copy)]
-pub enum Number {
-    Good(f64),
-    Bad,
-}
-
 // The sign bit alone, and the bits of +infinity.
-const SIGN: u64 = 0x8000000000000000;
+pub const SIGN: u64 = 0x8000000000000000;
 
 const INFINITY: u64 = 0x7ff0000000000000;
 
-// From zero, whatever its sign, up to any that is finite. The bits tell it in one comparison, where
-// two of floats are compiled to twenty instructions more.
-pub fn number_of(x: f64) -> Number
+// The number to use: finite with the sign bit clear, once minus zero is taken as plus zero. The bits tell
+// it in one comparison, where two of floats are compiled to twenty instructions more.
+pub fn number_of(x: f64) -> Option<f64>
     ensures { result ≡ number_of x }
 {
     let number = cleaned(x);
-    if number != number {
-        return Number::Bad;
+    if number.is_nan() {
+        return None;
     }
-    if f64::to_bits(number) < INFINITY {
-        Number::Good(number)
-    } else {
-        Number::Bad
-    }
+    (f64::to_bits(number) < INFINITY).then_some(number)
 }
 
 // Whether there is a number to use, told by the bits of x itself: those of minus zero are the sign alone.
 pub fn is_number(x: f64) -> bool
     ensures { result ≡ number (cleaned x) }
 {
-    if x != x {
+    if x.is_nan() {
         return false;
     }
     let bits = f64::to_bits(x);
-    if bits < INFINITY {
-        return true;
-    }
-    bits == SIGN
+    bits < INFINITY || bits == SIGN
 }
 
 // All bits are 0.
 pub fn zero_bits(x: f64) -> bool
     ensures { result ≡ zero_bits x }
 {
-    if x != x {
-        return false;
-    }
-    f64::to_bits(x) == 0
+    !x.is_nan() && f64::to_bits(x) == 0
 }
 
 // No NaN, sign bit clear, +infinity allowed.
 pub fn elapsed(x: f64) -> bool
     ensures { result ≡ elapsed x }
 {
-    if x != x {
-        return false;
-    }
-    f64::to_bits(x) < SIGN
+    !x.is_nan() && f64::to_bits(x) < SIGN
 }

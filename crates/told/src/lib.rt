@@ -1,40 +1,14 @@
 // What a call tells of a walk, and the record behind it.
 #![tactic(auto)]
 
-ghost use Rattle.std.specs.Prelude.{◌≡◌, ◌-◌, length, slice_index};
-ghost use Rattle.rules.specs.Call.{answers, ended, counted};
+ghost use Rattle.std.specs.Prelude.{◌≡◌};
+ghost use Rattle.rules.specs.Call.{ended, counted};
 ghost use Rattle.told.specs.Told.{status_in, told_stopped, told_done};
 
 use rules::{Answer, Record, Status};
-use tables::least;
-use work::{ASKED, FUEL, Result, Seen, USED};
+use work::{ASKED, FUEL, Seen, USED, Visit};
 
-// How many answers are lent.
-pub fn lent(statuses: &[u8], leftovers: &[f64]) -> usize
-    ensures { result ≡ length (answers statuses.now leftovers.now) }
-{
-    least(statuses.len(), leftovers.len())
-}
-
-fn wide(x: u32) -> usize
-    ensures { result ≡ x }
-{
-    x as usize
-}
-
-fn number_at(ns: &[u16], p: usize) -> u16
-    ensures { result ≡ slice_index ns.now p }
-{
-    if p < ns.len() { ns[p] } else { 0 }
-}
-
-// n less k, cut off at 0.
-fn less(n: u32, k: u32) -> u32
-    ensures { result ≡ n - k }
-{
-    if n < k { 0 } else { n - k }
-}
-
+// Only of a walk to its end is this told, so it is no conversion of either type.
 fn status_of(seen: Seen) -> Status
     ensures { result ≡ status_in seen }
 {
@@ -46,31 +20,29 @@ fn status_of(seen: Seen) -> Status
 }
 
 // A walk that has stopped: an action asks, or the fuel is used up.
-pub fn told_stopped(work: &[u32; 260], ns: &[u16], res: Result) -> Answer
-    ensures { result ≡ told_stopped work.now ns.now res }
+pub fn told_stopped(work: &[u32; 260], ns: &[u16], visit: Visit) -> Answer
+    ensures { result ≡ told_stopped work.now ns.now visit }
 {
     let asked = work[ASKED];
     if asked == 0 {
         return Answer::OutOfFuel;
     }
-    let dt = res.left;
+    let node = (asked - 1) as usize;
     Answer::Asked {
-        action: number_at(ns, wide(less(asked, 1))),
-        dt,
+        action: ns.get(node).copied().unwrap_or(0),
+        dt: visit.left,
     }
 }
 
 // A walk to its end.
-pub fn told_done(work: &[u32; 260], res: Result, fuel: u32, lent: usize) -> Answer
-    ensures { result ≡ told_done work.now res fuel lent }
+pub fn told_done(work: &[u32; 260], visit: Visit, fuel: u32, lent: usize) -> Answer
+    ensures { result ≡ told_done work.now visit fuel lent }
 {
-    let seen = res.seen;
-    let leftover = res.left;
     Answer::Ticked {
-        status: status_of(seen),
-        leftover,
-        visits: less(fuel, work[FUEL]),
-        used: least(wide(work[USED]), lent),
+        status: status_of(visit.seen),
+        leftover: visit.left,
+        visits: fuel.saturating_sub(work[FUEL]),
+        used: (work[USED] as usize).min(lent),
     }
 }
 
@@ -78,20 +50,16 @@ pub fn told_done(work: &[u32; 260], res: Result, fuel: u32, lent: usize) -> Answ
 fn ends(seen: Seen) -> bool
     ensures { result ≡ ended (status_in seen) }
 {
-    match seen {
-        Seen::Stopped | Seen::Running => false,
-        Seen::Success => true,
-        Seen::Failure => true,
-    }
+    matches!(seen, Seen::Success | Seen::Failure)
 }
 
 // One more tick; the count goes from its largest number to 0.
-pub fn counted(record: Record, res: Result) -> Record
-    ensures { result ≡ counted (status_in res.seen) «record» }
+#[tactic(auto, unfolding(rules::specs::Call::counted))]
+pub fn counted(record: Record, visit: Visit) -> Record
+    ensures { result ≡ counted (status_in visit.seen) «record» }
 {
-    let seen = res.seen;
     Record {
-        finished: ends(seen),
-        ticks: std::num::wrapping_add_u64(record.ticks, 1),
+        finished: ends(visit.seen),
+        ticks: record.ticks.wrapping_add(1),
     }
 }

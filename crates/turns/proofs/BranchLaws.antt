@@ -1,6 +1,7 @@
 -- Laws for the paths of If.
-use mathlib.Core.Path.{◌≡◌, refl}
+use mathlib.Core.Path.{◌≡◌}
 use mathlib.Core.List.{List}
+use Rattle.std.specs.Prelude.{Some}
 use Prim.Native.Nat.{ℕ, ◌+◌, ◌≤◌, ◌<◌}
 use native.Mathlib.Omega.{arith}
 use lib.Ieee.{Float}
@@ -32,21 +33,22 @@ module _ (v : Visitor) (p : ℕ) (dt : Float) (ws : List ℕ) (ts : List Float) 
   unfolding if_node
   if_due n h = rw (← a, ← b, eq-eqb i 0 (omega arith), lt-ltb p 255 h)
 
-pub choice_small : (s : Seen) → choice_of s ≤ 2
-choice_small Stopped = omega arith
-choice_small Running = omega arith
-choice_small Success = omega arith
-choice_small Failure = omega arith
+-- a choice is one of the two branches
+pub choice_small : (s : Seen) (j : ℕ) → Some j ≡ choice_of s → (0 < j) × (j ≤ 2)
+choice_small Stopped j h = cc
+choice_small Running j h = cc
+choice_small Success j h = let e : j ≡ 1 = cc in (omega arith, omega arith)
+choice_small Failure j h = let e : j ≡ 2 = cc in (omega arith, omega arith)
 
 module _ (v : Visitor) (e : Level) (l : Float) (ws : List ℕ) (ts : List Float) where
   module _ (z : e.index ≡ 0) where
-    decided : (s : Seen) → (choice_of s ≡ 0 → ⊥) → if_resumed v e (out s l ws ts) ≡ chosen v e.node e.stop (choice_of s) l ws ts
-    decided Stopped h = absurd (h refl)
-    decided Running h = absurd (h refl)
-    decided Success h = rw (eq-eqb e.index 0 z)
-    decided Failure h = rw (eq-eqb e.index 0 z)
+    decided : (s : Seen) (j : ℕ) → Some j ≡ choice_of s → if_resumed v e (out s l ws ts) ≡ chosen v e.node e.stop j l ws ts
+    decided Stopped j h = cc
+    decided Running j h = cc
+    decided Success j h = let i : j ≡ 1 = cc in rw (eq-eqb e.index 0 z, i)
+    decided Failure j h = let i : j ≡ 2 = cc in rw (eq-eqb e.index 0 z, i)
 
-    module _ (s : Seen) (j : ℕ) (c : j ≡ choice_of s) (n : j ≡ 0 → ⊥) (ws₂ : List ℕ) (ts₂ : List Float) (x : ws₂ ≡ chosen_words e.node e.stop j ws)
+    module _ (s : Seen) (j : ℕ) (c : Some j ≡ choice_of s) (ws₂ : List ℕ) (ts₂ : List Float) (x : ws₂ ≡ chosen_words e.node e.stop j ws)
         (y : ts₂ ≡ chosen_times e.node e.stop j ws ts) (q : ℕ) (d : q ≡ child_from ws₂ e.stop j (e.node + 1)) where
       chosen_is : chosen v e.node e.stop j l ws ts ≡ branch v e.node e.stop j l ws₂ ts₂
       unfolding chosen chosen_words chosen_times decided_words
@@ -54,8 +56,8 @@ module _ (v : Visitor) (e : Level) (l : Float) (ws : List ℕ) (ts : List Float)
 
       pub if_chosen : q < e.stop → if_resumed v e (out s l ws ts) ≡ v q l ws₂ ts₂
       unfolding branch
-      if_chosen h = rw (decided s (rw (← c) n), ← c, chosen_is, ← d, lt-ltb q e.stop h)
+      if_chosen h = rw (decided s j c, chosen_is, ← d, lt-ltb q e.stop h)
 
       pub if_chosen_lost : e.stop ≤ q → if_resumed v e (out s l ws ts) ≡ out Stopped zero_time ws₂ ts₂
       unfolding branch
-      if_chosen_lost h = rw (decided s (rw (← c) n), ← c, chosen_is, ← d, le-ltb q e.stop h)
+      if_chosen_lost h = rw (decided s j c, chosen_is, ← d, le-ltb q e.stop h)

@@ -1,7 +1,7 @@
 -- What a driver writes leaves the fuel as it is, and a visit to a leaf uses one; and what follows a result, told in two ways.
 use mathlib.Core.Path.{◌≡◌, refl, sym, ◌∙◌}
 use mathlib.Core.Bool.{Bool, true, false, cond, ◌&&◌}
-use mathlib.Core.List.{List, []}
+use mathlib.Core.List.{List}
 use Prim.Native.Nat.{ℕ, zero, suc, ◌+◌, ◌-◌, ◌≤◌, ◌<◌}
 use native.Mathlib.Decide.{dec_lt}
 use native.Mathlib.Omega.{arith}
@@ -150,7 +150,7 @@ fuel_waiting none h = omega arith
 fuel_waiting {limits} {dt} (more {q = q} {ws = ws} {ws₁ = ws₁} {ts = ts} {ts₁ = ts₁} e m v w) h =
     let l = passed_on w in
     let d : q < 256 = omega arith in
-    omega (arith, fuel_waiting w h, visit_less binary64 (lent limits [] []) q dt ws ts d zero_time ws₁ ts₁ _ refl (v [] [] stops))
+    omega (arith, fuel_waiting w h, visit_less binary64 (lent limits List.[] List.[]) q dt ws ts d zero_time ws₁ ts₁ _ refl (v List.[] List.[] stops))
 
 -- ---- what follows a result
 -- the same follows, if it does so on what the child gave

@@ -1,6 +1,6 @@
 -- The driver of each kind, by the arm of a `match` that has it.
 use mathlib.Core.Path.{◌≡◌, refl, ap, sym, ◌∙◌}
-use mathlib.Core.Bool.{Bool, cond}
+use mathlib.Core.Bool.{Bool}
 use mathlib.Core.List.{List, [], ◌∷◌}
 use types.Run.{OneOf}
 use denote.Enum.Declared.{tag_of}
@@ -16,6 +16,7 @@ use Rattle.work.specs.Flat.{Out, out, Lent, lent, Visitor, turn_out, turning, ex
 use Rattle.work.specs.Flat.{if_node, sequence, memoryless, when_all, race, after, while_loop, while_all, by_kind, visit}
 use Rattle.turns.specs.declared.level.Level.{Level}
 use Rattle.turns.specs.declared.level.Turn.{Turn}
+use Rattle.turns.specs.declared.level.Turn.TheVariants.{Due, Done}
 use Rattle.turns.specs.Levels.{Keeps, Resumed, goes, entered_level, resumed_as, resumed_by}
 use Rattle.turns.specs.Levels.{sequence_resumed, memoryless_resumed, when_all_resumed, race_resumed, after_resumed, while_resumed, while_all_resumed, if_resumed}
 
@@ -70,27 +71,28 @@ module _ (k : Kind) where
         (13 ∷ 14 ∷ []) k h (own _, (own _, tt)))
 
 -- ---- a turn of a driver
-module _ {g : Format → Lent → Visitor → Visitor} {f : Format → Lent → Resumed} {e : Level} {t : Turn} (d : Driven g f e.kind) (k : Keeps e t) where
-  goes_on : (F : Format) (T : Lent) (v : Visitor) (ws : List ℕ) (ts : List Float) → goes (f F T) v t ws ts ≡ goes (resumed_by F T) v t ws ts
-  goes_on F T v ws ts =
-      let o = v t.level.child t.left ws ts in
-      ap (λ (x : Out). cond t.due x (out t.seen t.left ws ts))
-      (sym (d.resumes F T v t.level o) ∙ ap (λ (x : Kind). resumed_as F T v x t.level o) (sym k.kind))
+module _ {g : Format → Lent → Visitor → Visitor} {f : Format → Lent → Resumed} (e : Level) (d : Driven g f e.kind) where
+  goes_on : (t : Turn) → Keeps e t → (F : Format) (T : Lent) (v : Visitor) (ws : List ℕ) (ts : List Float) → goes (f F T) v t ws ts ≡ goes (resumed_by F T) v t ws ts
+  goes_on (Due n x) k F T v ws ts =
+      let o = v n.child x ws ts in
+      sym (d.resumes F T v n o) ∙ ap (λ (x : Kind). resumed_as F T v x n o) (sym k.kind)
+  goes_on (Done r) k F T v ws ts = refl
 
   -- the child has given a result; a driver that visits children itself does so as `visit` does
-  abbrev Resumes : List Float → Seen → Float → List ℕ → List Float → List ℕ → List Float → (Format → Lent → Resumed) → Type 0
-  Resumes limits s l ws ts ws₁ ts₁ g = (a : List ℕ) (b : List Float) (tk : Visitor)
+  abbrev Resumes : List Float → Turn → Seen → Float → List ℕ → List Float → List ℕ → List Float → (Format → Lent → Resumed) → Type 0
+  Resumes limits t s l ws ts ws₁ ts₁ g = (a : List ℕ) (b : List Float) (tk : Visitor)
       → let T = lent limits a b in let v = visit binary64 T tk in g binary64 T v e (out s l ws ts) ≡ goes (g binary64 T) v t ws₁ ts₁
 
-  module _ {limits : List Float} {s : Seen} {l : Float} {ws : List ℕ} {ts : List Float} (ws₁ : List ℕ) (ts₁ : List Float) where
-    pub visited_by : Resumes limits s l ws ts ws₁ ts₁ f → Resumes limits s l ws ts ws₁ ts₁ resumed_by
-    visited_by h a b tk = let T = lent limits a b in let v = visit binary64 T tk in d.resumes binary64 T v e (out s l ws ts) ∙ h a b tk ∙ goes_on binary64 T v ws₁ ts₁
+  module _ (limits : List Float) (s : Seen) (l : Float) (ws : List ℕ) (ts : List Float) (t : Turn) (k : Keeps e t) (ws₁ : List ℕ) (ts₁ : List Float) where
+    pub visited_by : Resumes limits t s l ws ts ws₁ ts₁ f → Resumes limits t s l ws ts ws₁ ts₁ resumed_by
+    visited_by h a b tk = let T = lent limits a b in let v = visit binary64 T tk in d.resumes binary64 T v e (out s l ws ts) ∙ h a b tk ∙ goes_on t k binary64 T v ws₁ ts₁
 
 -- the node is entered
-module _ {g : Format → Lent → Visitor → Visitor} {f : Format → Lent → Resumed} {k : Kind} {p : ℕ} {dt : Float} {e : Level} {t : Turn}
-    (i : e ≡ entered_level k p dt) (d : Driven g f k) (keeps : Keeps e t) where
+module _ {g : Format → Lent → Visitor → Visitor} {f : Format → Lent → Resumed} {k : Kind} {p : ℕ} {dt : Float} {e : Level}
+    (i : e ≡ entered_level k p dt) (d : Driven g f k) (t : Turn) (keeps : Keeps e t) where
   pub opened_by : (ws : List ℕ) (ts : List Float) (ws₁ : List ℕ) (ts₁ : List Float)
       → ((T : Lent) (v : Visitor) → g binary64 T v e.node e.whole ws ts ≡ goes (f binary64 T) v t ws₁ ts₁)
       → (T : Lent) (v : Visitor) → by_kind binary64 T v k p dt ws ts ≡ goes (resumed_by binary64 T) v t ws₁ ts₁
   opened_by ws ts ws₁ ts₁ h T v =
-      let own = rw i at keeps in d.enters binary64 T v p dt ws ts ∙ (rw i at (h T v)) ∙ goes_on d own binary64 T v ws₁ ts₁
+      let own : Keeps (entered_level k p dt) t = rw i at keeps in
+      d.enters binary64 T v p dt ws ts ∙ (rw i at (h T v)) ∙ goes_on _ d t own binary64 T v ws₁ ts₁

@@ -1,4 +1,4 @@
--- A turn that is due; and where children stand.
+-- Where children stand.
 use mathlib.Core.Path.{◌≡◌}
 use mathlib.Core.Bool.{cond}
 use mathlib.Core.List.{List}
@@ -6,19 +6,10 @@ use Prim.Native.Nat.{ℕ, zero, suc, ◌+◌, ◌-◌, ◌≤◌, ◌<◌}
 use native.Mathlib.Decide.{dec_lt}
 use native.Mathlib.Omega.{arith}
 use lib.Dec.{ltb}
-use lib.Ieee.{Float}
 use borrow.Author.Tests.{le-leb, lt-leb, lt-ltb, le-ltb}
 use Rattle.work.specs.Word.{below_of}
 use Rattle.work.specs.Array.{word_at, fuel_of, end_of, fresh_words, child_from}
-use Rattle.turns.specs.declared.level.Level.{Level}
-use Rattle.turns.specs.declared.level.Turn.{Turn}
-use Rattle.turns.specs.Levels.{Fine, Keeps, due_turn}
 use Rattle.turns.proofs.FuelLaws.{fuel_fresh_to}
-
--- ---- a child is due
-module _ (n : Level) (l : Float) (t : Turn) (d : t ≡ due_turn n l) where
-  pub due_keeps : (e : Level) → n.kind ≡ e.kind → n.node ≡ e.node → Fine n → Keeps e t
-  due_keeps e k p f = rw d (record { kind = k; node = p; fine = λ h. f })
 
 -- ---- where a child ends, and where the next begins
 past : (q e : ℕ) → q < 256 → q < cond (ltb (q + 1 + e) 256) (q + 1 + e) 256

@@ -7,6 +7,7 @@ use native.Mathlib.Decide.{dec_lt}
 use native.Mathlib.Omega.{arith}
 use borrow.Author.Tests.{lt-ltb, le-ltb, le-leb, lt-leb, eq-eqb, ne_eqb}
 use lib.Dec.{eqb}
+use Rattle.std.specs.Int.{from_bool}
 use lib.Ieee.{Float, binary64, lt}
 use Rattle.rules.specs.declared.status.Status.{Status}
 use Rattle.rules.specs.declared.status.Status.TheVariants as status
@@ -15,9 +16,9 @@ use Rattle.rules.specs.Outcome.{smaller}
 use Rattle.work.specs.declared.result.Seen.TheVariants.{Running, Success}
 use Rattle.work.specs.Word.{mark_of, place_of, with_mark}
 use Rattle.work.specs.Array.{word_at, fuel_of, end_of, passed, set_place, set_mark, fresh_words, child_from}
-use Rattle.work.specs.Flat.{Out, out, Step, Visitor, lent, visit, and_then, waiting, turned, turn_out, turning, when_all_on, race_on, after_on}
+use Rattle.work.specs.Flat.{Out, out, Step, Visitor, Lent, lent, visit, and_then, waiting, turned, turn_out, turning, when_all_on, race_on, after_on}
 use Rattle.work.specs.Flat.{when_all_go, when_all, race_go, race, after_over, after_go, after}
-use Rattle.work.specs.declared.result.Result.{Result}
+use Rattle.work.specs.declared.result.Visit.{Visit}
 use Rattle.work.proofs.VisitLaws.{turn_visit}
 use Rattle.leaves.specs.Waiting.{Waiting}
 use Rattle.leaves.specs.Waiting as w
@@ -26,6 +27,11 @@ use Rattle.turns.specs.declared.level.Level.{Level}
 use Rattle.turns.specs.Levels.{Fine, when_all_resumed, race_resumed}
 use Rattle.turns.proofs.FuelLaws.{fuel_set, fuel_waiting, then_alike}
 use Rattle.turns.proofs.TurnLaws.{end_past, fuel_freshed}
+
+-- a bool that is kept as a count comes back
+counted : (b : Bool) (n : ℕ) → n ≡ from_bool b → not (eqb n 0) ≡ b
+counted true n e = rw e
+counted false n e = rw e
 
 -- ---- Race
 race_on_alike : (f g : ℕ → Step) (next : ℕ) → ((ws : List ℕ) (ts : List Float) → f next ws ts ≡ g next ws ts)
@@ -126,28 +132,28 @@ module _ (v : Visitor) (stop : ℕ) (dt : Float) where
       rw e (when_steady s 256 257 q all least ws ts (omega arith) (omega arith) ∙ when_one 256 q all least ws ts h m)
 
 -- ---- Waits that are visited at once: what follows the last follows the first
-module _ (limits : List Float) (a : List ℕ) (b : List Float) (tk : Visitor) (stop : ℕ) (dt : Float) (s : stop ≤ 256) where
+module _ (T : Lent) (tk : Visitor) (stop : ℕ) (dt : Float) (s : stop ≤ 256) where
   abbrev visitor : Visitor
-  visitor = visit binary64 (lent limits a b) tk
+  visitor = visit binary64 T tk
 
-  when_waiting : (x : Bool) (least : Float) {q r : ℕ} {ws ws₁ : List ℕ} {ts ts₁ : List Float} → Waiting limits dt q r ws ts ws₁ ts₁ → (q < r → r ≤ stop)
+  when_waiting : (x : Bool) (least : Float) {q r : ℕ} {ws ws₁ : List ℕ} {ts ts₁ : List Float} → Waiting T.limits dt q r ws ts ws₁ ts₁ → (q < r → r ≤ stop)
       → when_all_go (turning x visitor) stop dt 256 q false least ws ts ≡ when_all_go (turning x visitor) stop dt 256 r false least ws₁ ts₁
   when_waiting x least w.none h = refl
   when_waiting x least (w.more {q = q} {ws = ws} {ts = ts} end mark v w) h =
       let l = passed_on w in
       let d = h (omega arith) in
       when_due (turning x visitor) stop dt s q (q + 1) false least ws ts (omega arith) mark (sym end)
-      ∙ ap (λ (o : Out). and_then o (when_all_on (when_all_go (turning x visitor) stop dt 256) q (q + 1) false least)) (turn_visit x _ _ Running _ _ _ (v a b tk) refl)
+      ∙ ap (λ (o : Out). and_then o (when_all_on (when_all_go (turning x visitor) stop dt 256) q (q + 1) false least)) (turn_visit x _ _ Running _ _ _ (v T.statuses T.leftovers tk) refl)
       ∙ when_waiting x least w (λ y. d)
 
-  race_waiting : {q r : ℕ} {ws ws₁ : List ℕ} {ts ts₁ : List Float} → Waiting limits dt q r ws ts ws₁ ts₁ → (q < r → r ≤ stop)
+  race_waiting : {q r : ℕ} {ws ws₁ : List ℕ} {ts ts₁ : List Float} → Waiting T.limits dt q r ws ts ws₁ ts₁ → (q < r → r ≤ stop)
       → race_go visitor stop dt 256 q ws ts ≡ race_go visitor stop dt 256 r ws₁ ts₁
   race_waiting w.none h = refl
   race_waiting (w.more {q = q} {ws = ws} {ts = ts} end mark v w) h =
       let l = passed_on w in
       let d = h (omega arith) in
       race_due visitor stop dt s q (q + 1) ws ts (omega arith) (sym end)
-      ∙ ap (λ (o : Out). and_then o (race_on (race_go visitor stop dt 256) (q + 1))) (v a b tk)
+      ∙ ap (λ (o : Out). and_then o (race_on (race_go visitor stop dt 256) (q + 1))) (v T.statuses T.leftovers tk)
       ∙ race_waiting w (λ y. d)
 
 -- from the child that runs to where the next is looked for
@@ -173,28 +179,28 @@ module _ {limits : List Float} {e : Level} {ws : List ℕ} {ts : List Float} {ne
     pub past_fuel : fuel_of ws₁ ≤ fuel_of ws
     past_fuel = fuel_waiting p.visits in_places
 
-    module _ (a : List ℕ) (b : List Float) (tk : Visitor) (r : Result) (o : Out) where
+    module _ (a : List ℕ) (b : List Float) (tk : Visitor) (r : Visit) (o : Out) where
       pub when_runs : (x : Bool) → turned x r.seen ≡ Running
           → turn_out x (when_all_go (turning x (visit binary64 (lent limits a b) tk)) e.stop e.whole 256 next false e.rest ws₁ ts₁) ≡ o
           → when_all_resumed x (visit binary64 (lent limits a b) tk) e (out r.seen r.left ws ts) ≡ o
-      when_runs x h g = rw h (ap (turn_out x) (when_waiting limits a b tk e.stop e.whole f.stop_in x e.rest p.visits p.within_stop) ∙ g)
+      when_runs x h g = rw h (ap (turn_out x) (when_waiting (lent limits a b) tk e.stop e.whole f.stop_in x e.rest p.visits p.within_stop) ∙ g)
 
       pub race_runs : r.seen ≡ Running → race_go (visit binary64 (lent limits a b) tk) e.stop e.whole 256 next ws₁ ts₁ ≡ o
           → race_resumed (visit binary64 (lent limits a b) tk) e (out r.seen r.left ws ts) ≡ o
-      race_runs h g = rw h (race_waiting limits a b tk e.stop e.whole f.stop_in p.visits p.within_stop ∙ g)
+      race_runs h g = rw h (race_waiting (lent limits a b) tk e.stop e.whole f.stop_in p.visits p.within_stop ∙ g)
 
 -- what is made of the children, exchanged or not
-module _ (x : Bool) (v : Visitor) (stop : ℕ) (dt : Float) (q all : ℕ) (least : Float) (ws : List ℕ) (ts : List Float) where
-  module _ (o : Out) (g : o ≡ when_all_go (turning x v) stop dt 256 q (not (eqb all 0)) least ws ts) where
-    pub when_some_over : stop ≤ q → all ≡ 0 → turn_out x o ≡ out Running zero_time ws ts
-    when_some_over h e = rw (g, when_over (turning x v) stop dt 256 q (not (eqb all 0)) least ws ts h, eq-eqb all 0 e)
+module _ (x : Bool) (v : Visitor) (stop : ℕ) (dt : Float) (q : ℕ) (all : Bool) (least : Float) (ws : List ℕ) (ts : List Float) where
+  module _ (o : Out) (g : o ≡ when_all_go (turning x v) stop dt 256 q all least ws ts) where
+    pub when_some_over : stop ≤ q → all ≡ false → turn_out x o ≡ out Running zero_time ws ts
+    when_some_over h e = rw (g, when_over (turning x v) stop dt 256 q all least ws ts h, e)
 
-    pub when_all_over : stop ≤ q → (all ≡ 0 → ⊥) → turn_out x o ≡ out (turned x Success) least ws ts
-    when_all_over h e = rw (g, when_over (turning x v) stop dt 256 q (not (eqb all 0)) least ws ts h, ne_eqb all 0 e)
+    pub when_all_over : stop ≤ q → all ≡ true → turn_out x o ≡ out (turned x Success) least ws ts
+    when_all_over h e = rw (g, when_over (turning x v) stop dt 256 q all least ws ts h, e)
 
-    pub when_turn : stop ≤ 256 → (next : ℕ) → q < stop → mark_of (word_at ws q) ≡ 0 → next ≡ end_of ws q
-        → turn_out x o ≡ turn_out x (and_then (turn_out x (v q dt ws ts)) (when_all_on (when_all_go (turning x v) stop dt 256) q next (not (eqb all 0)) least))
-    when_turn s next h m e = ap (turn_out x) (g ∙ when_due (turning x v) stop dt s q next (not (eqb all 0)) least ws ts h m e)
+    pub when_turn : stop ≤ 256 → (next : ℕ) → q < stop → mark_of (word_at ws q) ≡ 0 → next ≡ end_of ws q → (n : ℕ) → n ≡ from_bool all
+        → turn_out x o ≡ turn_out x (and_then (turn_out x (v q dt ws ts)) (when_all_on (when_all_go (turning x v) stop dt 256) q next (not (eqb n 0)) least))
+    when_turn s next h m e n k = rw (counted all n k) (ap (turn_out x) (g ∙ when_due (turning x v) stop dt s q next all least ws ts h m e))
 
 module _ (x : Bool) (v : Visitor) (top : Float) (p : ℕ) (dt : Float) (ws : List ℕ) (ts : List Float) (stop : ℕ) (a : stop ≡ end_of ws p) where
   pub when_empty : stop ≤ p + 1 → turn_out x (when_all v top p dt ws ts) ≡ out (turned x Success) (passed ws dt) ws ts
@@ -249,19 +255,19 @@ module _ (v : Visitor) (p stop : ℕ) (dt : Float) where
     | no l ↦ after_over_lem (suc k) q i none least ws ts (omega arith) ∙ sym (after_over_lem (suc j) q i none least ws ts (omega arith))
   ]
 
-  module _ (q i none : ℕ) (least : Float) (ws : List ℕ) (ts : List Float) where
-    pub after_some_over : stop ≤ q → none ≡ 0 → (ws₁ : List ℕ) → ws₁ ≡ set_place ws p i → after_go v p stop dt 256 q i (not (eqb none 0)) least ws ts ≡ out Running zero_time ws₁ ts
+  module _ (q i : ℕ) (none : Bool) (least : Float) (ws : List ℕ) (ts : List Float) where
+    pub after_some_over : stop ≤ q → none ≡ false → (ws₁ : List ℕ) → ws₁ ≡ set_place ws p i → after_go v p stop dt 256 q i none least ws ts ≡ out Running zero_time ws₁ ts
     unfolding after_over
-    after_some_over h e ws₁ f = rw f (after_over_lem 256 q i (not (eqb none 0)) least ws ts h ∙ rw (eq-eqb none 0 e))
+    after_some_over h e ws₁ f = rw f (after_over_lem 256 q i none least ws ts h ∙ rw e)
 
-    pub after_all_over : stop ≤ q → (none ≡ 0 → ⊥) → (ws₁ : List ℕ) → ws₁ ≡ set_place ws p i → after_go v p stop dt 256 q i (not (eqb none 0)) least ws ts ≡ out Success least ws₁ ts
+    pub after_all_over : stop ≤ q → none ≡ true → (ws₁ : List ℕ) → ws₁ ≡ set_place ws p i → after_go v p stop dt 256 q i none least ws ts ≡ out Success least ws₁ ts
     unfolding after_over
-    after_all_over h e ws₁ f = rw f (after_over_lem 256 q i (not (eqb none 0)) least ws ts h ∙ rw (ne_eqb none 0 e))
+    after_all_over h e ws₁ f = rw f (after_over_lem 256 q i none least ws ts h ∙ rw e)
 
-    pub after_due : stop ≤ 256 → (next : ℕ) → q < stop → next ≡ end_of ws q
-        → after_go v p stop dt 256 q i (not (eqb none 0)) least ws ts ≡ and_then (v q dt ws ts) (after_on p (after_go v p stop dt 256) next i (not (eqb none 0)) least)
-    after_due s next h e =
-        rw e (after_steady s 256 257 q i (not (eqb none 0)) least ws ts (omega arith) (omega arith) ∙ after_one 256 q i (not (eqb none 0)) least ws ts h)
+    pub after_due : stop ≤ 256 → (next : ℕ) → q < stop → next ≡ end_of ws q → (n : ℕ) → n ≡ from_bool none
+        → after_go v p stop dt 256 q i none least ws ts ≡ and_then (v q dt ws ts) (after_on p (after_go v p stop dt 256) next i (not (eqb n 0)) least)
+    after_due s next h e n k =
+        rw (counted none n k, e) (after_steady s 256 257 q i none least ws ts (omega arith) (omega arith) ∙ after_one 256 q i none least ws ts h)
 
 pub after_start : (v : Visitor) (top : Float) (p stop i q : ℕ) (dt : Float) (ws : List ℕ) (ts : List Float) (o : Out) → stop ≡ end_of ws p → i ≡ place_of (word_at ws p)
     → q ≡ child_from ws stop i (p + 1) → after_go v p stop dt 256 q i true top ws ts ≡ o → after v top p dt ws ts ≡ o

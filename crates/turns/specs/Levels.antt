@@ -4,22 +4,15 @@ use Rattle.std.specs.Float.{Format}
 use Rattle.rules.specs.declared.behavior.Kind.{Kind}
 use Rattle.rules.specs.declared.behavior.Kind.TheVariants.{Wait, WaitForever, Action, Invert, AlwaysSucceed, Timeout, Select, If, Sequence}
 use Rattle.rules.specs.declared.behavior.Kind.TheVariants.{MemorylessSequence, MemorylessSelector, While, WhileAll, WhenAll, WhenAny, After, Race}
-use Rattle.work.specs.declared.result.Result.{Result}
-use Rattle.work.specs.declared.result.Seen.TheVariants.{Running}
 use Rattle.work.specs.Flat.{Out, out, Lent, Step, Visitor, and_then, turn_out, turning, decorated}
 use Rattle.work.specs.Flat.{sequence_on, memoryless_on, when_all_on, race_on, after_on, while_on, while_holds, while_all_on, while_all_holds, if_on}
 use Rattle.work.specs.Flat.{sequence_go, memoryless_go, when_all_go, race_go, after_go, while_go, while_body, while_all_go, chosen}
 use Rattle.turns.specs.declared.level.Level.{Level}
 use Rattle.turns.specs.declared.level.Turn.{Turn}
+use Rattle.turns.specs.declared.level.Turn.TheVariants.{Due, Done}
 
 abbrev pub entered_level : Kind → ℕ → Float → Level
 entered_level k p dt = record { kind = k; node = p; child = 0; next = 0; stop = 0; index = 0; count = 0; whole = dt; rest = dt }
-
-abbrev pub due_turn : Level → Float → Turn
-due_turn e x = record { due = true; level = e; seen = Running; left = x }
-
-abbrev pub done_turn : Level → Result → Turn
-done_turn e r = record { due = false; level = e; seen = r.seen; left = r.left }
 
 -- what fits into an entry, and into the numbers of a driver
 pub record Fine (e : Level) : Type 0 where
@@ -102,24 +95,34 @@ module _ (F : Format) (T : Lent) (v : Visitor) where
 
 -- a turn: the child's visit, and what is made of it; or a result
 abbrev pub goes : Resumed → Visitor → Turn → Step
-goes r v t ws ts = cond t.due (r v t.level (v t.level.child t.left ws ts)) (out t.seen t.left ws ts)
+goes r v (Due n x) ws ts = r v n (v n.child x ws ts)
+goes r v (Done r') ws ts = out r'.seen r'.left ws ts
 
--- a turn of the level e: the node and its kind stay, and the child that is due is fine
-pub record Keeps (e : Level) (t : Turn) : Type 0 where
-  pub kind : t.level.kind ≡ e.kind
-  pub node : t.level.node ≡ e.node
-  pub fine : t.due ≡ true → Fine t.level
+-- what holds of the level whose child is due
+abbrev pub IfDue : (Level → Type 0) → Turn → Type 0
+IfDue P (Due n x) = P n
+IfDue P (Done r) = Unit {0}
+
+-- the level n comes behind e: the node and its kind stay, and the child that is due is fine
+pub record Stays (e n : Level) : Type 0 where
+  pub kind : n.kind ≡ e.kind
+  pub node : n.node ≡ e.node
+  pub fine : Fine n
+
+-- a turn of the level e
+abbrev pub Keeps : Level → Turn → Type 0
+Keeps e = IfDue (Stays e)
 
 -- the child that is due ends behind its place; only drivers that go on by `next` say so
 abbrev pub Behind : Turn → Type 0
-Behind t = t.due ≡ true → t.level.child < t.level.next
+Behind = IfDue (λ n. n.child < n.next)
 
 -- the body of a loop, which begins at `next`, stands behind the node; of a While once it has turns
 abbrev pub InBody : Turn → Type 0
-InBody t = t.due ≡ true → 0 < t.level.count → t.level.node < t.level.next
+InBody = IfDue (λ n. 0 < n.count → n.node < n.next)
 
 abbrev pub Bodied : Turn → Type 0
-Bodied t = t.due ≡ true → t.level.node < t.level.next
+Bodied = IfDue (λ n. n.node < n.next)
 
 -- what a driver needs of `next`, by its kind
 abbrev pub Ready : Kind → Level → Type 0
@@ -146,8 +149,12 @@ pub record Sound (e : Level) : Type 0 where
   pub fine : Fine e
   pub ready : Ready e.kind e
 
--- a turn of the level e: the node and its kind stay, and the level of a child that is due is sound
-pub record KeepsSound (e : Level) (t : Turn) : Type 0 where
-  pub kind : t.level.kind ≡ e.kind
-  pub node : t.level.node ≡ e.node
-  pub sound : t.due ≡ true → Sound t.level
+-- the level n comes behind e: the node and its kind stay, and the level of a child that is due is sound
+pub record StaysSound (e n : Level) : Type 0 where
+  pub kind : n.kind ≡ e.kind
+  pub node : n.node ≡ e.node
+  pub sound : Sound n
+
+-- a turn of the level e
+abbrev pub KeepsSound : Level → Turn → Type 0
+KeepsSound e = IfDue (StaysSound e)

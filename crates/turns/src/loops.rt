@@ -4,9 +4,9 @@ ghost use Rattle.work.specs.Array.{fuel_of};
 ghost use Rattle.work.specs.Flat.{out, Visitor, while_go, while_body, while_loop, while_all_go, while_all};
 ghost use Rattle.turns.specs.Levels.{Fine, Entered, Keeps, InBody, Bodied, goes, while_resumed, while_all_resumed};
 
-use crate::level::{Level, Turn, done, done_in_place, due};
+use crate::level::{Level, Turn, done_in_place};
 use work::{
-    FUEL, Result, Seen, child, end_of, index_after, move_on, place_of, put_place, stopped, updates,
+    FUEL, Seen, Visit, child, end_of, index_after, move_on, place_of, put_place, stopped, updates,
     waiting,
 };
 
@@ -19,11 +19,13 @@ pub fn while_opened(level: Level) -> Turn
 {
     let p = level.node;
     if 255 <= p {
-        return done(level, stopped());
+        return Turn::Done(stopped());
     }
-    let mut first = level;
-    first.child = p + 1;
-    due(first, level.whole)
+    let first = Level {
+        child: p + 1,
+        ..level
+    };
+    Turn::Due(first, level.whole)
 }
 
 // The body's child i, which is at q, with so many turns left.
@@ -38,16 +40,18 @@ fn while_next(level: Level, turns: u32, q: usize, i: u32, rest: f64) -> Turn
     ensures in_body { InBody result }
 {
     if turns == 0 {
-        return done(level, stopped());
+        return Turn::Done(stopped());
     }
     if level.stop <= q {
-        return done(level, stopped());
+        return Turn::Done(stopped());
     }
-    let mut next = level;
-    next.child = q;
-    next.index = i;
-    next.count = turns;
-    due(next, rest)
+    let next = Level {
+        child: q,
+        index: i,
+        count: turns,
+        ..level
+    };
+    Turn::Due(next, rest)
 }
 
 // The condition is Running: the body with the whole dt, from the place on.
@@ -61,9 +65,11 @@ fn while_body(work: &[u32; 260], level: Level) -> Turn
     let stop = end_of(work, p);
     let body = end_of(work, p + 1);
     let i = place_of(work[p]);
-    let mut first = level;
-    first.next = body;
-    first.stop = stop;
+    let first = Level {
+        next: body,
+        stop,
+        ..level
+    };
     while_next(
         first,
         work[FUEL],
@@ -73,7 +79,7 @@ fn while_body(work: &[u32; 260], level: Level) -> Turn
     )
 }
 
-pub fn while_resumed(work: &mut [u32; 260], times: &mut [f64], level: Level, res: Result) -> Turn
+pub fn while_resumed(work: &mut [u32; 260], times: &mut [f64], level: Level, res: Visit) -> Turn
     requires fine { Fine level }
     requires node_lt_next { 0 < level.count → level.node < level.next }
     ensures times_value { (v : Visitor)
@@ -83,15 +89,14 @@ pub fn while_resumed(work: &mut [u32; 260], times: &mut [f64], level: Level, res
     ensures in_body { InBody result }
     ensures work_unchanged { fuel_of work.new ≡ fuel_of work.old }
 {
-    let seen = res.seen;
     if level.count == 0 {
-        let Seen::Running = seen else {
-            return done(level, res);
+        return match res.seen {
+            Seen::Running => while_body(work, level),
+            _ => Turn::Done(res),
         };
-        return while_body(work, level);
     }
-    match seen {
-        Seen::Stopped => done(level, res),
+    match res.seen {
+        Seen::Stopped => Turn::Done(res),
         Seen::Running => done_in_place(work, level, waiting()),
         Seen::Failure => done_in_place(work, level, res),
         Seen::Success => {
@@ -124,21 +129,28 @@ fn while_all_next(level: Level, turns: u32, q: usize, i: u32, rest: f64) -> Turn
     ensures bodied { Bodied result }
 {
     if turns == 0 {
-        return done(level, stopped());
+        return Turn::Done(stopped());
     }
-    let mut next = level;
-    next.index = i;
-    next.count = turns - 1;
     if i == 0 {
-        next.child = level.node + 1;
-        next.rest = rest;
-        return due(next, level.whole);
+        let condition = Level {
+            child: level.node + 1,
+            index: i,
+            count: turns - 1,
+            rest,
+            ..level
+        };
+        return Turn::Due(condition, level.whole);
     }
     if level.stop <= q {
-        return done(level, stopped());
+        return Turn::Done(stopped());
     }
-    next.child = q;
-    due(next, rest)
+    let next = Level {
+        child: q,
+        index: i,
+        count: turns - 1,
+        ..level
+    };
+    Turn::Due(next, rest)
 }
 
 pub fn while_all_opened(work: &[u32; 260], level: Level) -> Turn
@@ -149,13 +161,15 @@ pub fn while_all_opened(work: &[u32; 260], level: Level) -> Turn
 {
     let p = level.node;
     if 255 <= p {
-        return done(level, stopped());
+        return Turn::Done(stopped());
     }
     let stop = end_of(work, p);
     let i = place_of(work[p]);
-    let mut first = level;
-    first.next = end_of(work, p + 1);
-    first.stop = stop;
+    let first = Level {
+        next: end_of(work, p + 1),
+        stop,
+        ..level
+    };
     while_all_next(
         first,
         work[FUEL],
@@ -165,12 +179,7 @@ pub fn while_all_opened(work: &[u32; 260], level: Level) -> Turn
     )
 }
 
-pub fn while_all_resumed(
-    work: &mut [u32; 260],
-    times: &mut [f64],
-    level: Level,
-    res: Result,
-) -> Turn
+pub fn while_all_resumed(work: &mut [u32; 260], times: &mut [f64], level: Level, res: Visit) -> Turn
     requires fine { Fine level }
     requires node_lt_next { level.node < level.next }
     ensures times_value { (v : Visitor)
@@ -180,19 +189,18 @@ pub fn while_all_resumed(
     ensures bodied { Bodied result }
     ensures work_unchanged { fuel_of work.new ≡ fuel_of work.old }
 {
-    let seen = res.seen;
     if level.index == 0 {
-        return match seen {
-            Seen::Stopped => done(level, res),
+        return match res.seen {
+            Seen::Stopped => Turn::Done(res),
             Seen::Running => while_all_next(level, level.count, level.next, 1, level.rest),
             _ => {
                 put_place(work, level.node, 1);
-                done(level, res)
+                Turn::Done(res)
             }
         };
     }
-    match seen {
-        Seen::Stopped => done(level, res),
+    match res.seen {
+        Seen::Stopped => Turn::Done(res),
         Seen::Running => done_in_place(work, level, waiting()),
         Seen::Failure => done_in_place(work, level, res),
         Seen::Success => {

@@ -6,7 +6,7 @@ ghost use Rattle.work.specs.Flat.{out, Lent, lent, Visitor, is_leaf, is_decorato
 ghost use Rattle.turns.specs.Levels.{Sound, KeepsSound, goes, entered_level, resumed_by};
 
 use crate::branches::{if_opened, if_resumed};
-use crate::level::{Level, Turn, done, entered};
+use crate::level::{Level, Turn, entered};
 use crate::loops::{while_all_opened, while_all_resumed, while_opened, while_resumed};
 use crate::sequence::{memoryless_opened, memoryless_resumed, sequence_opened, sequence_resumed};
 use crate::when_all::{
@@ -14,7 +14,7 @@ use crate::when_all::{
 };
 use leaves::decorated;
 use rules::Kind;
-use work::{Result, exchanges, stopped};
+use work::{Reads, Visit, exchanges, stopped};
 
 // A node with children that is no decorator is entered.
 pub fn opened(work: &mut [u32; 260], times: &mut [f64], kind: Kind, p: usize, dt: f64) -> Turn
@@ -31,7 +31,7 @@ pub fn opened(work: &mut [u32; 260], times: &mut [f64], kind: Kind, p: usize, dt
         | Kind::Action
         | Kind::Invert
         | Kind::AlwaysSucceed
-        | Kind::Timeout => done(level, stopped()),
+        | Kind::Timeout => Turn::Done(stopped()),
         Kind::If => if_opened(work, level),
         Kind::Select | Kind::Sequence => sequence_opened(work, level),
         Kind::MemorylessSequence | Kind::MemorylessSelector => {
@@ -48,13 +48,13 @@ pub fn opened(work: &mut [u32; 260], times: &mut [f64], kind: Kind, p: usize, dt
 // The child that an open node waits for has given a result.
 pub fn resumed(
     work: &mut [u32; 260],
-    limits: &&[f64],
+    reads: &Reads,
     times: &mut [f64],
     level: Level,
-    res: Result,
+    res: Visit,
 ) -> Turn
     requires { Sound level }
-    ensures by_index { (a : List ℕ) (b : List Float) (tk : Visitor) → let T = lent limits.now.now a b in let v = visit binary64 T tk in
+    ensures by_index { (a : List ℕ) (b : List Float) (tk : Visitor) → let T = lent reads.now.limits.now a b in let v = visit binary64 T tk in
         resumed_by binary64 T v level (out res.seen res.left work.old times.old)
         ≡ goes (resumed_by binary64 T) v result work.new times.new }
     ensures keeps_sound { KeepsSound level result }
@@ -62,11 +62,15 @@ pub fn resumed(
 {
     let kind = level.kind;
     match kind {
-        Kind::Wait | Kind::WaitForever | Kind::Action => done(level, res),
-        Kind::Invert | Kind::AlwaysSucceed | Kind::Timeout => done(
-            level,
-            decorated(work, limits, times, level.node, res, level.whole),
-        ),
+        Kind::Wait | Kind::WaitForever | Kind::Action => Turn::Done(res),
+        Kind::Invert | Kind::AlwaysSucceed | Kind::Timeout => Turn::Done(decorated(
+            work,
+            reads,
+            times,
+            level.node,
+            res,
+            level.whole,
+        )),
         Kind::If => if_resumed(work, times, level, res),
         Kind::Select | Kind::Sequence => {
             sequence_resumed(work, times, exchanges(kind), level, res)
@@ -77,9 +81,9 @@ pub fn resumed(
         Kind::While => while_resumed(work, times, level, res),
         Kind::WhileAll => while_all_resumed(work, times, level, res),
         Kind::WhenAll | Kind::WhenAny => {
-            when_all_resumed(work, limits, times, exchanges(kind), level, res)
+            when_all_resumed(work, reads, times, exchanges(kind), level, res)
         }
         Kind::After => after_resumed(work, level, res),
-        Kind::Race => race_resumed(work, limits, times, level, res),
+        Kind::Race => race_resumed(work, reads, times, level, res),
     }
 }

@@ -4,9 +4,9 @@ ghost use Rattle.work.specs.Array.{fuel_of};
 ghost use Rattle.work.specs.Flat.{out, Visitor, turn_out, turning, sequence, memoryless};
 ghost use Rattle.turns.specs.Levels.{Fine, Keeps, Behind, goes, sequence_resumed, memoryless_resumed};
 
-use crate::level::{Level, Turn, done, done_in_place, due};
+use crate::level::{Level, Turn, done_in_place};
 use work::{
-    Result, Seen, child, end_of, fresh, passed, place_of, put_place, up_on, updates, waiting,
+    Seen, Visit, child, end_of, fresh, passed, place_of, put_place, up_on, updates, waiting,
 };
 
 // From the place on.
@@ -23,22 +23,25 @@ pub fn sequence_opened(work: &[u32; 260], level: Level) -> Turn
     let i = place_of(work[p]);
     let q = child(work, stop, i, p + 1);
     if stop <= q {
-        return done(level, waiting());
+        return Turn::Done(waiting());
     }
-    let mut first = level;
-    first.child = q;
-    first.stop = stop;
-    first.index = i;
-    due(first, level.whole)
+    let first = Level {
+        child: q,
+        stop,
+        index: i,
+        ..level
+    };
+    Turn::Due(first, level.whole)
 }
 
 // Moving on makes the old and the new child fresh.
 pub fn sequence_resumed(
     work: &mut [u32; 260],
     times: &mut [f64],
+    // Whether Success and Failure change places: a value, no step.
     exchange: bool,
     level: Level,
-    res: Result,
+    res: Visit,
 ) -> Turn
     requires { Fine level }
     ensures times_value { (v : Visitor)
@@ -47,9 +50,8 @@ pub fn sequence_resumed(
     ensures keeps { Keeps level result }
     ensures work_unchanged { fuel_of work.new ≡ fuel_of work.old }
 {
-    let seen = res.seen;
-    match seen.turned(exchange) {
-        Seen::Stopped => done(level, res),
+    match res.seen.turned(exchange) {
+        Seen::Stopped => Turn::Done(res),
         Seen::Running => done_in_place(work, level, waiting()),
         Seen::Failure => done_in_place(work, level, res),
         Seen::Success => {
@@ -57,17 +59,19 @@ pub fn sequence_resumed(
             let update = updates(work);
             if level.stop <= next {
                 put_place(work, level.node, up_on(update, level.index));
-                return done(level, res);
+                return Turn::Done(res);
             }
             let behind = end_of(work, next);
             fresh(work, times, level.child, behind);
-            let mut moved = level;
-            moved.child = next;
-            moved.index = level.index + 1;
+            let moved = Level {
+                child: next,
+                index: level.index + 1,
+                ..level
+            };
             if !update {
                 return done_in_place(work, moved, waiting());
             }
-            due(moved, res.left)
+            Turn::Due(moved, res.left)
         }
     }
 }
@@ -93,21 +97,19 @@ pub fn memoryless_opened(
     let stop = end_of(work, p);
     let q = p + 1;
     if stop <= q {
-        let empty = Seen::Success;
-        return done(
-            level,
-            Result {
-                seen: empty.turned(exchange),
-                left: passed(work, dt),
-            },
-        );
+        return Turn::Done(Visit {
+            seen: Seen::Success.turned(exchange),
+            left: passed(work, dt),
+        });
     }
     fresh(work, times, q, stop);
-    let mut first = level;
-    first.child = q;
-    first.next = end_of(work, q);
-    first.stop = stop;
-    due(first, dt)
+    let first = Level {
+        child: q,
+        next: end_of(work, q),
+        stop,
+        ..level
+    };
+    Turn::Due(first, dt)
 }
 
 // Moving on makes the old child fresh.
@@ -116,7 +118,7 @@ pub fn memoryless_resumed(
     times: &mut [f64],
     exchange: bool,
     level: Level,
-    res: Result,
+    res: Visit,
 ) -> Turn
     requires fine { Fine level }
     requires child_lt_next { level.child < level.next }
@@ -127,27 +129,25 @@ pub fn memoryless_resumed(
     ensures behind { Behind result }
     ensures work_unchanged { fuel_of work.new ≡ fuel_of work.old }
 {
-    let seen = res.seen;
-    match seen.turned(exchange) {
-        Seen::Stopped | Seen::Failure => done(level, res),
-        Seen::Running => done(level, waiting()),
+    match res.seen.turned(exchange) {
+        Seen::Stopped | Seen::Failure => Turn::Done(res),
+        Seen::Running => Turn::Done(waiting()),
         Seen::Success => {
             let next = level.next;
             let rest = res.left;
             if level.stop <= next {
-                return done(
-                    level,
-                    Result {
-                        seen,
-                        left: passed(work, rest),
-                    },
-                );
+                return Turn::Done(Visit {
+                    left: passed(work, rest),
+                    ..res
+                });
             }
             fresh(work, times, level.child, next);
-            let mut moved = level;
-            moved.child = next;
-            moved.next = end_of(work, next);
-            due(moved, rest)
+            let moved = Level {
+                child: next,
+                next: end_of(work, next),
+                ..level
+            };
+            Turn::Due(moved, rest)
         }
     }
 }

@@ -1,5 +1,5 @@
 // WhenAll and WhenAny, Race and After, a child at a time.
-ghost use Rattle.std.specs.Prelude.{◌≡◌, Bool, not, List, ℕ, ◌+◌, ◌<◌, ◌≤◌, eqb, Float};
+ghost use Rattle.std.specs.Prelude.{◌≡◌, Bool, List, ℕ, ◌+◌, ◌<◌, ◌≤◌, Float};
 ghost use Rattle.std.specs.Float.{binary64};
 ghost use Rattle.rules.specs.Outcome.{largest};
 ghost use Rattle.work.specs.Word.{mark_of};
@@ -7,10 +7,10 @@ ghost use Rattle.work.specs.Array.{word_at, fuel_of};
 ghost use Rattle.work.specs.Flat.{out, lent, Visitor, visit, turn_out, turning, when_all_go, when_all, race_go, race, after_go, after};
 ghost use Rattle.turns.specs.Levels.{Fine, Keeps, Behind, goes, when_all_resumed, race_resumed, after_resumed};
 
-use crate::level::{Level, Turn, done, done_in_place, due};
+use crate::level::{Level, Turn, done_in_place};
 use leaves::past_waits;
 use work::{
-    LARGEST, Result, Seen, child, end_of, fresh, mark_of, passed, place_of, put_mark, put_place,
+    Reads, Seen, Visit, child, end_of, fresh, mark_of, passed, place_of, put_mark, put_place,
     smaller, sooner, waiting,
 };
 
@@ -32,12 +32,20 @@ fn unmarked(work: &[u32; 260], q: usize, stop: usize) -> usize
 }
 
 // The child without mark from q on, or the end; all says whether each child so far is marked.
-fn when_all_next(work: &[u32; 260], any: bool, level: Level, q: usize, all: u32, least: f64) -> Turn
+fn when_all_next(
+    work: &[u32; 260],
+    // Whether Success and Failure change places: a value, no step.
+    any: bool,
+    level: Level,
+    q: usize,
+    all: bool,
+    least: f64,
+) -> Turn
     requires node_lt_q { level.node < q }
     requires q_bound { q ≤ 256 }
     requires stop_bound { level.stop ≤ 256 }
     requires index_bound { level.index ≤ 255 + q }
-    ensures ts_value { (v : Visitor) (ts : List Float) → turn_out any (when_all_go (turning any v) level.stop level.whole 256 q (not (eqb all 0)) least work.now ts)
+    ensures ts_value { (v : Visitor) (ts : List Float) → turn_out any (when_all_go (turning any v) level.stop level.whole 256 q all least work.now ts)
         ≡ goes (when_all_resumed any) v result work.now ts }
     ensures keeps { Keeps level result }
     ensures behind { Behind result }
@@ -45,24 +53,22 @@ fn when_all_next(work: &[u32; 260], any: bool, level: Level, q: usize, all: u32,
     let stop = level.stop;
     let at = unmarked(work, q, stop);
     if stop <= at {
-        if all == 0 {
-            return done(level, waiting());
+        if !all {
+            return Turn::Done(waiting());
         }
-        let ended = Seen::Success;
-        return done(
-            level,
-            Result {
-                seen: ended.turned(any),
-                left: least,
-            },
-        );
+        return Turn::Done(Visit {
+            seen: Seen::Success.turned(any),
+            left: least,
+        });
     }
-    let mut next = level;
-    next.child = at;
-    next.next = end_of(work, at);
-    next.count = all;
-    next.rest = least;
-    due(next, level.whole)
+    let next = Level {
+        child: at,
+        next: end_of(work, at),
+        count: u32::from(all),
+        rest: least,
+        ..level
+    };
+    Turn::Due(next, level.whole)
 }
 
 pub fn when_all_opened(work: &[u32; 260], any: bool, level: Level) -> Turn
@@ -76,32 +82,27 @@ pub fn when_all_opened(work: &[u32; 260], any: bool, level: Level) -> Turn
     let p = level.node;
     let stop = end_of(work, p);
     if stop <= p + 1 {
-        let ended = Seen::Success;
-        return done(
-            level,
-            Result {
-                seen: ended.turned(any),
-                left: passed(work, level.whole),
-            },
-        );
+        return Turn::Done(Visit {
+            seen: Seen::Success.turned(any),
+            left: passed(work, level.whole),
+        });
     }
-    let mut first = level;
-    first.stop = stop;
-    when_all_next(work, any, first, p + 1, 1, LARGEST)
+    let first = Level { stop, ..level };
+    when_all_next(work, any, first, p + 1, true, f64::MAX)
 }
 
 // A child that ends is made fresh and marked.
 pub fn when_all_resumed(
     work: &mut [u32; 260],
-    limits: &&[f64],
+    reads: &Reads,
     times: &mut [f64],
     any: bool,
     level: Level,
-    res: Result,
+    res: Visit,
 ) -> Turn
     requires fine { Fine level }
     requires child_lt_next { level.child < level.next }
-    ensures by_index { (a : List ℕ) (b : List Float) (tk : Visitor) → let v = visit binary64 (lent limits.now.now a b) tk in
+    ensures by_index { (a : List ℕ) (b : List Float) (tk : Visitor) → let v = visit binary64 (lent reads.now.limits.now a b) tk in
         when_all_resumed any v level (out res.seen res.left work.old times.old)
         ≡ goes (when_all_resumed any) v result work.new times.new }
     ensures keeps { Keeps level result }
@@ -110,15 +111,14 @@ pub fn when_all_resumed(
 {
     let mut next = level.next;
     let least = level.rest;
-    let seen = res.seen;
-    match seen.turned(any) {
-        Seen::Stopped | Seen::Failure => done(level, res),
+    match res.seen.turned(any) {
+        Seen::Stopped | Seen::Failure => Turn::Done(res),
         Seen::Running => {
             // Where one child runs, many Waits often do. One try for sixteen places, so that those that fail cost little.
             if next % 16 == 2 {
-                next = past_waits(work, limits, times, next, level.stop, level.whole);
+                next = past_waits(work, reads, times, next, level.stop, level.whole);
             }
-            when_all_next(work, any, level, next, 0, least)
+            when_all_next(work, any, level, next, false, least)
         }
         Seen::Success => {
             let q = level.child;
@@ -129,7 +129,7 @@ pub fn when_all_resumed(
                 any,
                 level,
                 next,
-                level.count,
+                level.count != 0,
                 smaller(least, res.left),
             )
         }
@@ -147,12 +147,14 @@ fn race_next(work: &[u32; 260], level: Level, q: usize) -> Turn
     ensures behind { Behind result }
 {
     if level.stop <= q {
-        return done(level, waiting());
+        return Turn::Done(waiting());
     }
-    let mut next = level;
-    next.child = q;
-    next.next = end_of(work, q);
-    due(next, level.whole)
+    let due = Level {
+        child: q,
+        next: end_of(work, q),
+        ..level
+    };
+    Turn::Due(due, level.whole)
 }
 
 pub fn race_opened(work: &[u32; 260], level: Level) -> Turn
@@ -163,46 +165,47 @@ pub fn race_opened(work: &[u32; 260], level: Level) -> Turn
     ensures behind { Behind result }
 {
     let p = level.node;
-    let mut first = level;
-    first.stop = end_of(work, p);
+    let first = Level {
+        stop: end_of(work, p),
+        ..level
+    };
     race_next(work, first, p + 1)
 }
 
 // The first child that ends gives the result.
 pub fn race_resumed(
     work: &mut [u32; 260],
-    limits: &&[f64],
+    reads: &Reads,
     times: &mut [f64],
     level: Level,
-    res: Result,
+    res: Visit,
 ) -> Turn
     requires fine { Fine level }
     requires child_lt_next { level.child < level.next }
-    ensures by_index { (a : List ℕ) (b : List Float) (tk : Visitor) → let v = visit binary64 (lent limits.now.now a b) tk in
+    ensures by_index { (a : List ℕ) (b : List Float) (tk : Visitor) → let v = visit binary64 (lent reads.now.limits.now a b) tk in
         race_resumed v level (out res.seen res.left work.old times.old) ≡ goes race_resumed v result work.new times.new }
     ensures keeps { Keeps level result }
     ensures behind { Behind result }
     ensures work_bound { fuel_of work.new ≤ fuel_of work.old }
 {
-    let seen = res.seen;
-    let Seen::Running = seen else {
-        return done(level, res);
+    let Seen::Running = res.seen else {
+        return Turn::Done(res);
     };
     let mut next = level.next;
     // One try for sixteen places, as in when_all_resumed.
     if next % 16 == 2 {
-        next = past_waits(work, limits, times, next, level.stop, level.whole);
+        next = past_waits(work, reads, times, next, level.stop, level.whole);
     }
     race_next(work, level, next)
 }
 
 // The child at q, which is child i, or the end; none says whether no child so far is Running.
-fn after_next(work: &mut [u32; 260], level: Level, q: usize, i: u32, none: u32, least: f64) -> Turn
+fn after_next(work: &mut [u32; 260], level: Level, q: usize, i: u32, none: bool, least: f64) -> Turn
     requires node_lt_q { level.node < q }
     requires q_bound { q ≤ 256 }
     requires stop_bound { level.stop ≤ 256 }
     requires i_bound { i ≤ 255 + q }
-    ensures ts_value { (v : Visitor) (ts : List Float) → after_go v level.node level.stop level.whole 256 q i (not (eqb none 0)) least work.old ts
+    ensures ts_value { (v : Visitor) (ts : List Float) → after_go v level.node level.stop level.whole 256 q i none least work.old ts
         ≡ goes after_resumed v result work.new ts }
     ensures keeps { Keeps level result }
     ensures behind { Behind result }
@@ -210,24 +213,23 @@ fn after_next(work: &mut [u32; 260], level: Level, q: usize, i: u32, none: u32, 
 {
     if level.stop <= q {
         put_place(work, level.node, i);
-        if none == 0 {
-            return done(level, waiting());
+        if !none {
+            return Turn::Done(waiting());
         }
-        return done(
-            level,
-            Result {
-                seen: Seen::Success,
-                left: least,
-            },
-        );
+        return Turn::Done(Visit {
+            seen: Seen::Success,
+            left: least,
+        });
     }
-    let mut next = level;
-    next.child = q;
-    next.next = end_of(work, q);
-    next.index = i;
-    next.count = none;
-    next.rest = least;
-    due(next, level.whole)
+    let next = Level {
+        child: q,
+        next: end_of(work, q),
+        index: i,
+        count: u32::from(none),
+        rest: least,
+        ..level
+    };
+    Turn::Due(next, level.whole)
 }
 
 pub fn after_opened(work: &mut [u32; 260], level: Level) -> Turn
@@ -240,20 +242,19 @@ pub fn after_opened(work: &mut [u32; 260], level: Level) -> Turn
     let p = level.node;
     let stop = end_of(work, p);
     let place = place_of(work[p]);
-    let mut first = level;
-    first.stop = stop;
+    let first = Level { stop, ..level };
     after_next(
         work,
         first,
         child(work, stop, place, p + 1),
         place,
-        1,
-        LARGEST,
+        true,
+        f64::MAX,
     )
 }
 
 // Children must succeed in their order, each with less left than the one before it.
-pub fn after_resumed(work: &mut [u32; 260], level: Level, res: Result) -> Turn
+pub fn after_resumed(work: &mut [u32; 260], level: Level, res: Visit) -> Turn
     requires fine { Fine level }
     requires child_lt_next { level.child < level.next }
     ensures ts_value { (v : Visitor) (ts : List Float) → after_resumed v level (out res.seen res.left work.old ts) ≡ goes after_resumed v result work.new ts }
@@ -261,24 +262,23 @@ pub fn after_resumed(work: &mut [u32; 260], level: Level, res: Result) -> Turn
     ensures behind { Behind result }
     ensures work_unchanged { fuel_of work.new ≡ fuel_of work.old }
 {
-    let seen = res.seen;
-    match seen {
-        Seen::Stopped => done(level, res),
+    match res.seen {
+        Seen::Stopped => Turn::Done(res),
         Seen::Failure => done_in_place(work, level, res),
-        Seen::Running => after_next(work, level, level.next, level.index, 0, 0.0),
+        Seen::Running => after_next(work, level, level.next, level.index, false, 0.0),
         Seen::Success => {
             let left = res.left;
             if !sooner(level.count != 0, left, level.rest) {
                 return done_in_place(
                     work,
                     level,
-                    Result {
+                    Visit {
                         seen: Seen::Failure,
                         left: smaller(level.rest, left),
                     },
                 );
             }
-            after_next(work, level, level.next, level.index + 1, 1, left)
+            after_next(work, level, level.next, level.index + 1, true, left)
         }
     }
 }

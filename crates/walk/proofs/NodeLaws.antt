@@ -1,79 +1,27 @@
--- One law for each path of If and of the decorators.
+-- One law for each path of the decorators.
 use mathlib.Core.Path.{◌≡◌, refl}
 use mathlib.Core.Bool.{Bool, true, false, cond}
 use mathlib.Core.List.{List}
 use Prim.Native.Nat.{ℕ, zero, suc, ◌+◌, ◌-◌, ◌≤◌, ◌<◌}
 use native.Mathlib.Omega.{arith}
-use lib.Dec.{ltb}
 use lib.Ieee.{Float, Format, add, le}
 use lib.ListN.{set}
-use borrow.Author.Tests.{lt-ltb, le-ltb, ne_eqb}
+use borrow.Author.Tests.{lt-ltb, le-ltb}
 use Rattle.rules.specs.declared.behavior.Kind.{Kind}
 use Rattle.rules.specs.declared.status.Status.{Status}
 use Rattle.rules.specs.declared.status.Status.TheVariants as status
 use Rattle.rules.specs.Kinds.{is}
 use Rattle.rules.specs.Tree.{zero_time}
 use Rattle.work.specs.declared.result.Seen.{Seen}
-use Rattle.work.specs.declared.result.Seen.TheVariants.{Stopped, Running, Success, Failure}
-use Rattle.work.specs.Word.{kind_in, place_of}
-use Rattle.work.specs.Array.{word_at, time_at, number_at, fuel_of, passed, end_of, set_seen, child_from, decided_words, chosen_words, chosen_times}
-use Rattle.work.specs.Flat.{Out, out, Lent, Visitor, seen_no, stopped, and_then, is_leaf, is_decorator, choice_of, seen}
-use Rattle.work.specs.Flat.{branch, chosen, if_node, times_out, decorated, decorator, by_kind, visit, tick}
+use Rattle.work.specs.declared.result.Seen.TheVariants.{Stopped}
+use Rattle.work.specs.Word.{kind_in}
+use Rattle.work.specs.Array.{word_at, time_at, number_at, fuel_of, passed, set_seen}
+use Rattle.work.specs.Flat.{Out, out, Lent, Visitor, seen_no, and_then, is_leaf, is_decorator, seen}
+use Rattle.work.specs.Flat.{times_out, decorated, decorator, by_kind, visit, tick}
 use Rattle.rules.specs.declared.behavior.Kind.TheVariants.{Invert, Timeout}
 use Rattle.work.proofs.KindLaws.{decorator_case}
 use Rattle.work.proofs.VisitLaws.{Gave, seen_put, visit_node, tick_zero, tick_spent, tick_on}
 
--- ---- If
-module _ (v : Visitor) (p : ℕ) (dt : Float) (ws : List ℕ) (ts : List Float) (stop i : ℕ) (a : stop ≡ end_of ws p) (b : i ≡ place_of (word_at ws p)) where
-  module _ (q : ℕ) (n : 0 < i) (d : q ≡ child_from ws stop i (p + 1)) where
-    pub if_held : q < stop → (o : Out) → v q dt ws ts ≡ o → if_node v p dt ws ts ≡ o
-    unfolding if_node branch
-    if_held h o e = rw (← a, ← b, ne_eqb i 0 (λ z. omega arith), ← d, lt-ltb q stop h) e
-
-    pub if_lost : stop ≤ q → if_node v p dt ws ts ≡ out Stopped zero_time ws ts
-    unfolding if_node branch
-    if_lost h = rw (← a, ← b, ne_eqb i 0 (λ z. omega arith), ← d, le-ltb q stop h)
-
-  module _ (n : i ≤ 0) where
-    zero_i : i ≡ 0
-    zero_i = omega arith
-
-    pub if_none : 255 ≤ p → if_node v p dt ws ts ≡ out Stopped zero_time ws ts
-    unfolding if_node
-    if_none h = rw (← a, ← b, zero_i, le-ltb p 255 h)
-
-    module _ (h : p < 255) (s : Seen) (l : Float) (ws₁ : List ℕ) (ts₁ : List Float) (e : v (p + 1) dt ws ts ≡ out s l ws₁ ts₁) where
-      undecided : (s : Seen) → v (p + 1) dt ws ts ≡ out s l ws₁ ts₁ → choice_of s ≡ 0 → if_node v p dt ws ts ≡ out s l ws₁ ts₁
-      unfolding if_node
-      undecided Stopped e z = rw (← a, ← b, zero_i, lt-ltb p 255 h, e)
-      undecided Running e z = rw (← a, ← b, zero_i, lt-ltb p 255 h, e)
-      undecided Success e z = absurd (omega arith)
-      undecided Failure e z = absurd (omega arith)
-
-      pub if_undecided : choice_of s ≡ 0 → if_node v p dt ws ts ≡ out s l ws₁ ts₁
-      if_undecided z = undecided s e z
-
-      decided : (s : Seen) → v (p + 1) dt ws ts ≡ out s l ws₁ ts₁ → (choice_of s ≡ 0 → ⊥) → (o : Out)
-          → chosen v p stop (choice_of s) l ws₁ ts₁ ≡ o → if_node v p dt ws ts ≡ o
-      unfolding if_node
-      decided Stopped e z o g = absurd (z refl)
-      decided Running e z o g = absurd (z refl)
-      decided Success e z o g = rw (← b, zero_i, lt-ltb p 255 h, e, ← a) g
-      decided Failure e z o g = rw (← b, zero_i, lt-ltb p 255 h, e, ← a) g
-
-      module _ (j : ℕ) (c : j ≡ choice_of s) (z : j ≡ 0 → ⊥) (ws₂ : List ℕ) (ts₂ : List Float) (x : ws₂ ≡ chosen_words p stop j ws₁)
-          (y : ts₂ ≡ chosen_times p stop j ws₁ ts₁) (q : ℕ) (d : q ≡ child_from ws₂ stop j (p + 1)) where
-        chosen_is : (o : Out) → cond (ltb q stop) (v q l ws₂ ts₂) (stopped ws₂ ts₂) ≡ o → chosen v p stop j l ws₁ ts₁ ≡ o
-        unfolding chosen branch chosen_words chosen_times decided_words
-        chosen_is o g = rw (d, x, y) at g
-
-        pub if_chosen : q < stop → (o : Out) → v q l ws₂ ts₂ ≡ o → if_node v p dt ws ts ≡ o
-        if_chosen g o f = decided s e (rw (← c) z) o (rw (← c) (chosen_is o (rw (lt-ltb q stop g) f)))
-
-        pub if_chosen_lost : stop ≤ q → if_node v p dt ws ts ≡ out Stopped zero_time ws₂ ts₂
-        if_chosen_lost g = decided s e (rw (← c) z) _ (rw (← c) (chosen_is _ (rw (le-ltb q stop g))))
-
--- ---- decorators
 decorator_kind : (F : Format) (T : Lent) (v : Visitor) (k : Kind) → is_decorator k ≡ true → (is_leaf k ≡ false) × ((p : ℕ) (dt : Float) (ws : List ℕ) (ts : List Float)
     → by_kind F T v k p dt ws ts ≡ decorator F T v p dt ws ts)
 unfolding by_kind

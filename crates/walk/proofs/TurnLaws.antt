@@ -1,14 +1,21 @@
 -- What visits the children, and what the turns of the drivers share.
 use mathlib.Core.Path.{◌≡◌}
 use mathlib.Core.List.{List}
-use Prim.Native.Nat.{ℕ, ◌-◌, ◌≤◌, ◌<◌}
+use Prim.Native.Nat.{ℕ, ◌+◌, ◌-◌, ◌≤◌, ◌<◌}
 use native.Mathlib.Omega.{arith}
-use denote.Ref.{Bor}
 use lib.Ieee.{Float, binary64}
-use Rattle.work.specs.Flat.{Out, Visitor, lent, visiting}
+use Rattle.work.specs.declared.reads.Reads.{Reads}
+use Rattle.work.specs.Flat.{Out, Visitor, lent_in, visiting}
 
-abbrev pub visitor : Bor (List Float) → Bor (List ℕ) → Bor (List Float) → ℕ → Visitor
-visitor limits statuses leftovers = visiting binary64 (lent limits.now statuses.now leftovers.now)
+abbrev pub visitor : Reads → ℕ → Visitor
+visitor reads = visiting binary64 (lent_in reads)
+
+-- n turns, of which i are over
+pub some_left : {n i : ℕ} → i < n → 0 < n - i
+some_left h = omega arith
+
+pub one_less : {n i : ℕ} → i < n → n - (i + 1) ≡ n - i - 1
+one_less h = omega arith
 
 -- where more than the child was passed
 pub farther : {stop q next r : ℕ} → q < stop → q < next → next ≤ r → stop - r < stop - q

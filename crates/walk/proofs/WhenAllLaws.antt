@@ -12,7 +12,7 @@ use Rattle.work.specs.declared.result.Seen.{Seen}
 use Rattle.work.specs.declared.result.Seen.TheVariants.{Stopped, Running, Success, Failure}
 use Rattle.work.specs.Word.{place_of, mark_of}
 use Rattle.work.specs.Array.{word_at, passed, end_of, set_place, set_mark, fresh_words, fresh_times, child_from}
-use Rattle.work.specs.Flat.{Out, out, Visitor, lent, turning, tick, visiting}
+use Rattle.work.specs.Flat.{Out, out, Lent, Visitor, turning, tick, visiting}
 use Rattle.work.proofs.VisitLaws.{NotRunning, turn_visit}
 use Rattle.leaves.specs.Waiting.{Waiting, none, more}
 use Rattle.leaves.proofs.WaitLaws.{passed_on}
@@ -105,27 +105,27 @@ module _ (v : Visitor) (stop : ℕ) (dt : Float) (q : ℕ) (ws : List ℕ) (ts :
     race_ended (suc k) h Failure n e = rw (lt-ltb q stop d, e)
 
 -- many visits at once: what follows the last follows the first
-module _ (limits : List Float) (statuses : List ℕ) (leftovers : List Float) (depth stop : ℕ) (dt : Float) where
-  pub when_waiting : (any : Bool) (least : Float) {q r : ℕ} {ws ws₁ : List ℕ} {ts ts₁ : List Float} → Waiting limits dt q r ws ts ws₁ ts₁ → (q < r → r ≤ stop)
+module _ (T : Lent) (depth stop : ℕ) (dt : Float) where
+  pub when_waiting : (any : Bool) (least : Float) {q r : ℕ} {ws ws₁ : List ℕ} {ts ts₁ : List Float} → Waiting T.limits dt q r ws ts ws₁ ts₁ → (q < r → r ≤ stop)
       → (o : Out)
-      → ((j : ℕ) → stop - r ≤ j → when_all_go (turning any (visiting binary64 (lent limits statuses leftovers) depth)) stop dt j r false least ws₁ ts₁ ≡ o)
-      → (k : ℕ) → stop - q ≤ k → when_all_go (turning any (visiting binary64 (lent limits statuses leftovers) depth)) stop dt k q false least ws ts ≡ o
+      → ((j : ℕ) → stop - r ≤ j → when_all_go (turning any (visiting binary64 T depth)) stop dt j r false least ws₁ ts₁ ≡ o)
+      → (k : ℕ) → stop - q ≤ k → when_all_go (turning any (visiting binary64 T depth)) stop dt k q false least ws ts ≡ o
   when_waiting any least none h o e k g = e k g
   when_waiting any least (more {q = q} end mark v w) h o e k g =
       let l = passed_on w in
       let b = h (omega arith) in
       when_running _ stop dt q false least _ _ (omega arith) 0 (sym mark) refl zero_time _ _ k g
-      (turn_visit any _ _ _ _ _ _ (v statuses leftovers (tick binary64 (lent limits statuses leftovers) depth)) refl) (q + 1) (sym end) (omega arith) o
+      (turn_visit any _ _ _ _ _ _ (v T.statuses T.leftovers (tick binary64 T depth)) refl) (q + 1) (sym end) (omega arith) o
       (when_waiting any least w (λ x. b) o e)
 
-  pub race_waiting : {q r : ℕ} {ws ws₁ : List ℕ} {ts ts₁ : List Float} → Waiting limits dt q r ws ts ws₁ ts₁ → (q < r → r ≤ stop)
-      → (o : Out) → ((j : ℕ) → stop - r ≤ j → race_go (visiting binary64 (lent limits statuses leftovers) depth) stop dt j r ws₁ ts₁ ≡ o)
-      → (k : ℕ) → stop - q ≤ k → race_go (visiting binary64 (lent limits statuses leftovers) depth) stop dt k q ws ts ≡ o
+  pub race_waiting : {q r : ℕ} {ws ws₁ : List ℕ} {ts ts₁ : List Float} → Waiting T.limits dt q r ws ts ws₁ ts₁ → (q < r → r ≤ stop)
+      → (o : Out) → ((j : ℕ) → stop - r ≤ j → race_go (visiting binary64 T depth) stop dt j r ws₁ ts₁ ≡ o)
+      → (k : ℕ) → stop - q ≤ k → race_go (visiting binary64 T depth) stop dt k q ws ts ≡ o
   race_waiting none h o e k g = e k g
   race_waiting (more {q = q} end mark v w) h o e k g =
       let l = passed_on w in
       let b = h (omega arith) in
-      race_running _ stop dt q _ _ (omega arith) zero_time _ _ k g (v statuses leftovers (tick binary64 (lent limits statuses leftovers) depth)) (q + 1) (sym end) (omega arith) o
+      race_running _ stop dt q _ _ (omega arith) zero_time _ _ k g (v T.statuses T.leftovers (tick binary64 T depth)) (q + 1) (sym end) (omega arith) o
       (race_waiting w (λ x. b) o e)
 
 module _ (v : Visitor) (p stop : ℕ) (dt : Float) (q i : ℕ) (none : Bool) (least : Float) (ws : List ℕ) (ts : List Float) where

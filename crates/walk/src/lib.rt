@@ -8,7 +8,7 @@ mod when_all;
 
 ghost use Rattle.std.specs.Prelude.{◌≡◌, ◌<◌};
 ghost use Rattle.std.specs.Float.{binary64};
-ghost use Rattle.work.specs.Flat.{out, lent, decorator, if_node, by_kind, tick, visiting};
+ghost use Rattle.work.specs.Flat.{out, lent_in, decorator, if_node, by_kind, tick, visiting};
 
 use leaves::{decorated, leaf, visit_leaf};
 use loops::{while_all, while_loop};
@@ -16,25 +16,24 @@ use rules::Kind;
 use sequence::{memoryless, sequence};
 use when_all::{after, race, when_all};
 use work::{
-    FUEL, Result, Seen, child, choice, choose, decorates, end_of, exchanges, is_leaf, kind_of,
-    place_of, put_seen, stopped,
+    FUEL, Reads, Seen, Visit, child, choice, choose, decorates, end_of, exchanges, is_leaf,
+    kind_of, place_of, put_seen, stopped,
 };
 
 // One of the fuel, the rule of the node's kind, and its status on the board.
+#[tactic(auto, unfolding(work::specs::Flat::tick))]
 #[cycle(walk)]
 pub fn tick_node(
     work: &mut [u32; 260],
-    limits: &&[f64],
-    statuses: &&[u8],
-    leftovers: &&[f64],
+    reads: &Reads,
     times: &mut [f64],
     p: usize,
     depth: u8,
     dt: f64,
-) -> Result
+) -> Visit
     requires { p < 256 }
-    ensures { tick binary64 (lent limits.now.now statuses.now.now leftovers.now.now) depth p dt work.old
-        times.old ≡ out result.seen result.left work.new times.new }
+    ensures { tick binary64 (lent_in reads.now) depth p dt work.old times.old
+        ≡ out result.seen result.left work.new times.new }
 {
     if depth == 0 {
         return stopped();
@@ -45,81 +44,64 @@ pub fn tick_node(
     }
     let kind = kind_of(work[p]);
     work[FUEL] = fuel - 1;
-    let result = by_kind(
-        work,
-        limits,
-        statuses,
-        leftovers,
-        times,
-        kind,
-        p,
-        depth - 1,
-        dt,
-    );
+    let result = by_kind(work, reads, times, kind, p, depth - 1, dt);
     // Handed on field by field: as a whole, a result is copied with its padding.
     let seen = result.seen;
     let left = result.left;
-    if let Seen::Stopped = seen {
-        return Result { seen, left };
+    if seen == Seen::Stopped {
+        return Visit { seen, left };
     }
     put_seen(work, p, seen);
-    Result { seen, left }
+    Visit { seen, left }
 }
 
 // A child: a leaf gives its result at once.
+#[tactic(auto, unfolding(work::specs::Flat::visit))]
 #[cycle(walk)]
 pub fn visit(
     work: &mut [u32; 260],
-    limits: &&[f64],
-    statuses: &&[u8],
-    leftovers: &&[f64],
+    reads: &Reads,
     times: &mut [f64],
     p: usize,
     depth: u8,
     dt: f64,
-) -> Result
+) -> Visit
     requires { p < 256 }
-    ensures { visiting binary64 (lent limits.now.now statuses.now.now leftovers.now.now) depth p dt work.old
-        times.old ≡ out result.seen result.left work.new times.new }
+    ensures { visiting binary64 (lent_in reads.now) depth p dt work.old times.old
+        ≡ out result.seen result.left work.new times.new }
 {
     let kind = kind_of(work[p]);
     if is_leaf(kind) {
-        return visit_leaf(work, limits, statuses, leftovers, times, kind, p, dt);
+        return visit_leaf(work, reads, times, kind, p, dt);
     }
-    tick_node(work, limits, statuses, leftovers, times, p, depth, dt)
+    tick_node(work, reads, times, p, depth, dt)
 }
 
 // The rule of each kind.
+#[tactic(auto, unfolding(work::specs::Flat::by_kind))]
 #[cycle(walk)]
 fn by_kind(
     work: &mut [u32; 260],
-    limits: &&[f64],
-    statuses: &&[u8],
-    leftovers: &&[f64],
+    reads: &Reads,
     times: &mut [f64],
     kind: Kind,
     p: usize,
     depth: u8,
     dt: f64,
-) -> Result
+) -> Visit
     requires { p < 256 }
-    ensures { by_kind binary64 (lent limits.now.now statuses.now.now leftovers.now.now)
-        (visiting binary64 (lent limits.now.now statuses.now.now leftovers.now.now) depth) kind p dt work.old
-        times.old ≡ out result.seen result.left work.new times.new }
+    ensures { by_kind binary64 (lent_in reads.now) (visiting binary64 (lent_in reads.now) depth) kind p dt work.old times.old
+        ≡ out result.seen result.left work.new times.new }
 {
     match kind {
-        Kind::Wait | Kind::WaitForever | Kind::Action => {
-            leaf(work, limits, statuses, leftovers, times, kind, p, dt)
-        }
+        Kind::Wait | Kind::WaitForever | Kind::Action => leaf(work, reads, times, kind, p, dt),
         Kind::Invert | Kind::AlwaysSucceed | Kind::Timeout => {
-            decorators(work, limits, statuses, leftovers, times, p, depth, dt)
+            decorators(work, reads, times, p, depth, dt)
         }
-        Kind::If => if_node(work, limits, statuses, leftovers, times, p, depth, dt),
+        Kind::If => if_node(work, reads, times, p, depth, dt),
         Kind::Select | Kind::Sequence => sequence(
             work,
-            limits,
-            statuses,
-            leftovers,
+            reads,
             times,
             exchanges(kind),
             p,
@@ -128,30 +110,26 @@ fn by_kind(
         ),
         Kind::MemorylessSequence | Kind::MemorylessSelector => memoryless(
             work,
-            limits,
-            statuses,
-            leftovers,
+            reads,
             times,
             exchanges(kind),
             p,
             depth,
             dt,
         ),
-        Kind::While => while_loop(work, limits, statuses, leftovers, times, p, depth, dt),
-        Kind::WhileAll => while_all(work, limits, statuses, leftovers, times, p, depth, dt),
+        Kind::While => while_loop(work, reads, times, p, depth, dt),
+        Kind::WhileAll => while_all(work, reads, times, p, depth, dt),
         Kind::WhenAll | Kind::WhenAny => when_all(
             work,
-            limits,
-            statuses,
-            leftovers,
+            reads,
             times,
             exchanges(kind),
             p,
             depth,
             dt,
         ),
-        Kind::After => after(work, limits, statuses, leftovers, times, p, depth, dt),
-        Kind::Race => race(work, limits, statuses, leftovers, times, p, depth, dt),
+        Kind::After => after(work, reads, times, p, depth, dt),
+        Kind::Race => race(work, reads, times, p, depth, dt),
     }
 }
 
@@ -160,22 +138,20 @@ fn by_kind(
 #[cycle(walk)]
 fn decorators(
     work: &mut [u32; 260],
-    limits: &&[f64],
-    statuses: &&[u8],
-    leftovers: &&[f64],
+    reads: &Reads,
     times: &mut [f64],
     p: usize,
     depth: u8,
     dt: f64,
-) -> Result
+) -> Visit
     requires { p < 256 }
-    ensures { decorator binary64 (lent limits.now.now statuses.now.now leftovers.now.now)
-        (visiting binary64 (lent limits.now.now statuses.now.now leftovers.now.now) depth) p dt work.old
-        times.old ≡ out result.seen result.left work.new times.new }
+    ensures { decorator binary64 (lent_in reads.now) (visiting binary64 (lent_in reads.now) depth) p dt work.old times.old
+        ≡ out result.seen result.left work.new times.new }
 {
     if 255 <= p {
         return stopped();
     }
+    // Down: a place and the depth that is left move together.
     let mut q = p + 1;
     let mut below = depth;
     while decorates(kind_of(work[q])) {
@@ -193,35 +169,31 @@ fn decorators(
         below -= 1;
         q += 1;
     }
-    let mut result = visit(work, limits, statuses, leftovers, times, q, below, dt);
-    let seen = result.seen;
-    if let Seen::Stopped = seen {
+    let mut result = visit(work, reads, times, q, below, dt);
+    if result.seen == Seen::Stopped {
         return result;
     }
-    while p + 1 < q {
-        q -= 1;
-        result = decorated(work, limits, times, q, result, dt);
-        let above = result.seen;
-        put_seen(work, q, above);
+    for at in (p + 1..q).rev() {
+        result = decorated(work, reads, times, at, result, dt);
+        put_seen(work, at, result.seen);
     }
-    decorated(work, limits, times, p, result, dt)
+    decorated(work, reads, times, p, result, dt)
 }
 
 // The condition, then the branch that it chooses.
+#[tactic(auto, unfolding(work::specs::Flat::if_node, work::specs::Flat::branch))]
 #[cycle(walk)]
 fn if_node(
     work: &mut [u32; 260],
-    limits: &&[f64],
-    statuses: &&[u8],
-    leftovers: &&[f64],
+    reads: &Reads,
     times: &mut [f64],
     p: usize,
     depth: u8,
     dt: f64,
-) -> Result
+) -> Visit
     requires { p < 256 }
-    ensures { if_node (visiting binary64 (lent limits.now.now statuses.now.now leftovers.now.now) depth) p dt work.old
-        times.old ≡ out result.seen result.left work.new times.new }
+    ensures { if_node (visiting binary64 (lent_in reads.now) depth) p dt work.old times.old
+        ≡ out result.seen result.left work.new times.new }
 {
     let stop = end_of(work, p);
     let place = place_of(work[p]);
@@ -230,24 +202,19 @@ fn if_node(
         if stop <= held {
             return stopped();
         }
-        return visit(work, limits, statuses, leftovers, times, held, depth, dt);
+        return visit(work, reads, times, held, depth, dt);
     }
     if 255 <= p {
         return stopped();
     }
-    let condition = visit(work, limits, statuses, leftovers, times, p + 1, depth, dt);
-    let holds = condition.seen;
-    let chosen = choice(holds);
-    if chosen == 0 {
+    let condition = visit(work, reads, times, p + 1, depth, dt);
+    let Some(chosen) = choice(condition.seen) else {
         return condition;
-    }
+    };
     choose(work, times, p, stop, chosen);
     let branch = child(work, stop, chosen, p + 1);
     if stop <= branch {
         return stopped();
     }
-    let rest = condition.left;
-    visit(
-        work, limits, statuses, leftovers, times, branch, depth, rest,
-    )
+    visit(work, reads, times, branch, depth, condition.left)
 }

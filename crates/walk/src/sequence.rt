@@ -2,30 +2,28 @@
 // exchanged.
 ghost use Rattle.std.specs.Prelude.{◌≡◌, ◌<◌};
 ghost use Rattle.std.specs.Float.{binary64};
-ghost use Rattle.work.specs.Flat.{out, lent, turn_out, turning, sequence, memoryless, visiting};
+ghost use Rattle.work.specs.Flat.{out, lent_in, turn_out, turning, sequence, memoryless, visiting};
 
 use crate::visit;
 use work::{
-    Result, Seen, child, end_of, fresh, passed, place_of, put_place, up_on, updates, waiting,
+    Reads, Seen, Visit, child, end_of, fresh, passed, place_of, put_place, up_on, updates, waiting,
 };
 
 // From the place on. Moving on makes the old and the new child fresh.
 #[cycle(walk)]
 pub fn sequence(
     work: &mut [u32; 260],
-    limits: &&[f64],
-    statuses: &&[u8],
-    leftovers: &&[f64],
+    reads: &Reads,
     times: &mut [f64],
+    // Whether Success and Failure change places: a value, no step.
     exchange: bool,
     p: usize,
     depth: u8,
     dt: f64,
-) -> Result
+) -> Visit
     requires { p < 256 }
-    ensures { turn_out exchange (sequence
-        (turning exchange (visiting binary64 (lent limits.now.now statuses.now.now leftovers.now.now) depth)) p dt
-        work.old times.old) ≡ out result.seen result.left work.new times.new }
+    ensures { turn_out exchange (sequence (turning exchange (visiting binary64 (lent_in reads.now) depth)) p dt work.old times.old)
+        ≡ out result.seen result.left work.new times.new }
 {
     let stop = end_of(work, p);
     let mut i = place_of(work[p]);
@@ -35,9 +33,8 @@ pub fn sequence(
     }
     let mut rest = dt;
     loop {
-        let result = visit(work, limits, statuses, leftovers, times, q, depth, rest);
-        let seen = result.seen;
-        match seen.turned(exchange) {
+        let result = visit(work, reads, times, q, depth, rest);
+        match result.seen.turned(exchange) {
             Seen::Stopped => return result,
             Seen::Running => {
                 put_place(work, p, i);
@@ -72,26 +69,22 @@ pub fn sequence(
 #[cycle(walk)]
 pub fn memoryless(
     work: &mut [u32; 260],
-    limits: &&[f64],
-    statuses: &&[u8],
-    leftovers: &&[f64],
+    reads: &Reads,
     times: &mut [f64],
     exchange: bool,
     p: usize,
     depth: u8,
     dt: f64,
-) -> Result
+) -> Visit
     requires { p < 256 }
-    ensures { turn_out exchange (memoryless
-        (turning exchange (visiting binary64 (lent limits.now.now statuses.now.now leftovers.now.now) depth)) p dt
-        work.old times.old) ≡ out result.seen result.left work.new times.new }
+    ensures { turn_out exchange (memoryless (turning exchange (visiting binary64 (lent_in reads.now) depth)) p dt work.old times.old)
+        ≡ out result.seen result.left work.new times.new }
 {
     let stop = end_of(work, p);
     let mut q = p + 1;
     if stop <= q {
-        let empty = Seen::Success;
-        return Result {
-            seen: empty.turned(exchange),
+        return Visit {
+            seen: Seen::Success.turned(exchange),
             left: passed(work, dt),
         };
     }
@@ -100,17 +93,16 @@ pub fn memoryless(
     loop {
         // Read before the visit, which writes the word: the next turn need not wait for this one.
         let next = end_of(work, q);
-        let result = visit(work, limits, statuses, leftovers, times, q, depth, rest);
+        let result = visit(work, reads, times, q, depth, rest);
         let seen = result.seen;
         let left = result.left;
         match seen.turned(exchange) {
-            Seen::Stopped => return Result { seen, left },
+            Seen::Stopped | Seen::Failure => return Visit { seen, left },
             Seen::Running => return waiting(),
-            Seen::Failure => return Result { seen, left },
             Seen::Success => {
                 rest = left;
                 if stop <= next {
-                    return Result {
+                    return Visit {
                         seen,
                         left: passed(work, rest),
                     };

@@ -1,11 +1,10 @@
 -- What a visit gave, and what is made of it.
 use mathlib.Core.Path.{◌≡◌, refl, ap}
-use mathlib.Core.Bool.{Bool, true, false}
+use mathlib.Core.Bool.{Bool, true, false, not}
 use mathlib.Core.List.{List, [], ◌∷◌}
 use types.Run.{miss}
 use Prim.Native.Nat.{ℕ, zero, suc, ◌-◌}
 use native.Mathlib.Numerals.{sub-one}
-use native.Mathlib.Omega.{arith}
 use lib.Ieee.{Float, Format}
 use lib.ListN.{set}
 use borrow.Author.Tests.{eq-eqb, ne_eqb}
@@ -15,6 +14,8 @@ use Rattle.rules.specs.declared.status.Status.TheVariants as status
 use Rattle.rules.specs.Tree.{zero_time}
 use Rattle.work.specs.declared.result.Seen.{Seen}
 use Rattle.work.specs.declared.result.Seen.TheVariants.{Stopped, Running, Success, Failure}
+use Rattle.work.specs.contracts.result.Seen.{the_type}
+use denote.Enum.Bare.{sameb}
 use Rattle.work.specs.Word.{kind_in}
 use Rattle.work.specs.Array.{word_at, fuel_of, set_seen}
 use Rattle.work.specs.Flat.{Out, out, Lent, Visitor, seen_as, seen_no, turned, turn_out, is_leaf, seen}
@@ -24,11 +25,6 @@ use Rattle.work.specs.Flat.{visit_leaf, visit, by_kind, tick}
 -- a status: the walk has not stopped
 abbrev pub Gave : Seen → Type 0
 Gave s = (t : Status) × (s ≡ seen_as t)
-
-pub no_gave : Gave Stopped → ⊥
-no_gave (status.Running, e) = let z : ◌≡◌ {A = ℕ} 0 1 = cc in omega arith
-no_gave (status.Success, e) = let z : ◌≡◌ {A = ℕ} 0 1 = cc in omega arith
-no_gave (status.Failure, e) = let z : ◌≡◌ {A = ℕ} 0 1 = cc in omega arith
 
 pub seen_stopped : (p : ℕ) (s : Seen) (l : Float) (ws : List ℕ) (ts : List Float) → s ≡ Stopped → seen p (out s l ws ts) ≡ out s l ws ts
 seen_stopped p s l ws ts e = rw e
@@ -41,12 +37,18 @@ seen_gave p status.Failure l ws ts = refl
 pub seen_put : (p : ℕ) (s : Seen) (l : Float) (ws ws' : List ℕ) (ts : List Float) → Gave s → ws' ≡ set_seen ws p (seen_no s) → seen p (out s l ws ts) ≡ out s l ws' ts
 seen_put p s l ws ws' ts g e = rw (e, g.1) (seen_gave p g.0 l ws ts)
 
--- what a `match` tells of an arm that has several
-pub gave_told : (s : Seen) → Among (1 ∷ 2 ∷ 3 ∷ []) s → Gave s
-gave_told Stopped h = absurd (miss (1 ∷ 2 ∷ 3 ∷ []) 0 tt h)
-gave_told Running h = (status.Running, refl)
-gave_told Success h = (status.Success, refl)
-gave_told Failure h = (status.Failure, refl)
+-- what a test for a stop tells
+pub stopped_told : (s : Seen) (b : Bool) → b ≡ sameb the_type s Stopped → b ≡ true → s ≡ Stopped
+stopped_told Stopped b e f = refl
+stopped_told Running b e f = absurd (cc)
+stopped_told Success b e f = absurd (cc)
+stopped_told Failure b e f = absurd (cc)
+
+pub gave_unless : (s : Seen) (b : Bool) → b ≡ sameb the_type s Stopped → b ≡ false → Gave s
+gave_unless Stopped b e f = absurd (cc)
+gave_unless Running b e f = (status.Running, refl)
+gave_unless Success b e f = (status.Success, refl)
+gave_unless Failure b e f = (status.Failure, refl)
 
 -- a child that has ended, or a walk that has stopped
 abbrev pub NotRunning : Seen → Type 0
@@ -55,11 +57,18 @@ NotRunning Running = ⊥
 NotRunning Success = Unit {0}
 NotRunning Failure = Unit {0}
 
-pub not_running_told : (s : Seen) → Among (0 ∷ 2 ∷ 3 ∷ []) s → NotRunning s
-not_running_told Stopped h = tt
-not_running_told Running h = miss (0 ∷ 2 ∷ 3 ∷ []) 1 tt h
-not_running_told Success h = tt
-not_running_told Failure h = tt
+-- what a test for another status than Running tells
+pub not_running_unless : (s : Seen) (b : Bool) → b ≡ not (sameb the_type s Running) → b ≡ true → NotRunning s
+not_running_unless Stopped b e f = tt
+not_running_unless Running b e f = cc
+not_running_unless Success b e f = tt
+not_running_unless Failure b e f = tt
+
+pub running_told : (s : Seen) (b : Bool) → b ≡ not (sameb the_type s Running) → b ≡ false → s ≡ Running
+running_told Stopped b e f = absurd (cc)
+running_told Running b e f = refl
+running_told Success b e f = absurd (cc)
+running_told Failure b e f = absurd (cc)
 
 -- Success or Failure
 pub gave_ended : (s : Seen) → Among (2 ∷ 3 ∷ []) s → Gave s

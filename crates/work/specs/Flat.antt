@@ -1,5 +1,5 @@
 -- One tick over the words and the times. Not for readers of document 01: crate `refine` proves that it gives what the rules give.
-use Rattle.std.specs.Prelude.{Bool, true, false, cond, ◌&&◌, ◌||◌, List, ℕ, zero, suc, ◌+◌, ◌-◌, leb, ltb, eqb, Float, get_or, set, length}
+use Rattle.std.specs.Prelude.{Bool, true, false, cond, ◌&&◌, ◌||◌, Option, None, Some, List, ℕ, zero, suc, ◌+◌, ◌-◌, leb, ltb, eqb, Float, get_or, set, length}
 use Rattle.std.specs.Float.{Format}
 use Rattle.std.specs.Float.Ieee.{add, sub, le, lt}
 use Rattle.rules.specs.declared.behavior.Kind.{Kind}
@@ -11,7 +11,8 @@ use Rattle.rules.specs.Kinds.{is, most}
 use Rattle.rules.specs.Tree.{zero_time}
 use Rattle.rules.specs.Outcome.{exchanged, always_succeed, largest, smaller, byte, status_of}
 use Rattle.work.specs.declared.result.Seen.{Seen}
-use Rattle.work.specs.declared.result.Result.{Result}
+use Rattle.work.specs.declared.result.Visit.{Visit}
+use Rattle.work.specs.declared.reads.Reads.{Reads}
 use Rattle.work.specs.declared.result.Seen.TheVariants.{Stopped, Running, Success, Failure}
 use Rattle.work.specs.Word.{kind_in, place_of, mark_of}
 use Rattle.work.specs.Array.{word_at, time_at, number_at, fuel_of, used_of, updates, passed, end_of, set_place, set_seen}
@@ -29,6 +30,9 @@ pub record Lent : Type 0 where
 
 abbrev pub lent : List Float → List ℕ → List Float → Lent
 lent a b c = record { limits = a; statuses = b; leftovers = c }
+
+abbrev pub lent_in : Reads → Lent
+lent_in r = lent r.limits.now r.statuses.now r.leftovers.now
 
 abbrev pub Step : Type 0
 Step = List ℕ → List Float → Out
@@ -48,7 +52,7 @@ seen_no Running = 1
 seen_no Success = 2
 seen_no Failure = 3
 
-abbrev pub result_of : Seen → Float → Result
+abbrev pub result_of : Seen → Float → Visit
 result_of s l = record { seen = s; left = l }
 
 -- AlwaysSucceed
@@ -96,11 +100,11 @@ abbrev pub exchanges_of : Kind → Bool
 exchanges_of k = is k Select || is k MemorylessSelector || is k WhenAny
 
 -- If's choice: none yet, on success, on failure
-abbrev pub choice_of : Seen → ℕ
-choice_of Stopped = 0
-choice_of Running = 0
-choice_of Success = 1
-choice_of Failure = 2
+abbrev pub choice_of : Seen → Option ℕ
+choice_of Stopped = None
+choice_of Running = None
+choice_of Success = Some 1
+choice_of Failure = Some 2
 
 -- the status goes onto the board
 abbrev pub seen : ℕ → Out → Out

@@ -1,5 +1,6 @@
 // The working array: a word for each of 256 nodes, and behind them what the walk counts. Times stand
 // beside it, in the host's own slice; a read past their end gives zero, and a store there does nothing.
+// One array of numbers, which each visit hands on in one register; the theorems of `refine` (Whole.whole) are said of one list.
 ghost use Rattle.std.specs.Prelude.{◌≡◌, ℕ, ◌+◌, ◌-◌, ◌<◌, ◌≤◌, set};
 ghost use Rattle.work.specs.Array.{word_at, Covered, time_at, number_at, updates, passed, end_of, set_place, set_mark, set_seen, fresh_words, fresh_times, child_from};
 ghost use Rattle.work.specs.Flat.{seen_no};
@@ -25,6 +26,7 @@ pub fn updates(work: &[u32; 260]) -> bool
 }
 
 // The dt that is seen: 0 for an other event.
+#[tactic(auto, unfolding(crate::specs::Array::passed))]
 pub fn passed(work: &[u32; 260], dt: f64) -> f64
     ensures { result ≡ passed work.now dt }
 {
@@ -32,12 +34,13 @@ pub fn passed(work: &[u32; 260], dt: f64) -> f64
 }
 
 // Where the subtree at p ends, at most 256.
+#[tactic(auto, unfolding(crate::specs::Array::end_of))]
 pub fn end_of(work: &[u32; 260], p: usize) -> usize
     requires { p ≤ 256 }
     ensures { (result ≡ end_of work.now p) × (result ≤ 256) × (p < 256 → p < result) }
 {
     let end = p + 1 + below_of(work[p]);
-    if end < 256 { end } else { 256 }
+    end.min(256)
 }
 
 // All bits that one of the sixteen words from `at` on has.
@@ -45,13 +48,7 @@ pub fn words_of(work: &[u32; 260], at: usize) -> u32
     requires { at + 16 ≤ 256 }
     ensures { (i : ℕ) → i < 16 → Covered (word_at work.now (at + i)) result }
 {
-    let mut all: u32 = 0;
-    let mut i = 0;
-    while i < 16 {
-        all = all | work[at + i];
-        i += 1;
-    }
-    all
+    work[at..at + 16].iter().fold(0, |all, word| all | *word)
 }
 
 // Child i of those that begin at q, or the first place from `stop` on.
@@ -60,13 +57,11 @@ pub fn child(work: &[u32; 260], stop: usize, i: u32, q: usize) -> usize
     ensures { (result ≡ child_from work.now stop i q) × (result ≤ 256) }
 {
     let mut at = q;
-    let mut left = i;
-    while 0 < left {
+    for _ in 0..i {
         if stop <= at {
             return at;
         }
         at = end_of(work, at);
-        left -= 1;
     }
     at
 }
@@ -89,13 +84,13 @@ pub fn put_seen(work: &mut [u32; 260], p: usize, seen: Seen)
     requires { p < 256 }
     ensures { work.new ≡ set_seen work.old p (seen_no seen) }
 {
-    work[p] = with_seen(work[p], seen.number());
+    work[p] = with_seen(work[p], u32::from(seen));
 }
 
 pub fn time_at(times: &[f64], p: usize) -> f64
     ensures { result ≡ time_at times.now p }
 {
-    if p < times.len() { times[p] } else { 0.0 }
+    times.get(p).copied().unwrap_or(0.0)
 }
 
 pub fn put_time(times: &mut [f64], p: usize, v: f64)
@@ -107,15 +102,10 @@ pub fn put_time(times: &mut [f64], p: usize, v: f64)
 }
 
 // A limit or a leftover, as it stands where the host lent it: minus zero is taken as plus zero.
-pub fn number_at(numbers: &&[f64], p: usize) -> f64
-    requires { p < 4294967296 }
-    ensures { result ≡ number_at numbers.now.now p }
+pub fn number_at(numbers: &[f64], p: usize) -> f64
+    ensures { result ≡ number_at numbers.now p }
 {
-    if p < numbers.len() {
-        cleaned(numbers[p])
-    } else {
-        0.0
-    }
+    cleaned(time_at(numbers, p))
 }
 
 // The nodes from `from` to `to` are made fresh.
@@ -124,10 +114,8 @@ pub fn fresh(work: &mut [u32; 260], times: &mut [f64], from: usize, to: usize)
     ensures work_after { work.new ≡ fresh_words from (to - from) work.old }
     ensures times_after { times.new ≡ fresh_times from (to - from) times.old }
 {
-    let mut at = from;
-    while at < to {
+    for at in from..to {
         put_time(times, at, 0.0);
         work[at] = fresh_word(work[at]);
-        at += 1;
     }
 }

@@ -3,6 +3,7 @@
 
 mod array;
 mod moves;
+mod reads;
 mod result;
 mod word;
 
@@ -13,5 +14,6 @@ pub use array::{
 pub use moves::{
     choice, choose, decorates, exchanges, index_after, is_leaf, move_on, sooner, up_on,
 };
-pub use result::{LARGEST, Result, Seen, smaller, stopped, waiting};
+pub use reads::Reads;
+pub use result::{Seen, Visit, smaller, stopped, waiting};
 pub use word::{anew_of, below_of, kind_of, mark_of, place_of, seen_of, with_seen};

@@ -26,10 +26,10 @@ pub fn decorates(kind: Kind) -> bool
 pub fn exchanges(kind: Kind) -> bool
     ensures { result ≡ exchanges_of kind }
 {
-    match kind {
-        Kind::Select | Kind::MemorylessSelector | Kind::WhenAny => true,
-        _ => false,
-    }
+    matches!(
+        kind,
+        Kind::Select | Kind::MemorylessSelector | Kind::WhenAny
+    )
 }
 
 // The place goes up on an update.
@@ -44,7 +44,7 @@ pub fn up_on(update: bool, i: u32) -> u32
 pub fn sooner(in_turn: bool, left: f64, least: f64) -> bool
     ensures { result ≡ in_turn && lt left least }
 {
-    if in_turn { left < least } else { false }
+    in_turn && left < least
 }
 
 // The index behind i, after the last child 0.
@@ -63,6 +63,7 @@ fn child_after(next: usize, stop: usize, body: usize) -> usize
 
 // A loop's body goes on behind the child from q to next, after the last child from the first: the old
 // and the new child are made fresh. Where the new one stands.
+#[tactic(auto, unfolding(crate::specs::Array::moved_words, crate::specs::Array::moved_times))]
 pub fn move_on(
     work: &mut [u32; 260],
     times: &mut [f64],
@@ -83,19 +84,19 @@ pub fn move_on(
     due
 }
 
-// If's choice by its condition: none yet, on success, on failure.
-pub fn choice(condition: Seen) -> u32
+// The branch that If chooses by its condition, if it has ended.
+pub fn choice(condition: Seen) -> Option<u32>
     ensures { result ≡ choice_of condition }
 {
     match condition {
-        Seen::Stopped => 0,
-        Seen::Running => 0,
-        Seen::Success => 1,
-        Seen::Failure => 2,
+        Seen::Stopped | Seen::Running => None,
+        Seen::Success => Some(1),
+        Seen::Failure => Some(2),
     }
 }
 
 // The condition of the If at p and branch i are made fresh, and the choice is kept.
+#[tactic(auto, unfolding(crate::specs::Array::decided_words, crate::specs::Array::chosen_words, crate::specs::Array::chosen_times))]
 pub fn choose(work: &mut [u32; 260], times: &mut [f64], p: usize, stop: usize, i: u32)
     requires { (p < 255) × (stop ≤ 256) }
     ensures work_after { work.new ≡ chosen_words p stop i work.old }

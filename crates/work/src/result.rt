@@ -4,8 +4,9 @@ ghost use Rattle.rules.specs.Tree.{zero_time};
 ghost use Rattle.rules.specs.Outcome.{smaller, status_of};
 ghost use Rattle.work.specs.Flat.{seen_as, seen_no, turned, succeeded, result_of};
 
-// The status of a visit; or the walk has stopped, to ask or for want of fuel.
-#[derive(Clone, Copy)]
+// The status of a visit; or the walk has stopped, to ask or for want of fuel. Four cases of one type: every driver has an arm
+// for each, and `Some(Status::Running)` would be no plainer than `Seen::Running`.
+#[derive(Clone, Copy, PartialEq, Eq)]
 pub enum Seen {
     Stopped,
     Running,
@@ -14,13 +15,10 @@ pub enum Seen {
 }
 
 #[derive(Clone, Copy)]
-pub struct Result {
+pub struct Visit {
     pub seen: Seen,
     pub left: f64,
 }
-
-// The largest finite number, with which a least leftover starts.
-pub const LARGEST: f64 = 1.7976931348623157e308;
 
 impl Seen {
     // The status of an answer's number, which is 1 to 3 in every answer that is not refused.
@@ -34,18 +32,6 @@ impl Seen {
         }
     }
 
-    // The board's number of a status.
-    pub fn number(self) -> u32
-        ensures { result ≡ seen_no self }
-    {
-        match self {
-            Seen::Stopped => 0,
-            Seen::Running => 1,
-            Seen::Success => 2,
-            Seen::Failure => 3,
-        }
-    }
-
     // Success and Failure exchanged, or not.
     pub fn turned(self, exchange: bool) -> Seen
         ensures { result ≡ turned exchange self }
@@ -54,10 +40,9 @@ impl Seen {
             return self;
         }
         match self {
-            Seen::Stopped => Seen::Stopped,
-            Seen::Running => Seen::Running,
             Seen::Success => Seen::Failure,
             Seen::Failure => Seen::Success,
+            _ => self,
         }
     }
 
@@ -66,33 +51,46 @@ impl Seen {
         ensures { result ≡ succeeded self }
     {
         match self {
-            Seen::Stopped => Seen::Stopped,
-            Seen::Running => Seen::Running,
-            Seen::Success => Seen::Success,
             Seen::Failure => Seen::Success,
+            _ => self,
+        }
+    }
+}
+
+// The board's number of a status.
+impl From<Seen> for u32 {
+    ghost from_gives = { λ seen number. number ≡ seen_no seen };
+
+    fn from(seen: Seen) -> u32 {
+        match seen {
+            Seen::Stopped => 0,
+            Seen::Running => 1,
+            Seen::Success => 2,
+            Seen::Failure => 3,
         }
     }
 }
 
 // "Running" means (Running, 0).
-pub fn waiting() -> Result
+pub fn waiting() -> Visit
     ensures { result ≡ result_of Seen.Running zero_time }
 {
-    Result {
+    Visit {
         seen: Seen::Running,
         left: 0.0,
     }
 }
 
-pub fn stopped() -> Result
+pub fn stopped() -> Visit
     ensures { result ≡ result_of Seen.Stopped zero_time }
 {
-    Result {
+    Visit {
         seen: Seen::Stopped,
         left: 0.0,
     }
 }
 
+// Not `f64::min`, which passes over a NaN and leaves open which of two zeros it gives: the rules say both.
 pub fn smaller(x: f64, y: f64) -> f64
     ensures { result ≡ smaller x y }
 {

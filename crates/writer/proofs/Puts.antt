@@ -1,22 +1,20 @@
 -- A line put into a room field by field.
 use mathlib.Core.Path.{◌≡◌, refl, sym, ap, ap₂, subst, ◌∙◌}
-use mathlib.Core.List.{List, [], ◌∷◌, ◌++◌, append_assoc, append-nil}
+use mathlib.Core.List.{List, [], ◌∷◌, ◌++◌, append_assoc}
 use Prim.Native.Nat.{ℕ, zero, suc, ◌+◌, ◌*◌, ◌/◌, ◌%◌, ◌^◌, ◌≤◌, ◌<◌}
 use native.Mathlib.Nat.{zero-add}
 use native.Mathlib.Numerals.{add-one}
 use native.Mathlib.Omega.{arith}
-use lib.Dec.{lit<}
+use lib.Seq.{take-suc}
 use lib.ListN.{length, get_or, take, drop, set, length-append}
 use Rattle.frames.specs.Hex.{digit, digits}
 use Rattle.frames.specs.Digits.{length_digits}
-use Rattle.frames.specs.Over.{over_none, over_set, over_over, over_before, length_over}
-use Rattle.frames.specs.declared.Event.{Event}
-use Rattle.frames.specs.declared.Event.TheVariants.{Other, Update}
+use Rattle.frames.specs.Over.{over_set, over_over, over_before, length_over}
 use Rattle.frames.specs.declared.Frame.{Frame}
 use Rattle.frames.specs.declared.Frame.TheVariants.{Node, Asked, Said, Malformed}
-use Rattle.frames.specs.Line.{Field, Fit, fields, front, laid, answers, answers_of, event_no}
+use Rattle.frames.specs.Line.{Field, Fit, fields, front, laid, answers, answers_of}
 use Rattle.frames.specs.Answers.{pair, answers_more}
-use Rattle.frames.specs.Parts.{over, spread, sized, size_of, span, Puts}
+use Rattle.frames.specs.Parts.{over, spread, size_of, span, Puts}
 
 -- the last digit is put first
 pub digit_first : (d : List ℕ) (at i j n : ℕ) → j ≡ i + 1 → at + j ≤ length d
@@ -29,17 +27,6 @@ digit_first d at i j n e h =
     ap (λ (x : List ℕ). over x at s) (over_set d (at + i) b (omega arith) ∙ ap (λ (k : ℕ). over d (at + k) (b ∷ [])) (sym l))
     ∙ over_before d at s (b ∷ []) (omega arith)
     ∙ ap (λ (k : ℕ). over d at (digits k n)) (sym (e ∙ add-one i))
-
-pub one_put : (d : List ℕ) (at w v : ℕ) (d' : List ℕ) (next : ℕ) → at < length d → d' ≡ over (set d at 32) (at + 1) (digits w v) → next ≡ at + 1 + w
-    → Puts d at ((w, v) ∷ []) d' next
-one_put d at w v d' next h e p =
-    record {
-      bytes =
-          e ∙ ap (λ (x : List ℕ). over x (at + 1) (digits w v)) (over_set d at 32 h)
-          ∙ over_over d at (32 ∷ []) (digits w v) (omega arith)
-          ∙ ap (over d at) (sym (append-nil (32 ∷ digits w v)));
-      place = omega arith;
-    }
 
 length_spread : (fs : List Field) → length (spread fs) ≡ span fs
 length_spread [] = refl
@@ -57,9 +44,6 @@ spread_both (f ∷ fs) gs =
 span_both : (fs gs : List Field) → span (fs ++ gs) ≡ span fs + span gs
 span_both [] gs = sym (zero-add (span gs))
 span_both (f ∷ fs) gs = omega (arith, span_both fs gs)
-
-pub none_put : (d : List ℕ) (at : ℕ) → Puts d at [] d at
-none_put d at = record { bytes = sym (over_none d at); place = omega arith }
 
 pub puts_on : {d : List ℕ} {at : ℕ} {fs gs : List Field} {d' d'' : List ℕ} {n m : ℕ} → at ≤ length d → Puts d at fs d' n → Puts d' n gs d'' m
     → Puts d at (fs ++ gs) d'' m
@@ -109,25 +93,14 @@ line_put d k {fs} {d'} {n} p h =
     ∙ ap (λ (j : ℕ). (s ++ fields fs) ++ drop j d) (zero-add (length (s ++ fields fs)))
 
 -- one field more
-sized_suc : (i : ℕ) (ws vs : List ℕ) → i < length ws → i < length vs
-    → sized (take i ws) vs ++ ((get_or ws i 0, get_or vs i 0) ∷ []) ≡ sized (take (suc i) ws) vs
-sized_suc i [] vs h l = absurd (omega arith)
-sized_suc i (w ∷ ws) [] h l = absurd (omega arith)
-sized_suc zero (w ∷ ws) (v ∷ vs) h l = refl
-sized_suc (suc i) (w ∷ ws) (v ∷ vs) h l = ap (λ (fs : List Field). (w, v) ∷ fs) (sized_suc i ws vs (omega arith) (omega arith))
+pub fields_more : (i : ℕ) (fs : List Field) → i < length fs → take i fs ++ (get_or fs i (0, 0) ∷ []) ≡ take (i + 1) fs
+fields_more i fs h = rw (add-one i) (sym (take-suc fs i (0, 0) h))
 
-pub sized_more : (i : ℕ) (ws vs : List ℕ) → i < length ws → i < length vs
-    → sized (take i ws) vs ++ ((get_or ws i 0, get_or vs i 0) ∷ []) ≡ sized (take (i + 1) ws) vs
-sized_more i ws vs h l = rw (add-one i) (sized_suc i ws vs h l)
-
--- the i-th of n fields has its place among them
-pub sized_room : (i n : ℕ) (ws vs : List ℕ) → i < n → n ≤ length ws → n ≤ length vs
-    → span (sized (take i ws) vs) + suc (get_or ws i 0) ≤ span (sized (take n ws) vs)
-sized_room i zero ws vs h k l = absurd (omega arith)
-sized_room i (suc n) [] vs h k l = absurd (omega arith)
-sized_room i (suc n) (w ∷ ws) [] h k l = absurd (omega arith)
-sized_room zero (suc n) (w ∷ ws) (v ∷ vs) h k l = omega arith
-sized_room (suc i) (suc n) (w ∷ ws) (v ∷ vs) h k l = omega (arith, sized_room i n ws vs (omega arith) (omega arith) (omega arith))
+-- the i-th of the fields has its place among them
+pub field_room : (i : ℕ) (fs : List Field) → i < length fs → span (take i fs) + suc (get_or fs i (0, 0)).0 ≤ span fs
+field_room i [] h = absurd (omega arith)
+field_room zero (f ∷ fs) h = omega arith
+field_room (suc i) (f ∷ fs) h = omega (arith, field_room i fs (omega arith))
 
 -- a line's bytes: its kind, its fields up to the answers, the answers, and LF
 pub line_room : (f : Frame) → 3 + span (front f) + 20 * answers_of f ≡ size_of f
@@ -135,11 +108,6 @@ line_room (Node kind n limit) = refl
 line_room (Asked call event fuel count) = refl
 line_room (Said call num status time visits used extra) = refl
 line_room (Malformed number) = refl
-
--- ---- numbers of their types have room in their fields
-pub event_small : (e : Event) → event_no e < 16 ^ 2
-event_small (Other minus) = lit< tt
-event_small (Update dt) = lit< tt
 
 pub answers_fit : (k i : ℕ) (ss ls : List ℕ) → ((j : ℕ) → get_or ss j 0 < 2 ^ 8) → ((j : ℕ) → get_or ls j 0 < 2 ^ 64) → Fit (answers k i ss ls)
 answers_fit zero i ss ls p q = tt

@@ -1,20 +1,25 @@
 // Writing a frame: the two digits of its kind, its fields, each after a space, then LF.
 #![tactic(auto)]
 
-ghost use Rattle.std.specs.Prelude.{◌≡◌, [], ◌∷◌, ℕ, ◌+◌, ◌*◌, ◌≤◌, ◌<◌, length, take};
+ghost use Rattle.std.specs.Prelude.{◌≡◌, ℕ, Ok, [], ◌∷◌, ◌+◌, ◌*◌, ◌≤◌, ◌<◌, length};
 ghost use Rattle.frames.specs.Hex.{digit, digits};
-ghost use Rattle.frames.specs.Line.{Fit, Good, body, line, answers_of, asked_no, said_no, event_no, event_time, laid, wrote};
+ghost use Rattle.frames.specs.Line.{Fit, Good, body, kind_of, line, answers_of, asked_no, said_no, event_no, event_time, laid, wrote};
 ghost use Rattle.frames.specs.Line.{answers as Line·answers};
-ghost use Rattle.frames.specs.Parts.{over, sized, size_of, span, Fronts, Puts};
+ghost use Rattle.frames.specs.Line.{front as Line·front};
+ghost use Rattle.frames.specs.Parts.{over, size_of, span, Puts};
 
-use frames::{Call, Event, Frame, MINUS_ZERO, Written, count, least};
+use frames::{ANSWERS, Call, Event, Frame, MINUS_ZERO, Unwritten, count};
 
 // The byte of a digit.
 fn glyph(d: u64) -> u8
     requires { d < 16 }
     ensures { result ≡ digit d }
 {
-    if d < 10 { 48 + d as u8 } else { 87 + d as u8 }
+    if d < 10 {
+        b'0' + d as u8
+    } else {
+        b'a' + (d - 10) as u8
+    }
 }
 
 // Puts a number's last width digits at a place.
@@ -22,10 +27,8 @@ fn put_number(room: &mut [u8], at: usize, width: usize, value: u64)
     requires { at + width ≤ length room.old }
     ensures { room.new ≡ over room.old at (digits width value) }
 {
-    let mut i = width;
     let mut rest = value;
-    while i > 0 {
-        i -= 1;
+    for i in (0..width).rev() {
         room[at + i] = glyph(rest % 16);
         rest /= 16;
     }
@@ -36,7 +39,7 @@ fn put(room: &mut [u8], at: usize, width: usize, value: u64) -> usize
     requires { at + width < length room.old }
     ensures { Puts room.old at ((width, value) ∷ []) room.new result }
 {
-    room[at] = 32;
+    room[at] = b' ';
     put_number(room, at + 1, width, value);
     at + 1 + width
 }
@@ -47,12 +50,13 @@ fn size(frame: Frame) -> usize
 {
     match frame {
         Frame::Node { .. } => 28,
-        Frame::Asked { count, .. } => 37 + 20 * (count as usize),
+        Frame::Asked { count, .. } => 37 + 20 * usize::from(count),
         Frame::Said { .. } => 45,
         Frame::Malformed { .. } => 8,
     }
 }
 
+// Two numbers for a call, one asked and one told: so neither is the conversion of a call.
 fn asked_no(call: Call) -> u64
     ensures { result ≡ asked_no call }
 {
@@ -84,54 +88,51 @@ fn event_time(event: Event) -> u64
     ensures { result ≡ event_time event }
 {
     match event {
-        Event::Other(minus) => { if minus { MINUS_ZERO } else { 0 } }
+        Event::Other(false) => 0,
+        Event::Other(true) => MINUS_ZERO,
         Event::Update(dt) => dt,
     }
 }
 
-fn wide(x: u8) -> u64
-    ensures { result ≡ x }
+// Puts a kind's digits and fields, each a width and a number, at the start of a room, and answers the next place.
+fn begin(room: &mut [u8], kind: u64, fields: &[(usize, u64)]) -> usize
+    requires { 2 + span fields.now ≤ length room.old }
+    ensures { Puts (over room.old 0 (digits 2 kind)) 2 fields.now room.new result }
 {
-    x as u64
+    put_number(room, 0, 2, kind);
+    let mut at = 2;
+    for (width, value) in fields {
+        at = put(room, at, *width, *value);
+    }
+    at
 }
 
-// What stands in front of a frame's answers: its kind's number, and count fields by their widths and numbers.
-#[derive(Clone, Copy)]
-struct Fields {
-    kind: u64,
-    count: usize,
-    widths: [usize; 6],
-    values: [u64; 6],
-}
-
-fn front(frame: Frame) -> Fields
-    ensures { Fronts frame result.kind result.count result.widths result.values }
+// Puts what stands in front of a frame's answers at the start of a room, and answers the next place.
+fn front(room: &mut [u8], frame: Frame) -> usize
+    requires { size_of frame ≤ length room.old }
+    ensures put { Puts (over room.old 0 (digits 2 (kind_of frame))) 2 (Line·front frame) room.new result }
+    ensures fit { Fit (Line·front frame) }
 {
     match frame {
-        Frame::Node { kind, n, limit } => Fields {
-            kind: 0x01,
-            count: 3,
-            widths: [2, 4, 16, 0, 0, 0],
-            values: [kind as u64, n as u64, limit, 0, 0, 0],
-        },
+        Frame::Node { kind, n, limit } => begin(
+            room,
+            0x01,
+            &[(2, u64::from(kind)), (4, u64::from(n)), (16, limit)],
+        ),
         Frame::Asked {
             call,
             event,
             fuel,
             count,
-        } => Fields {
-            kind: asked_no(call),
-            count: 4,
-            widths: [2, 16, 8, 4, 0, 0],
-            values: [
-                event_no(event),
-                event_time(event),
-                fuel as u64,
-                count as u64,
-                0,
-                0,
-            ],
-        },
+        } => {
+            let fields = [
+                (2, event_no(event)),
+                (16, event_time(event)),
+                (8, u64::from(fuel)),
+                (4, u64::from(count)),
+            ];
+            begin(room, asked_no(call), &fields)
+        }
         Frame::Said {
             call,
             no,
@@ -140,58 +141,32 @@ fn front(frame: Frame) -> Fields
             visits,
             used,
             extra,
-        } => Fields {
-            kind: said_no(call),
-            count: 6,
-            widths: [2, 2, 16, 8, 4, 4],
-            values: [
-                no as u64,
-                status as u64,
-                time,
-                visits as u64,
-                used as u64,
-                extra as u64,
-            ],
-        },
-        Frame::Malformed { line } => Fields {
-            kind: 0x8f,
-            count: 1,
-            widths: [4, 0, 0, 0, 0, 0],
-            values: [line as u64, 0, 0, 0, 0, 0],
-        },
+        } => {
+            let fields = [
+                (2, u64::from(no)),
+                (2, u64::from(status)),
+                (16, time),
+                (8, u64::from(visits)),
+                (4, u64::from(used)),
+                (4, u64::from(extra)),
+            ];
+            begin(room, said_no(call), &fields)
+        }
+        Frame::Malformed { line } => begin(room, 0x8f, &[(4, u64::from(line))]),
     }
-}
-
-// Puts a kind's digits and its first count fields at the start of a room, and answers the next place.
-fn begin(room: &mut [u8], kind: u64, count: usize, widths: &[usize], values: &[u64]) -> usize
-    requires count_in_bounds { count ≤ length widths.now }
-    requires count_in_bounds_2 { count ≤ length values.now }
-    requires values_in_bounds { 2 + span (sized (take count widths.now) values.now) ≤ length room.old }
-    ensures { Puts (over room.old 0 (digits 2 kind)) 2 (sized (take count widths.now) values.now) room.new result }
-{
-    put_number(room, 0, 2, kind);
-    let mut at = 2;
-    let mut i = 0;
-    while i < count {
-        at = put(room, at, widths[i], values[i]);
-        i += 1;
-    }
-    at
 }
 
 // Puts count answers at a place, and answers the next place.
 fn answers(room: &mut [u8], from: usize, count: usize, statuses: &[u8], leftovers: &[u64]) -> usize
-    requires count_in_bounds { from + 20 * count ≤ length room.old }
-    requires count_in_bounds_2 { count ≤ length statuses.now }
-    requires count_in_bounds_3 { count ≤ length leftovers.now }
+    requires room_long { from + 20 * count ≤ length room.old }
+    requires statuses_long { count ≤ length statuses.now }
+    requires leftovers_long { count ≤ length leftovers.now }
     ensures { Puts room.old from (Line·answers count 0 statuses.now leftovers.now) room.new result }
 {
     let mut at = from;
-    let mut i = 0;
-    while i < count {
-        let a = put(room, at, 2, wide(statuses[i]));
-        at = put(room, a, 16, leftovers[i]);
-        i += 1;
+    for i in 0..count {
+        at = put(room, at, 2, u64::from(statuses[i]));
+        at = put(room, at, 16, leftovers[i]);
     }
     at
 }
@@ -199,32 +174,34 @@ fn answers(room: &mut [u8], from: usize, count: usize, statuses: &[u8], leftover
 // A frame's line, at the start of a room that has place for it.
 fn lay(frame: Frame, statuses: &[u8], leftovers: &[u64], room: &mut [u8])
     requires frame_in_bounds { size_of frame ≤ length room.old }
-    requires frame_in_bounds_2 { answers_of frame ≤ length statuses.now }
-    requires frame_in_bounds_3 { answers_of frame ≤ length leftovers.now }
+    requires statuses_long { answers_of frame ≤ length statuses.now }
+    requires leftovers_long { answers_of frame ≤ length leftovers.now }
     ensures room_after { room.new ≡ laid (line frame statuses.now leftovers.now) room.old }
     ensures fit { Fit (body frame statuses.now leftovers.now) }
 {
-    let front = front(frame);
-    let widths = front.widths;
-    let values = front.values;
-    let from = begin(room, front.kind, front.count, &widths, &values);
+    let from = front(room, frame);
     let end = answers(room, from, count(frame), statuses, leftovers);
-    room[end] = 10;
+    room[end] = b'\n';
 }
 
 // Writes a frame, with the answers in the two slices, at the start of a room. What is written is a frame's line.
-pub fn write(frame: Frame, statuses: &[u8], leftovers: &[u64], room: &mut [u8]) -> Written
+pub fn write(
+    frame: Frame,
+    statuses: &[u8],
+    leftovers: &[u64],
+    room: &mut [u8],
+) -> Result<usize, Unwritten>
     ensures room_after { (result, room.new) ≡ wrote frame statuses.now leftovers.now room.old }
-    ensures by_index { (n : ℕ) → result ≡ Written.Bytes n → Good frame statuses.now leftovers.now }
+    ensures by_index { (n : ℕ) → result ≡ Ok n → Good frame statuses.now leftovers.now }
 {
     let n = count(frame);
-    if least(1024, least(statuses.len(), leftovers.len())) < n {
-        return Written::NoFrame;
+    if statuses.len().min(leftovers.len()).min(ANSWERS) < n {
+        return Err(Unwritten::NoFrame);
     }
     let bytes = size(frame);
     if room.len() < bytes {
-        return Written::TooShort;
+        return Err(Unwritten::TooShort);
     }
     lay(frame, statuses, leftovers, room);
-    Written::Bytes(bytes)
+    Ok(bytes)
 }

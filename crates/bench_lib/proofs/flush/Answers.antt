@@ -1,4 +1,4 @@
-use Rattle.std.proofs.Common.{◌≡◌, ℕ, ◌+◌, ◌-◌, ◌≤◌, List, ◌++◌, arith, take, drop, sym, ap, ◌∙◌, subst, length-take, take-take, take-add}
+use Rattle.std.proofs.Common.{◌≡◌, ℕ, ◌+◌, ◌-◌, ◌≤◌, List, ◌++◌, arith, length, take, drop, sym, ap, ◌∙◌, subst, length-take, length-drop, take-take, take-add}
 use Rattle.std.specs.Io.KnownBytes.{Appends}
 use Rattle.std.proofs.KnownBytes.{Appends-trans}
 use Rattle.bench_lib.proofs.flush.Goals as goal
@@ -11,10 +11,9 @@ pub loop-done-preserved : goal.loop-done-preserved
 loop-done-preserved g c =
     let d = c.loop-done.done in
     let n = c.in_ok-n.n in
-    let w = c.args.written in
-    let o = c.args.output.now in
-    let k : n ≤ w - d = omega (arith, simp length-take at c.in_ok-n.ensures.bound) in
+    let o = c.args.printed.now in
+    let k : n ≤ length o - d = omega (arith, simp (length-take, length-drop) at c.in_ok-n.ensures.bound) in
     record {
       within = omega arith;
-      wrote = subst (Appends _ _) (more d n w o k) (Appends-trans _ _ _ _ _ c.loop-done.invariant.wrote c.in_ok-n.ensures.bytes);
+      wrote = subst (Appends _ _) (more d n (length o) o k) (Appends-trans _ _ _ _ _ c.loop-done.invariant.wrote c.in_ok-n.ensures.bytes);
     }

@@ -1,31 +1,23 @@
-use Rattle.std.proofs.Common.{◌-◌, ◌∙◌, arith, length}
-use borrow.Rule.Slice.PartMut.{same_len_mid}
-use Rattle.bench_lib.proofs.Serves.{stands_more}
+-- One line more.
+use Rattle.std.proofs.Common.{arith, ◌∙◌, subst, Bool, Some, take, drop, ◌-◌}
+use Rattle.bench_lib.specs.Served.{Ends}
+use Rattle.bench_lib.proofs.Serves.{serves_line}
 use Rattle.bench_lib.proofs.lines.Goals as goal
 
 pub loop-held-preserved : goal.loop-held-preserved
 loop-held-preserved c =
-    let v = c.loop-held.invariant in
-    let kept = c.one-done.auto in
-    let o = c.loop-held.output in
-    let w = c.loop-held.written in
-    let a = v.alike in
-    let same = same_len_mid w (length o - w) o c.one-done.new.room kept.room in
+    let l = c.loop-held in
+    let i = l.input in
+    let n = c.in-Some.n in
+    let ends = subst (λ (b : Bool). Ends (take (i.end - i.start) (drop i.start i.bytes)) b (Some n)) l.invariant.last c.in-Some.ensures in
+    let now = l.invariant in
+    let rows = c.one-printed.ensures.same_rows in
+    let cells = c.one-printed.ensures.same_cells in
+    let answered = c.one-printed.ensures.same_answered in
     record {
-      stands = stands_more _ _ _ _ _ _ _ _ _ _ _ _ _ _ _ _ v.stands c.loop-held-test.true c.line_end-next.ensures (omega arith) kept.room c.one-done.ensures;
-      alike = record {
-        kinds_alike = kept.kinds ∙ a.kinds_alike;
-        ns_alike = kept.ns ∙ a.ns_alike;
-        limits_alike = kept.limits ∙ a.limits_alike;
-        times_alike = kept.times ∙ a.times_alike;
-        places_alike = kept.places ∙ a.places_alike;
-        marks_alike = kept.marks ∙ a.marks_alike;
-        sinces_alike = kept.sinces ∙ a.sinces_alike;
-        output_alike = same ∙ a.output_alike;
-      };
-      scratch = record {
-        statuses_long = omega (arith, kept.statuses, v.scratch.statuses_long);
-        patterns_long = omega (arith, kept.patterns, v.scratch.patterns_long);
-        leftovers_long = omega (arith, kept.leftovers, v.scratch.leftovers_long);
-      };
+      serves = serves_line _ _ _ _ _ i.bytes i.start i.end n l.output.bytes _ _ _ _ _ c.loop-held-test.true (omega arith) ends l.invariant.serves c.one-printed.ensures.steps;
+      last = l.invariant.last;
+      same_rows = (rows.0 ∙ now.same_rows.0, rows.1 ∙ now.same_rows.1, rows.2 ∙ now.same_rows.2);
+      same_cells = (cells.0 ∙ now.same_cells.0, cells.1 ∙ now.same_cells.1, cells.2 ∙ now.same_cells.2, cells.3 ∙ now.same_cells.3);
+      same_answered = (answered.0 ∙ now.same_answered.0, answered.1 ∙ now.same_answered.1, answered.2 ∙ now.same_answered.2);
     }

@@ -1,23 +1,20 @@
 -- One line after another. The measure is what is left of the part.
-use Rattle.std.proofs.Common.{◌-◌}
-use Rattle.std.proofs.Math.Seq.{slice}
-use Rattle.rules.specs.Call.{run}
-use Rattle.bench_line.specs.Bench.{rows}
-use Rattle.bench_line.specs.Held.{state_of}
-use Rattle.bench_lib.proofs.Serves.{Alike, Scratch, Stands}
+use Rattle.std.proofs.Common.{◌-◌, ◌≡◌}
+use Rattle.lent.specs.Lent.{run_in, SameCells}
+use Rattle.bench_line.specs.Held.{state_of, SameRows, SameAnswered}
+use Rattle.bench_lib.specs.Served.{Serves, rest, printed}
 use Rattle.bench_lib.proofs.lines.Given as goal
 
 abbrev pub invariant-loop-held : goal.invariant-loop-held
 invariant-loop-held l =
-    let i = l.initial in
     record {
-      stands : Stands l.last
-          (state_of i.held (rows i.kinds i.ns i.limits) (run i.times i.places i.marks i.sinces))
-          (slice i.start l.end l.input) l.input l.end l.held (rows l.kinds l.ns l.limits) (run l.times l.places l.marks l.sinces) l.start l.written l.output;
-      alike : Alike i.kinds i.ns i.limits i.times i.places i.marks i.sinces i.output
-          l.kinds l.ns l.limits l.times l.places l.marks l.sinces l.output;
-      scratch : Scratch l.statuses l.patterns l.leftovers;
+      serves : Serves l.initial.input.last (state_of l.initial.held l.initial.rows (run_in l.initial.cells)) (rest l.initial.input) (printed l.output)
+          (state_of l.held l.rows (run_in l.cells)) (rest l.input);
+      last : l.input.last ≡ l.initial.input.last;
+      same_rows : SameRows l.initial.rows l.rows;
+      same_cells : SameCells l.initial.cells l.cells;
+      same_answered : SameAnswered l.initial.answered l.answered;
     }
 
 abbrev pub decreases-loop-held : goal.decreases-loop-held
-decreases-loop-held l = l.end - l.start
+decreases-loop-held l = l.input.end - l.input.start

@@ -2,7 +2,7 @@
 use Rattle.std.proofs.Common.{ℕ, ◌+◌, ◌-◌, ◌*◌, get_or}
 use Rattle.std.specs.Float.{binary64}
 use Rattle.rules.specs.Tree.{Forest}
-use Rattle.bound.specs.Ready.{Stand, after}
+use Rattle.bound.specs.Ready.{TreesFrom, after}
 use Rattle.bound.proofs.Laws.{Left}
 use Rattle.bound.proofs.+ticks_trees.Given as goal
 
@@ -13,9 +13,8 @@ abbrev pub decreases-trees : goal.decreases-trees
 decreases-trees l = 2 * (after l.ends.now l.count l.from - l.from) + 1
 
 -- what is left of the trees, and what has been counted of them
-abbrev pub invariant-trees-loop-left : goal.invariant-trees-loop-left
-invariant-trees-loop-left l =
-    (ts : Forest) (stop : ℕ) → Stand binary64 l.kinds l.ns l.limits l.ends l.from l.count ts stop → Left binary64 l.kinds l.ns l.limits l.ends l.join l.step l.from l.count ts stop l.at l.left l.all
-
-abbrev pub decreases-trees-loop-left : goal.decreases-trees-loop-left
-decreases-trees-loop-left l = l.left
+abbrev pub invariant-trees-loop : goal.invariant-trees-loop
+invariant-trees-loop l =
+    (ts : Forest) (stop : ℕ) → TreesFrom l.table l.ends l.from l.count ts stop →
+    let t = l.table in
+    Left binary64 t.kinds.now t.ns.now t.limits.now l.ends l.join l.step l.from l.count ts stop l.at (l.count - l.counter) l.all

@@ -1,24 +1,16 @@
--- Each row passed allows a bound.
-use mathlib.Core.Path.{◌≡◌, sym, ◌∙◌}
-use native.Mathlib.Omega.{arith}
-use borrow.Author.Count.{below_more}
+-- The rows one by one are the tree's.
+use borrow.Author.Rules.{rules}
+use borrow.Author.Tests.{tests}
+use mathlib.Core.Path.{◌∙◌}
 use lib.Ieee.{binary64}
-use Rattle.bound.proofs.Rows.{row_at, all_rows, a_row}
+use Rattle.std.proofs.lemmas.Iterator.{YieldsList-from_slice, YieldsList-from_zip}
+use Rattle.std.proofs.lemmas.Iterator.Search.{all_from_yields_List}
+use Rattle.bound.proofs.Rows.{triple_bounded, all_told}
 use Rattle.bound.proofs.all_bounded.Goals as goal
 
--- the row at i says no
-pub returns-then-not-bounded : goal.returns-then-not-bounded
-returns-then-not-bounded c ends t h e =
-    let a = c.args in
-    let row : c.bounded.result ≡ row_at binary64 a.kinds.now a.ns.now a.limits.now c.loop-i.i = c.bounded.ensures ∙ rw (c.children.ensures, c.of-kind.ensures) in
-    let none = sym row ∙ c.if-not-bounded.true in
-    sym (a_row _ _ _ _ ends _ c.requires.in_limits 0 t h (omega arith) c.loop-i.i (omega arith) (omega arith) none)
-
-pub loop-i-preserved : goal.loop-i-preserved
-loop-i-preserved c =
-    let a = c.args in
-    let row : c.bounded.result ≡ row_at binary64 a.kinds.now a.ns.now a.limits.now c.loop-i.i = c.bounded.ensures ∙ rw (c.children.ensures, c.of-kind.ensures) in
-    (omega arith, below_more _ _ c.loop-i.invariant.1 (sym row ∙ c.if-not-bounded.false))
-
 pub returns : goal.returns
-returns c ends t h e = sym (all_rows _ _ _ _ ends _ c.requires.in_limits 0 t h (omega arith) (λ j p q. c.loop-i.invariant.1 j (omega arith)))
+returns c ends t h =
+    let a = c.args.table.now in
+    all_from_yields_List (triple_bounded binary64) c.all.new.self _ c.all.result c.all.ensures.ran
+    (YieldsList-from_zip (YieldsList-from_zip (YieldsList-from_slice a.kinds.now cc) (YieldsList-from_slice a.ns.now cc)) (YieldsList-from_slice a.limits.now cc))
+    (λ x b q k. search (rules, tests)) ∙ all_told binary64 a.kinds.now a.ns.now a.limits.now ends t h.held h.all

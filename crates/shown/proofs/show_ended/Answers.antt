@@ -5,8 +5,7 @@ use Rattle.shown.proofs.ShowLaws.{words_one, words_none}
 use Rattle.shown.proofs.show_ended.Goals as goal
 
 pub loop-p-preserved : goal.loop-p-preserved
-loop-p-preserved c =
-    (omega arith, words_one _ _ _ _ _ (omega arith) c.show_below.ensures ∙ c.loop-p.invariant.1)
+loop-p-preserved c = words_one _ _ _ _ _ (omega arith) c.show_below.ensures ∙ c.loop-p.invariant
 
 pub returns : goal.returns
-returns c = sym (words_none _ _ _ (omega arith)) ∙ c.loop-p.invariant.1
+returns c = sym (words_none _ _ _ (omega arith)) ∙ c.loop-p.invariant

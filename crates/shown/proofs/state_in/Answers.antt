@@ -5,4 +5,4 @@ use Rattle.shown.proofs.state_in.Goals as goal
 
 pub returns : goal.returns
 unfolding below_of place_of mark_of
-returns c = (λ e. record { place = omega arith; mark = omega arith; below = omega arith }, omega (arith, c.requires))
+returns c = λ e. record { place = omega arith; mark = omega arith; below = omega arith }

@@ -1,17 +1,16 @@
--- `answers` meets its contract. The invariant: the answers passed are in the room. The measure is how many are left.
-use mathlib.Core.Path.{◌∙◌}
-use native.Mathlib.Omega.{arith}
+-- `answers` meets its contract.
+use Rattle.std.proofs.Common.{arith, ◌∙◌}
 use Rattle.writer.proofs.Puts.{answer_put}
 use Rattle.writer.proofs.answers.Goals as goal
 
 pub loop-i-preserved : goal.loop-i-preserved
 loop-i-preserved c =
-    let p = c.put-at in
-    let q = c.put-a in
+    let status = c.put-at in
+    let leftover = c.put-at-in-loop-i in
     let l = c.loop-i in
-    let a = c.args in (
-      omega arith,
-      p.auto.room ∙ q.auto.room ∙ l.invariant.1,
-      omega (arith, p.ensures.place, q.ensures.place, l.invariant.2),
-      answer_put l.i a.statuses.now a.leftovers.now (omega arith) l.invariant.3 q.ensures p.ensures (rw c.wide.ensures),
-    )
+    let a = c.args in
+    record {
+      length = leftover.auto.room ∙ status.auto.room ∙ l.invariant.length;
+      place = omega (arith, status.ensures.place, leftover.ensures.place);
+      put = answer_put l.i a.statuses.now a.leftovers.now (omega arith) l.invariant.put status.ensures leftover.ensures (rw c.from.ensures);
+    }

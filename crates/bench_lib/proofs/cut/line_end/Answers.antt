@@ -1,13 +1,21 @@
-use Rattle.std.proofs.Common.{arith}
-use Rattle.bench_lib.proofs.Cuts.{line_ends, last_line}
+-- The first LF, if there is one.
+use Rattle.std.proofs.Common.{◌≡◌, sym, ◌∙◌, rules, tests}
+use Rattle.std.proofs.lemmas.Iterator.{YieldsList-from_slice}
+use Rattle.std.proofs.lemmas.Iterator.Search.{position_from_yields_List}
+use Rattle.std.proofs.lemmas.Iterator.Adapters.{position_from-zero}
+use Rattle.std.specs.List.{position_from}
+use Rattle.bench_lib.proofs.Cuts.{ends_line, line_ends, last_line, some_bytes}
 use Rattle.bench_lib.proofs.cut.line_end.Goals as goal
+use Rattle.bench_lib.proofs.cut.line_end.Goals.{After-position}
 
-pub returns-then-input-i-eq10 : goal.returns-then-input-i-eq10
-returns-then-input-i-eq10 c =
-    let f = c.loop-i.invariant in
-    line_ends _ _ _ c.requires _ f.from (omega arith) f.none _ c.loop-i-test.true c.if-input-i-eq10.true
+place : (c : After-position) → c.position.result ≡ position_from ends_line 0 c.args.bytes.now
+place c =
+    position_from_yields_List ends_line _ _ _ c.position.ensures.ran (YieldsList-from_slice c.args.bytes.now cc) (λ x b q k. search (rules, tests))
+    ∙ position_from-zero ends_line c.args.bytes.now
 
-pub returns-then-last : goal.returns-then-last
-returns-then-last c =
-    let f = c.loop-i.invariant in
-    last_line _ _ _ c.requires (λ j p q. f.none j p (omega arith)) _ _ c.if-last.true f.from (omega arith) (λ h. omega (arith, f.to h))
+pub returns-in-Some : goal.returns-in-Some
+returns-in-Some c = line_ends c.args.bytes.now c.args.last c.in-Some.before (sym (place (goal.at.returns-in-Some c).After-position) ∙ c.in-Some.is)
+
+pub returns-in-None : goal.returns-in-None
+returns-in-None c =
+    last_line c.args.bytes.now c.args.last c.if-last.true (some_bytes c.args.bytes.now c.if-not-is_empty.ensures) (sym (place (goal.at.returns-in-None c).After-position) ∙ c.in-None.is)

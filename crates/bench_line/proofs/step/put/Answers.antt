@@ -1,10 +1,9 @@
 -- A frame without answers is written whole.
-use Rattle.std.proofs.Common.{[], ◌∷◌}
-use Rattle.bench_line.proofs.Puts.{never_short}
+use Rattle.std.proofs.Common.{[]}
+use Rattle.bench_line.proofs.Puts.{prints}
 use Rattle.bench_line.proofs.step.put.Goals as goal
 
-pub returns-in-TooShort : goal.returns-in-TooShort
-returns-in-TooShort c =
-    let a = c.args in
+pub returns : goal.returns
+returns c =
     let r = c.requires in
-    absurd (never_short a.frame (0 ∷ []) (0 ∷ []) a.room.now r.frame_value r.in_bounds _ _ c.write.ensures.room_after c.in-TooShort.is)
+    prints c.args.frame [] [] c.args.room.now r.frame_value r.in_bounds c.write.result c.write.new.room c.unwrap_or.result c.write.ensures.room_after c.unwrap_or.ensures

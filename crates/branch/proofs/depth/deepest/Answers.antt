@@ -9,11 +9,12 @@ loop-at-init c ts h levels known = all_left _ _ _ _ h
 pub returns-then-next-at : goal.returns-then-next-at
 returns-then-next-at c ts h few levels known =
     let on = goes_on _ _ _ _ _ _ (c.loop-at.invariant ts h levels known) c.loop-at-test.true in
-    absurd (omega (arith, c.if-next-at.true, c.wide-next.ensures))
+    absurd (omega arith)
 
 pub loop-at-preserved : goal.loop-at-preserved
 loop-at-preserved c ts h levels known =
-    rw (c.wide-next.ensures, c.larger-levels.ensures) (next _ _ _ _ _ _ c.args.deep.now known levels (c.loop-at.invariant ts h levels known) c.loop-at-test.true)
+    let on = next _ _ _ _ _ _ c.args.deep.now known levels (c.loop-at.invariant ts h levels known) c.loop-at-test.true in
+    rw (c.from-next.ensures, c.max-levels.ensures) on
 
 pub returns : goal.returns
 returns c ts h few levels known = none_left _ _ _ _ _ _ (c.loop-at.invariant ts h levels known) c.loop-at-test.false

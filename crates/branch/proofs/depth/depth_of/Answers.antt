@@ -8,14 +8,13 @@ use Rattle.branch.proofs.Depths.{known_more}
 use Rattle.branch.proofs.depth.depth_of.Goals as goal
 
 pub loop-at-init : goal.loop-at-init
-loop-at-init c = (omega arith, refl, λ p t a z h d. absurd (omega (arith, size_pos t)))
+loop-at-init c = (refl, λ p t a z h d. absurd (omega (arith, size_pos t)))
 
 pub loop-at-preserved : goal.loop-at-preserved
 loop-at-preserved c =
     let loop = c.loop-at in (
-      omega (arith, loop.invariant.0),
-      simp length-set loop.invariant.1,
-      known_more loop.deep c.args.ends.now c.args.n (loop.at - 1) c.wide.result c.deepest.result c.one_more.result
-          loop.invariant.1 c.requires (omega (arith, loop.invariant.0, c.loop-at-test.true)) (λ p t a. loop.invariant.2 p t (omega (arith, c.loop-at-test.true)))
-          c.wide.ensures c.deepest.ensures c.one_more.ensures,
+      simp length-set loop.invariant.0,
+      known_more loop.deep c.args.ends.now c.args.n (loop.at - 1) c.from.result c.deepest-below.result c.saturating_add.result
+          loop.invariant.0 c.requires (omega arith) (λ p t a. loop.invariant.1 p t (omega arith))
+          c.from.ensures c.deepest-below.ensures c.saturating_add.ensures,
     )

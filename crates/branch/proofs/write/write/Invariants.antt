@@ -1,6 +1,7 @@
--- Node by node, each column.
-use Prim.Native.Nat.{ℕ, ◌-◌}
+-- Node by node, each column; the slices stay the same ones.
+use Prim.Native.Nat.{ℕ}
 use Rattle.rules.specs.Tree.{zero_time}
+use Rattle.lent.specs.Lent.{SameTree}
 use Rattle.branch.specs.declared.write.Cut.{Cut}
 use Rattle.branch.specs.Write.{source_of, from, at, limit_at, always}
 use Rattle.branch.proofs.Filling.{Filling}
@@ -11,13 +12,13 @@ made cut old new i = from old new (source_of cut i)
 
 abbrev pub invariant-loop-i : goal.invariant-loop-i
 invariant-loop-i l =
-    Filling (made l.cut (at 0 l.kinds) (at 0 l.new_kinds)) l.initial.room_kinds l.nodes l.i l.room_kinds
-    × Filling (made l.cut (at 0 l.ns) (at 0 l.new_ns)) l.initial.room_ns l.nodes l.i l.room_ns
-    × Filling (made l.cut (limit_at l.limits) (limit_at l.new_limits)) l.initial.room_limits l.nodes l.i l.room_limits
-    × Filling (made l.cut (at zero_time l.times) (always zero_time)) l.initial.room_times l.nodes l.i l.room_times
-    × Filling (made l.cut (at 0 l.places) (always 0)) l.initial.room_places l.nodes l.i l.room_places
-    × Filling (made l.cut (at 0 l.marks) (always 0)) l.initial.room_marks l.nodes l.i l.room_marks
-    × Filling (made l.cut (at 0 l.sinces) (always l.ticks)) l.initial.room_sinces l.nodes l.i l.room_sinces
-
-abbrev pub decreases-loop-i : goal.decreases-loop-i
-decreases-loop-i l = l.nodes - l.i
+    let to = l.to in
+    let start = l.initial.to in
+    Filling (made l.cut (at 0 l.table.kinds.now) (at 0 l.branch.kinds.now)) start.kinds.now l.cut.nodes l.i to.kinds.now
+    × Filling (made l.cut (at 0 l.table.ns.now) (at 0 l.branch.ns.now)) start.ns.now l.cut.nodes l.i to.ns.now
+    × Filling (made l.cut (limit_at l.table.limits.now) (limit_at l.branch.limits.now)) start.limits.now l.cut.nodes l.i to.limits.now
+    × Filling (made l.cut (at zero_time l.cells.times.now) (always zero_time)) start.times.now l.cut.nodes l.i to.times.now
+    × Filling (made l.cut (at 0 l.cells.places.now) (always 0)) start.places.now l.cut.nodes l.i to.places.now
+    × Filling (made l.cut (at 0 l.cells.marks.now) (always 0)) start.marks.now l.cut.nodes l.i to.marks.now
+    × Filling (made l.cut (at 0 l.cells.sinces.now) (always l.«record».ticks)) start.sinces.now l.cut.nodes l.i to.sinces.now
+    × SameTree start to

@@ -7,9 +7,10 @@ pub loop-i-preserved : goal.loop-i-preserved
 loop-i-preserved c =
     let inv = c.loop-i.invariant in
     let pre = c.requires in
-    let h = c.loop-i-test.true in (
-      copying_more _ (pre.long.times, pre.long_2.times) inv.0 h refl,
-      copying_more _ (pre.long.places, pre.long_2.places) inv.1 h refl,
-      copying_more _ (pre.long.marks, pre.long_2.marks) inv.2 h refl,
-      copying_more _ (pre.long.sinces, pre.long_2.sinces) inv.3 h refl,
-    )
+    let h = c.loop-i-test.true in record {
+      times = copying_more _ (pre.long.times, pre.long_2.times) inv.times h refl;
+      places = copying_more _ (pre.long.places, pre.long_2.places) inv.places h refl;
+      marks = copying_more _ (pre.long.marks, pre.long_2.marks) inv.marks h refl;
+      sinces = copying_more _ (pre.long.sinces, pre.long_2.sinces) inv.sinces h refl;
+      same = inv.same;
+    }

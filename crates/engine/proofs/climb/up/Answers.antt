@@ -6,35 +6,26 @@ use Rattle.engine.proofs.climb.up.Goals as goal
 
 -- a stop
 pub returns-in-Stopped : goal.returns-in-Stopped
-returns-in-Stopped c = way_stopped c.loop-deep.invariant c.in-Stopped.is
+returns-in-Stopped c = way_stopped c.loop-at.invariant c.in-Stopped.is
 
 -- a child is due
-pub returns-then-turn : goal.returns-then-turn
-returns-then-turn c =
-    let given = c.resumed-turn in
-    way_due c.loop-deep.invariant c.loop-deep-test.true c.in_default.not-Stopped given.result _ _ given.ensures.by_index given.ensures.keeps_sound given.ensures.work_bound c.if-turn.true
+pub returns-in-Due : goal.returns-in-Due
+returns-in-Due c =
+    way_due c.loop-at.invariant c.loop-at-test.true c.in_default.not-Stopped _ _ c.resumed.ensures.work_bound _ _ (c.in-Due.ensures.by_index _ _) c.in-Due.ensures.keeps_sound
 
-pub close_decorators-closed-requires : goal.close_decorators-closed-requires
-close_decorators-closed-requires c =
-    let held = c.loop-deep.invariant.held in
-    let some = c.loop-deep-test.true in
-    record {
-      deep_bound = (omega (arith, held.few), omega (arith, held.few, held.room, some), omega (arith, held.few, held.room, some));
-      by_index = held_placed held;
-    }
+pub close_decorators-deep-requires : goal.close_decorators-deep-requires
+close_decorators-deep-requires c =
+    let held = c.loop-at.invariant.held in
+    record { deep_bound = (omega (arith, held.few), omega (arith, held.few, held.room)); placed = held_placed held }
 
-pub loop-deep-preserved-then-deep-gt0 : goal.loop-deep-preserved-then-deep-gt0
-loop-deep-preserved-then-deep-gt0 c =
-    let given = c.resumed-turn in
-    let closed = c.close_decorators-closed in
-    way_up c.loop-deep.invariant c.loop-deep-test.true c.in_default.not-Stopped given.result _ _ given.ensures.by_index given.ensures.keeps_sound given.ensures.work_bound
-    c.if-turn.false _ c.show.ensures.ts_value c.show.ensures.work_unchanged closed.ensures
-    (λ _. c.kept-level.ensures) (λ z. absurd (omega (arith, c.if-deep-gt0.true, z)))
+pub loop-at-preserved-then-deep-gt0 : goal.loop-at-preserved-then-deep-gt0
+loop-at-preserved-then-deep-gt0 c =
+    way_up c.loop-at.invariant c.loop-at-test.true c.in_default.not-Stopped _ _ c.resumed.ensures.work_bound _ _ (c.in-Done.ensures.by_index _ _)
+    _ c.show.ensures.ts_value c.show.ensures.work_unchanged c.close_decorators-deep.ensures
+    (λ _. c.kept-at.ensures) (λ z. absurd (omega (arith, c.if-deep-gt0.true, z)))
 
-pub loop-deep-preserved : goal.loop-deep-preserved
-loop-deep-preserved c =
-    let given = c.resumed-turn in
-    let closed = c.close_decorators-closed in
-    way_up c.loop-deep.invariant c.loop-deep-test.true c.in_default.not-Stopped given.result _ _ given.ensures.by_index given.ensures.keeps_sound given.ensures.work_bound
-    c.if-turn.false _ c.show.ensures.ts_value c.show.ensures.work_unchanged closed.ensures
+pub loop-at-preserved : goal.loop-at-preserved
+loop-at-preserved c =
+    way_up c.loop-at.invariant c.loop-at-test.true c.in_default.not-Stopped _ _ c.resumed.ensures.work_bound _ _ (c.in-Done.ensures.by_index _ _)
+    _ c.show.ensures.ts_value c.show.ensures.work_unchanged c.close_decorators-deep.ensures
     (λ z. absurd (omega (arith, c.if-deep-gt0.false, z))) (λ _. refl)

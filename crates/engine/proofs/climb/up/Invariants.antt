@@ -1,16 +1,16 @@
 -- Each node that is done is one less around the result.
 use lib.Ieee.{binary64}
-use Rattle.rules.specs.Levels.{levels}
-use Rattle.work.specs.Flat.{lent}
+use Rattle.lent.specs.Lent.{levels_in}
+use Rattle.work.specs.Flat.{lent_in}
 use Rattle.engine.proofs.Ways.{WayUp}
 use Rattle.engine.proofs.climb.up.Given as goal
 
 -- Each node that is done is one less around the result.
-abbrev pub invariant-loop-deep : goal.invariant-loop-deep
-invariant-loop-deep l =
-    WayUp binary64 (lent l.limits.now l.statuses.now l.leftovers.now) l.initial.deep l.initial.level l.initial.seen l.initial.left
-    (levels l.opens l.counts l.wholes l.rests) l.initial.work l.initial.times
-    l.deep l.level l.seen l.left l.work l.times
+abbrev pub invariant-loop-at : goal.invariant-loop-at
+invariant-loop-at l =
+    WayUp binary64 (lent_in l.reads) l.initial.at.deep l.initial.at.level l.initial.visit.seen l.initial.visit.left
+    (levels_in l.room) l.initial.work l.initial.times
+    l.at.deep l.at.level l.visit.seen l.visit.left l.work l.times
 
-abbrev pub decreases-loop-deep : goal.decreases-loop-deep
-decreases-loop-deep l = l.deep
+abbrev pub decreases-loop-at : goal.decreases-loop-at
+decreases-loop-at l = l.at.deep

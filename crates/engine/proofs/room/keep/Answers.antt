@@ -2,6 +2,6 @@
 use Rattle.engine.specs.Stands.{put_at}
 use Rattle.engine.proofs.room.keep.Goals as goal
 
-pub returns : goal.returns
+pub returns-clause-put : goal.returns-clause-put
 unfolding put_at
-returns c = rw c.packed.ensures
+returns-clause-put c = rw c.packed.ensures

@@ -10,5 +10,5 @@ pub returns : goal.returns
 unfolding level_at
 returns c =
     let a = c.args in
-    rw (any_default a.wholes.now a.at zero_time nan (omega (arith, c.requires)), any_default a.rests.now a.at zero_time nan (omega (arith, c.requires)))
+    rw (any_default a.room.now.wholes.now a.at zero_time nan (omega (arith, c.requires)), any_default a.room.now.rests.now a.at zero_time nan (omega (arith, c.requires)))
     c.unpacked.ensures

@@ -1,9 +1,7 @@
 -- `bits` meets its contract.
-use Rattle.frames.proofs.Nans.{nan_pattern, time_defined}
+use Rattle.std.proofs.Common.{sym, ◌∙◌}
+use Rattle.frames.proofs.Nans.{nan_pattern}
 use Rattle.frames.proofs.patterns.bits.Goals as goal
 
-pub returns-then-time : goal.returns-then-time
-returns-then-time c = nan_pattern _ c.if-time.true
-
-pub float_to_bits-result : goal.float_to_bits-result
-float_to_bits-result c = time_defined _ c.if-time.false
+pub returns-then-is_nan : goal.returns-then-is_nan
+returns-then-is_nan c = nan_pattern _ (sym c.is_nan.ensures.value ∙ c.if-is_nan.true)

@@ -1,17 +1,11 @@
--- The times of sixteen visits, and then their words: what is left is what sixteen visits leave, one after the other.
+-- The times that were passed went on, and the others are as they were.
 use mathlib.Core.Path.{◌≡◌}
-use Prim.Native.Nat.{◌-◌, ◌≤◌}
-use Rattle.leaves.proofs.WaitLaws.{run_times, Run}
+use Prim.Native.Nat.{ℕ, ◌≤◌, ◌<◌}
+use lib.Ieee.{Float, binary64, add}
+use lib.ListN.{get_or}
 use Rattle.leaves.proofs.waits.sixteen_keep_waiting.Given as goal
 
-abbrev pub invariant-loop-i : goal.invariant-loop-i
-invariant-loop-i l = (l.i ≤ 16) × (l.times ≡ run_times l.p l.dt l.i l.initial.times)
-
-abbrev pub decreases-loop-i : goal.decreases-loop-i
-decreases-loop-i l = 16 - l.i
-
-abbrev pub invariant-loop-k : goal.invariant-loop-k
-invariant-loop-k l = Run l.limits.now l.dt l.p l.fuel l.initial.work l.work l.k
-
-abbrev pub decreases-loop-k : goal.decreases-loop-k
-decreases-loop-k l = 16 - l.k
+abbrev pub invariant-loop-time : goal.invariant-loop-time
+invariant-loop-time l =
+    ((j : ℕ) (d : Float) → j < l.time-index → get_or l.time-items j d ≡ add binary64 (get_or l.initial.time-items j d) l.dt)
+    × ((j : ℕ) (d : Float) → l.time-index ≤ j → get_or l.time-items j d ≡ get_or l.initial.time-items j d)

@@ -4,20 +4,8 @@ use Rattle.rules.specs.declared.behavior.Kind.TheVariants.{WhileAll, Race}
 use Rattle.rules.specs.Kinds.{kind_of}
 use Rattle.rules.proofs.Arms.{arm}
 use Rattle.limits.specs.declared.node.Join.TheVariants.{Sum, Largest, Smallest, Product}
-use Rattle.limits.specs.declared.ticks.Ticks.TheVariants.{Never}
-use Rattle.limits.specs.Node.{Together}
-use Rattle.limits.proofs.Nodes.{Counts, counts, only, not_told, no_child, in_time, counted}
+use Rattle.limits.proofs.Nodes.{Counts, counts, counted}
 use Rattle.limits.proofs.node.together.Goals as goal
-
-pub returns-in-Invert : goal.returns-in-Invert
-unfolding kind_of
-returns-in-Invert c =
-    let a = c.args in
-    let o = only a.own a.first a.rest in
-    arm (λ k. Together k a.own a.first a.rest a.first) (3 ∷ 4 ∷ 11 ∷ []) a.kind c.in-Invert.in-Invert-own.keys1 (o.0, (o.1, (o.2, tt)))
-
-pub returns-in-Timeout : goal.returns-in-Timeout
-returns-in-Timeout c = let a = c.args in rw c.in-Timeout.is (in_time a.own a.first a.rest _ c.with.ensures)
 
 pub returns-in-Select : goal.returns-in-Select
 unfolding kind_of
@@ -38,12 +26,3 @@ returns-in-WhenAll c =
 
 pub returns-in-Race : goal.returns-in-Race
 returns-in-Race c = let a = c.args in rw c.in-Race.is (counted a.own a.first a.rest _ Race Smallest counts.7 c.with-in-Race.ensures)
-
-pub returns-in_default : goal.returns-in_default
-unfolding kind_of
-returns-in_default c =
-    let a = c.args in
-    let n = not_told a.own a.first a.rest in
-    let z = no_child a.own a.first a.rest in
-    arm (λ k. Together k a.own a.first a.rest Never) (0 ∷ 1 ∷ 2 ∷ 9 ∷ 10 ∷ []) a.kind c.in_default.in_default-own.keys7
-    (z.0, (z.1, (z.2, (n.0, (n.1, tt)))))

@@ -9,7 +9,7 @@ use Rattle.load.proofs.fresh.load_fresh.Goals as goal
 pub loop-p-preserved : goal.loop-p-preserved
 loop-p-preserved c =
     let zero = get_or-replicate {A = ℕ} _ _ 0 0 c.loop-p-test.true in
-    load_one _ _ _ _ _ _ _ _ _ _ _ (omega arith) (c.below.ensures ∙ rw c.wide.ensures) (rw zero c.word_of.ensures) ∙ c.loop-p.invariant
+    load_one _ _ _ _ _ _ _ _ _ _ _ (omega arith) (c.saturating_sub-below.ensures ∙ rw c.from.ensures) (rw zero c.word.ensures) ∙ c.loop-p.invariant
 
 pub returns : goal.returns
 returns c = sym (load_none _ _ _ _ _ _ _ _ (omega arith)) ∙ c.loop-p.invariant

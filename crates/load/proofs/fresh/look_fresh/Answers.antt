@@ -1,24 +1,24 @@
 -- What the table check found, and the words of its tree.
 use mathlib.Core.Path.{sym}
 use mathlib.Core.Bool.{false≢true}
-use native.Mathlib.Omega.{arith}
 use Rattle.rules.specs.Table.{table}
 use Rattle.tables.proofs.Good.{found_good, found_bad}
+use Rattle.load.proofs.Look.{bad_table}
 use Rattle.load.proofs.fresh.look_fresh.Goals as goal
 
 pub load_fresh-requires : goal.load_fresh-requires
 load_fresh-requires c =
-    let good = found_good _ _ _ _ _ _ c.check_table.ensures _ c.in-Good.is in
-    (good.few, good.in_kinds, omega (arith, good.few, good.ends_long))
+    let good = found_good _ _ _ _ _ _ c.check_table.ensures _ c.in_ok-n.was in
+    (good.few, good.in_kinds)
 
-pub returns-in-Bad : goal.returns-in-Bad
+pub returns-in_err-n : goal.returns-in_err-n
 unfolding table
-returns-in-Bad c times places marks = found_bad _ _ _ _ _ _ c.check_table.ensures _ c.in-Bad.is
+returns-in_err-n c times places marks = bad_table _ _ _ _ _ _ _ _ _ _ _ c.from_residual.ensures (found_bad _ _ _ _ _ _ c.check_table.ensures _ c.in_err-n.was)
 
-pub returns-in-Good : goal.returns-in-Good
+pub returns : goal.returns
 unfolding table
-returns-in-Good c times places marks =
-    let good = found_good _ _ _ _ _ _ c.check_table.ensures _ c.in-Good.is in
+returns c times places marks =
+    let good = found_good _ _ _ _ _ _ c.check_table.ensures _ c.in_ok-n.was in
     record {
       tree = good.tree;
       is = good.is;

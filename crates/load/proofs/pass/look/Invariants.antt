@@ -1,17 +1,16 @@
 -- A tree is next, or a tree has ended: each way through a turn keeps what is known of the open nodes, of their cells and of the words.
 use Prim.Native.Nat.{◌-◌}
-use Rattle.load.proofs.Look.{Nodes, Ended}
+use Rattle.load.proofs.Opens.{NodesIn, EndedIn}
 use Rattle.load.proofs.pass.look.Given as goal
 
--- A tree is next, or a tree has ended: each way through a turn keeps what is known of the open nodes, of their cells and of the words.
 abbrev pub invariant-loop-left : goal.invariant-loop-left
-invariant-loop-left l = Ended l.kinds l.ns l.limits l.times l.places l.marks l.initial.work l.begins l.owed l.under l.may l.work l.open l.left l.ended l.may_end l.fault l.at
+invariant-loop-left l = EndedIn l.table l.cells l.initial.work l.opens l.work l.«open» l.left l.ended l.may_end l.fault l.at
 
 abbrev pub decreases-loop-left : goal.decreases-loop-left
-decreases-loop-left l = l.open
+decreases-loop-left l = l.«open»
 
 abbrev pub invariant-loop-at : goal.invariant-loop-at
-invariant-loop-at l = Nodes l.kinds l.ns l.limits l.times l.places l.marks l.initial.work l.begins l.owed l.under l.may l.work l.open l.left l.ended l.may_end l.fault l.at
+invariant-loop-at l = NodesIn l.table l.cells l.initial.work l.opens l.work l.«open» l.left l.ended l.may_end l.fault l.at
 
 abbrev pub decreases-loop-at : goal.decreases-loop-at
 decreases-loop-at l = 256 - l.at

@@ -1,19 +1,20 @@
--- Where no word says that its node was made fresh, nothing is to be put; else of the numbers what stands before j is.
-use mathlib.Core.Path.{sym}
+-- Where no word says that its node was made fresh, nothing is to be put.
+use mathlib.Core.Path.{sym, ◌∙◌}
 use native.Mathlib.Omega.{arith}
 use Rattle.settle.proofs.BackLaws.{stamping_start, stamping_more, stamped_none}
 use Rattle.settle.proofs.back.put_sinces.Goals as goal
+use Rattle.settle.proofs.back.put_sinces.Goals.{then-anew_of, else-anew_of}
 
-pub returns-then-not-any_anew : goal.returns-then-not-any_anew
-returns-then-not-any_anew c =
-    sym (stamped_none _ _ _ _ (omega arith) c.requires.1 (c.any_anew.ensures c.if-not-any_anew.true))
+pub returns-then-not-anew_of : goal.returns-then-not-anew_of
+returns-then-not-anew_of c =
+    let none = rw c.all_bits.ensures at (sym c.anew_of.ensures ∙ c.if-not-anew_of.true) in
+    sym (stamped_none c.args.this c.args.n 0 c.args.work.now c.args.sinces.now (omega arith) c.requires.1 none)
 
-pub loop-j-init : goal.loop-j-init
-loop-j-init c =
-    (stamping_start, omega arith)
+pub loop-i-init : goal.loop-i-init
+loop-i-init c = stamping_start
 
-pub loop-j-preserved : goal.loop-j-preserved
-loop-j-preserved c =
-    let inv = c.loop-j.invariant in
-    let pre = c.requires in
-    (stamping_more inv.1 pre.1 inv.0 (omega arith) c.since.ensures, inv.1)
+pub loop-i-preserved : goal.loop-i-preserved
+loop-i-preserved c =
+    let e = c.anew_of-in-loop-i.ensures in
+    stamping_more (omega arith) c.requires.1 c.loop-i.invariant (omega arith)
+    (elim c.if-anew_of.branch [ then-anew_of w ↦ rw (← e, w.if-anew_of.true) w.sinces-is | else-anew_of w ↦ rw (← e, w.if-anew_of.false) w.sinces-is ])

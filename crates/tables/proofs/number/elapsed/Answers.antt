@@ -1,13 +1,11 @@
 -- A NaN is no elapsed time; any other float is one where its sign bit is clear.
 use borrow.Author.Rules.{rules}
+use mathlib.Core.Path.{sym, ◌∙◌}
 use Rattle.tables.proofs.Bits.{is_nan_lem, no_nan, elapsed_bits}
 use Rattle.tables.proofs.number.elapsed.Goals as goal
 
-pub returns-then-x : goal.returns-then-x
-returns-then-x c = rw (is_nan_lem c.args.x c.if-x.true)
+pub returns-then-not-is_nan : goal.returns-then-not-is_nan
+returns-then-not-is_nan c = rw (elapsed_bits c.args.x (search rules) (no_nan c.args.x (sym c.is_nan.ensures.value ∙ c.if-not-is_nan.true)))
 
-pub float_to_bits-result : goal.float_to_bits-result
-float_to_bits-result c = no_nan c.args.x c.if-x.false
-
-pub returns : goal.returns
-returns c = rw (elapsed_bits c.args.x (search rules) (no_nan c.args.x c.if-x.false))
+pub returns-else-not-is_nan : goal.returns-else-not-is_nan
+returns-else-not-is_nan c = rw (is_nan_lem c.args.x (sym c.is_nan.ensures.value ∙ c.if-not-is_nan.false), c.if-not-is_nan.false)

@@ -3,7 +3,5 @@ use mathlib.Core.Path.{sym, ◌∙◌}
 use Rattle.tables.proofs.Bits.{no_limit}
 use Rattle.tables.proofs.table.limit_allowed.Goals as goal
 
-pub returns-then-not-timed : goal.returns-then-not-timed
-returns-then-not-timed c =
-    let timed = c.timed in
-    rw (sym timed.ensures ∙ c.if-not-timed.true) (no_limit c.args.limit)
+pub returns-else-timed : goal.returns-else-timed
+returns-else-timed c = rw (sym c.timed.ensures ∙ c.if-timed.false) (no_limit c.args.limit)

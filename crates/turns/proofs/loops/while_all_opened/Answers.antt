@@ -5,7 +5,7 @@ use Rattle.turns.proofs.LoopLaws.{all_none, all_begins}
 use Rattle.turns.proofs.loops.while_all_opened.Goals as goal
 
 pub returns-then-p-ge255-clause-ts_value : goal.returns-then-p-ge255-clause-ts_value
-returns-then-p-ge255-clause-ts_value c = rw (c.done.ensures, c.stopped.ensures) (λ v ts. all_none v _ _ _ ts c.if-p-ge255.true)
+returns-then-p-ge255-clause-ts_value c = rw c.stopped.ensures (λ v ts. all_none v _ _ _ ts c.if-p-ge255.true)
 
 pub while_all_next-requires-clause-node_lt_q : goal.while_all_next-requires-clause-node_lt_q
 while_all_next-requires-clause-node_lt_q c = let behind = child_behind _ _ _ _ _ c.end_of-stop.ensures.1 c.child.ensures.0 in omega (arith, behind)

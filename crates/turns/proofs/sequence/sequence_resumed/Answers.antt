@@ -14,8 +14,8 @@ returns-then-not-update-clause-work_unchanged c =
 pub returns-else-not-update-clause-times_value : goal.returns-else-not-update-clause-times_value
 returns-else-not-update-clause-times_value c = let a = c.args in
     let next = c.end_of-next.ensures in
-    let more = c.if-level-next.false in λ v. rw c.due.ensures (law.seq_again a.exchange v a.level a.res.seen a.res.left _ _ (sym c.turned.ensures ∙ c.in-Success.is) _
-    next.0 more _ c.end_of-behind.ensures.0 _ _ c.fresh.ensures.work_after c.fresh.ensures.times_after c.requires.stop_in (sym c.updates-update.ensures ∙ c.if-not-update.false))
+    let more = c.if-level-next.false in λ v. law.seq_again a.exchange v a.level a.res.seen a.res.left _ _ (sym c.turned.ensures ∙ c.in-Success.is) _
+    next.0 more _ c.end_of-behind.ensures.0 _ _ c.fresh.ensures.work_after c.fresh.ensures.times_after c.requires.stop_in (sym c.updates-update.ensures ∙ c.if-not-update.false)
 
 pub returns-else-not-update-clause-work_unchanged : goal.returns-else-not-update-clause-work_unchanged
 returns-else-not-update-clause-work_unchanged c = let next = c.end_of-next.ensures in

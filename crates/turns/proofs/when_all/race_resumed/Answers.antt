@@ -18,7 +18,7 @@ race_next-requires-clause-index_bound c = elim c.if-next-eq2.branch [
 ]
 
 -- where the arms of the `if` meet
-past : (c : goal.After-race_next) → Past c.args.limits.now.now c.args.level c.args.work.now c.args.times.now c.if-next-eq2.next c.if-next-eq2.work c.if-next-eq2.times
+past : (c : goal.After-race_next) → Past c.args.reads.now.limits.now c.args.level c.args.work.now c.args.times.now c.if-next-eq2.next c.if-next-eq2.work c.if-next-eq2.times
 past c = elim c.if-next-eq2.branch [
   | then-next-eq2 w ↦ past_some w.work-is w.times-is w.next-is w.past_waits-next.ensures.waiting w.past_waits-next.ensures.upper_bound
   | else-next-eq2 w ↦ past_none w.work-is w.times-is w.next-is

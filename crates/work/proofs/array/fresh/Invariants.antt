@@ -8,6 +8,3 @@ abbrev pub invariant-loop-at : goal.invariant-loop-at
 invariant-loop-at l =
     (fresh_words l.at (l.to - l.at) l.work ≡ fresh_words l.from (l.to - l.from) l.initial.work)
     × (fresh_times l.at (l.to - l.at) l.times ≡ fresh_times l.from (l.to - l.from) l.initial.times)
-
-abbrev pub decreases-loop-at : goal.decreases-loop-at
-decreases-loop-at l = l.to - l.at

@@ -1,12 +1,19 @@
--- All bits so far cover each word that was passed.
-use Prim.Native.Nat.{◌+◌}
-use native.Mathlib.Omega.{arith}
-use borrow.Author.Count.{below_more}
-use Rattle.work.specs.Array.{word_at}
-use Rattle.work.proofs.Laws.{covered_first, covered_second}
+-- The fold over the sixteen words.
+use Rattle.std.proofs.Common.{sym, ◌≡◌, rules, subst, ◌+◌, ◌-◌, arith}
+use borrow.Author.Tests.{tests}
+use borrow.Rule.Slice.PartMut.{mid_of}
+use lib.Bits.{bit_or}
+use Rattle.std.proofs.lemmas.Iterator.{YieldsList-from_slice}
+use Rattle.std.proofs.lemmas.Iterator.Consumers.{fold_from_yields_List}
+use Rattle.work.specs.Array.{word_at, Covered}
+use Rattle.work.proofs.Laws.{covered_part}
 use Rattle.work.proofs.array.words_of.Goals as goal
 
-pub loop-i-preserved : goal.loop-i-preserved
-loop-i-preserved c =
-    let w = word_at c.args.work.now (c.args.at + c.loop-i.i) in
-    (omega arith, below_more _ _ (λ k h. covered_first c.loop-i.all w (c.loop-i.invariant.1 k h)) (covered_second c.loop-i.all w))
+pub returns : goal.returns
+returns c i h =
+    let at = c.args.at in
+    let ws = c.args.work.now in
+    let words = YieldsList-from_slice (mid_of at (at + 16 - at) ws) (cc) in
+    let folded = fold_from_yields_List _ bit_or 0 c.fold.result c.fold.ensures.ran words (λ a x b q k. search (rules, tests)) in
+    let k : at + 16 - at ≡ 16 = omega arith in
+    subst (λ r. Covered (word_at ws (at + i)) r) (sym (rw k at folded)) (covered_part ws at 16 i 0 h (omega arith))
