@@ -35,7 +35,7 @@ FAULTS = [
         "an Action's (Running, 7) becomes (Running, 0)",
         "leaves/src/lib.rt",
         "left: leftover,",
-        "left: if statuses[at] == 1 { 0.0 } else { leftover },",
+        "left: if reads.statuses[at] == 1 { 0.0 } else { leftover },",
     ),
     (
         "an ended child of WhenAll keeps its cells",

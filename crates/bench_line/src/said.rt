@@ -5,7 +5,7 @@ ghost use Rattle.bench_line.specs.Said.{said_of};
 use frames::{Call, Frame};
 use rules::Answer;
 
-// A count, a place or an index in its four digits.
+// A count, a place or an index in its four digits: what is left of it there, so no conversion.
 fn four(x: usize) -> u16
     ensures { result ≡ x % 65536 }
 {

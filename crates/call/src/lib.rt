@@ -21,7 +21,7 @@ use settle::settled;
 pub use walker::{Deep, Walker};
 use work::Reads;
 
-// The walk in place, with the cells at entry in the spare, and what it leaves.
+// The walk in place, with the cells at entry in the spare, and what it leaves; its values one by one, as in `value`.
 fn carry_out<W: Walker>(
     walker: &mut W,
     record: Record,

@@ -10,7 +10,7 @@ use host::Told;
 use lent::{Answers, CellsMut, Table};
 use rules::{Event, Record, Said};
 
-// A tick or a restart.
+// A tick or a restart; its values one by one, as in `call::value`.
 pub fn said<W: Walker>(
     walker: &mut W,
     record: &mut Record,

@@ -54,7 +54,8 @@ fn refused(fault: Fault, entries: usize) -> Answer
 
 // Refusals 3, 4, 13, 9, 5, 6 and 2; a tree that starts fresh knows no 9 and no 2. Of a tree that is due, work gets the words, and how
 // many nodes it has is told, with the event to use. The lengths come first, for then one pass tells the others: a good table has a node
-// in each of its rows. In place: a call is compiled for each of what walks, and would else call out.
+// in each of its rows. In place: a call is compiled for each of what walks, and would else call out. Its values one by one, as in
+// `call::value`.
 #[inline(always)]
 pub fn checks(
     record: Record,

@@ -17,7 +17,8 @@ use told::{counted, told_done, told_stopped};
 use work::{Seen, Visit};
 
 // A walk of n nodes that a question or too little fuel ends leaves cells and board as they were: only times were changed in
-// place, and come back from the spare. In place, as the checks are.
+// place, and come back from the spare. In place, as the checks are; its values one by one, as in
+// `call::value`.
 #[inline(always)]
 pub fn settled(
     record: Record,

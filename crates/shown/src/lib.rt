@@ -73,6 +73,7 @@ fn put_each<F: Fn(u32) -> u32>(work: &mut [u32; 260], p: usize, most: u32, put: 
         q += 16;
         left -= 16;
     }
+    // A place and a count move together.
     while 0 < left && q < stop {
         let w = work[q];
         let v = put(w);

@@ -23,6 +23,7 @@ fn status_of(seen: Seen) -> Status
 pub fn told_stopped(work: &[u32; 260], ns: &[u16], visit: Visit) -> Answer
     ensures { result ≡ told_stopped work.now ns.now visit }
 {
+    // One past the place, and 0 for none: one list of numbers, of which the theorems of `refine` are said.
     let asked = work[ASKED];
     if asked == 0 {
         return Answer::OutOfFuel;
