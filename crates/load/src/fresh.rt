@@ -21,7 +21,6 @@ fn load_fresh(work: &mut [u32; 260], kinds: &[u8], ends: &[u16; 256], n: usize)
 
 // Whether the slices hold exactly one tree, as a tick's table check has it.
 pub fn look_fresh(table: &Table, work: &mut [u32; 260]) -> Result<usize, Fault>
-    requires { length work.old ≡ 260 }
     ensures { (times : List Float) (places marks : List ℕ) → Scans table.now.kinds.now table.now.ns.now table.now.limits.now
         times places marks true work.old work.new result }
 {

@@ -38,7 +38,6 @@ fn plain_wait(may_end: bool, kind: u8, n: u16, limit: f64, time: f64, place: u16
 // The words of sixteen plain Waits without a mark.
 fn clear_sixteen(work: &mut [u32; 260], at: usize)
     requires at_bound { at + 16 ≤ 260 }
-    requires work_len { length work.old ≡ 260 }
     ensures { Cleared work.old work.new at 16 }
 {
     work[at..at + 16].fill(0);
@@ -57,7 +56,6 @@ fn past_waits(
     requires from_le_to { (from ≤ to) × (to ≤ 256) }
     requires in_table { (to ≤ length table.now.kinds.now) × (to ≤ length table.now.ns.now) × (to ≤ length table.now.limits.now) }
     requires in_cells { (to ≤ length cells.now.times.now) × (to ≤ length cells.now.places.now) × (to ≤ length cells.now.marks.now) }
-    requires work_len { length work.old ≡ 260 }
     requires groups { GroupsIn table.now cells.now plain.now }
     ensures { PassesIn table.now cells.now may_end work.old work.new from to result }
 {
@@ -120,7 +118,6 @@ struct Open {
 // Whether the slices hold exactly one tree of at most 256 nodes, at most 16 deep, whose cells are ones that their nodes allow.
 fn look(table: &Table, cells: &Cells, work: &mut [u32; 260], rows: usize) -> Result<usize, Fault>
     requires lent { LentIn table.now cells.now rows }
-    requires work_len { length work.old ≡ 260 }
     ensures { ScansIn table.now cells.now false work.old work.new result }
 {
     let last = rows.min(256);
@@ -205,7 +202,6 @@ pub fn scan(
     fresh: bool,
 ) -> Result<usize, Fault>
     requires lent { LentIn table.now cells.now rows }
-    requires work_len { length work.old ≡ 260 }
     ensures { ScansIn table.now cells.now fresh work.old work.new result }
 {
     if fresh {

@@ -59,7 +59,7 @@ find_plain-plain-requires-clause-in_table c =
     (omega arith, omega (arith, c.requires.lent.nodes), omega (arith, c.requires.lent.nodes), omega (arith, c.requires.lent.nodes))
 
 pub loop-at-init : goal.loop-at-init
-loop-at-init c = first refl refl refl refl c.requires.work_len
+loop-at-init c = first refl refl refl refl (omega arith)
 
 pub bounds-table-at : goal.bounds-table-at
 bounds-table-at c =
@@ -115,13 +115,13 @@ pub returns-in-Some-fault : goal.returns-in-Some-fault
 returns-in-Some-fault c =
     let w = (goal.at.returns-in-Some-fault c).After-past_waits-begin in
     faulted (since (stays_on (nodes w) (inside w).in_table (node (goal.at.returns-in-Some-fault c).After-word)) c.loop-left.invariant)
-    c.if-open-eq0.true _ c.requires.lent c.if-at-rows.false c.requires.work_len c.in-Some-fault.is
+    c.if-open-eq0.true _ c.requires.lent c.if-at-rows.false (omega arith) c.in-Some-fault.is
 
 pub returns-in-None : goal.returns-in-None
 returns-in-None c =
     let w = (goal.at.returns-in-None c).After-past_waits-begin in
     accepted (since (stays_on (nodes w) (inside w).in_table (node (goal.at.returns-in-None c).After-word)) c.loop-left.invariant)
-    c.if-open-eq0.true _ c.requires.lent c.if-at-rows.false c.requires.work_len c.in-None.is
+    c.if-open-eq0.true _ c.requires.lent c.if-at-rows.false (omega arith) c.in-None.is
 
 -- the innermost node begins before the place
 done_low : (c : After-from-done) → c.from-done.result < c.past_waits-begin.result + 1

@@ -32,11 +32,14 @@ returns-then-too_short c fuel =
     unmatched _ _ g _ _ c.unmatched.ensures c.rows-rows.ensures
     (sym (as_short g c.as_cells-lent.ensures c.as_cells.ensures _ c.too_short.ensures) ∙ c.if-too_short.true)
 
-pub scan-requires-clause-lent : goal.scan-requires-clause-lent
-scan-requires-clause-lent c =
-    let g = call (goal.at.scan-requires-clause-lent c).Start 0 in
-    as_held g c.as_cells-lent.ensures _
-    (lent g _ c.rows-rows.ensures (sym (as_short g c.as_cells-lent.ensures c.as_cells.ensures _ c.too_short.ensures) ∙ c.if-too_short.false))
+pub scan-requires : goal.scan-requires
+scan-requires c =
+    let g = call (goal.at.scan-requires c).Start 0 in
+    record {
+      lent =
+          as_held g c.as_cells-lent.ensures _
+          (lent g _ c.rows-rows.ensures (sym (as_short g c.as_cells-lent.ensures c.as_cells.ensures _ c.too_short.ensures) ∙ c.if-too_short.false));
+    }
 
 pub returns-in-Err : goal.returns-in-Err
 returns-in-Err c fuel =
