@@ -14,9 +14,13 @@ pub struct Output {
 }
 
 impl Output {
-    ghost use Rattle.std.specs.Prelude.{◌≡◌, ◌-◌, leb};
+    ghost use Rattle.std.specs.Prelude.{◌≡◌, ◌-◌, [], leb};
+    ghost use Rattle.bench_lib.specs.Served.{printed};
 
-    pub fn new() -> Output {
+    // Nothing was printed yet.
+    pub fn new() -> Output
+        ensures { printed result ≡ [] }
+    {
         Output {
             bytes: [0; OUTPUT],
             written: 0,
