@@ -1,8 +1,7 @@
 // Decorators one below the other: from level to level without the turns of a driver, for each has one child, which
 // stands behind it.
-ghost use Rattle.std.specs.Prelude.{◌≡◌, true, ◌<◌, ◌≤◌};
+ghost use Rattle.std.specs.Prelude.{◌≡◌, true, ◌<◌, ◌≤◌, length};
 ghost use Rattle.std.specs.Float.{binary64};
-ghost use Rattle.rules.specs.Levels.{entries};
 ghost use Rattle.lent.specs.Lent.{levels_in, SameRoom};
 ghost use Rattle.engine.specs.Stands.{decorator_level, Placed, Held};
 ghost use Rattle.engine.specs.Climbs.{Next, decorator_at, Opens, Closes};
@@ -71,7 +70,7 @@ pub fn close_decorators(
     deep: usize,
     res: Visit,
 ) -> (usize, Visit)
-    requires deep_bound { (deep ≤ 16) × (deep ≤ entries (levels_in room.now)) }
+    requires deep_bound { (deep ≤ 16) × (deep ≤ length room.now.opens.now) × (deep ≤ length room.now.wholes.now) }
     requires placed { Placed deep (levels_in room.now) }
     ensures { Closes binary64 reads.now.limits.now room.now.opens.now room.now.wholes.now
         deep res.seen res.left work.old times.old

@@ -2,8 +2,7 @@
 ghost use Rattle.std.specs.Prelude.{◌≡◌, ◌≤◌, length, bit_or};
 ghost use Rattle.std.specs.List.{fold};
 ghost use Rattle.work.specs.Word.{place_of, mark_of, seen_of};
-ghost use Rattle.lent.specs.Lent.{run_in, SameCells};
-ghost use Rattle.cells.specs.Long.{Long};
+ghost use Rattle.lent.specs.Lent.{SameCells};
 ghost use Rattle.settle.specs.Back.{over, stamped_over};
 
 use lent::CellsMut;
@@ -49,8 +48,8 @@ fn put_sinces(work: &[u32; 260], sinces: &mut [u64], n: usize, this: u64)
 
 // Places, marks and statuses of the first n nodes, and the tick's number where it made one fresh; what stands behind stays.
 pub fn put_back(work: &[u32; 260], cells: &mut CellsMut, board: &mut [u8], n: usize, this: u64)
-    requires long { Long n (run_in cells.old) }
-    requires n_bound { (n ≤ 256) × (n ≤ length board.old) }
+    requires n_bound { (n ≤ 256) × (n ≤ length cells.old.places.now) × (n ≤ length cells.old.marks.now)
+        × (n ≤ length cells.old.sinces.now) × (n ≤ length board.old) }
     ensures same_cells { SameCells cells.old cells.new }
     ensures times_after { cells.new.times.now ≡ cells.old.times.now }
     ensures places_after { cells.new.places.now ≡ over place_of n work.now cells.old.places.now }

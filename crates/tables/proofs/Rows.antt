@@ -1,6 +1,6 @@
 -- How a row is answered, and what the answer tells of the row.
 use mathlib.Core.Path.{◌≡◌, refl}
-use mathlib.Core.Bool.{Bool, true, false, cond, ◌&&◌}
+use mathlib.Core.Bool.{Bool, true, false, cond, ◌&&◌, and-true, and-false}
 use mathlib.Core.List.{List}
 use Prim.Native.Nat.{ℕ, zero, suc, ◌≤◌, ◌<◌}
 use native.Mathlib.Omega.{arith}
@@ -10,7 +10,7 @@ use lib.Ieee.{Float}
 use lib.ListN.{length, get_or}
 use Rattle.rules.specs.declared.behavior.Kind.{Kind}
 use Rattle.rules.specs.Kinds.{kind_of, fewest, most, children}
-use Rattle.rules.specs.Table.{limit_allowed, row_allowed}
+use Rattle.rules.specs.Table.{count_allowed, limit_allowed, row_allowed}
 use Rattle.std.specs.Prelude.{Some, None}
 use Rattle.std.specs.Bool.{then_some}
 use Rattle.tables.specs.Checks.{row_of}
@@ -46,11 +46,14 @@ module _ (k n : ℕ) (l : Float) where
   unfolding row_allowed
   no_kind h = rw (lt-leb k 16 h)
 
-  pub by_tests :
-      {kind : Kind} → kind ≡ kind_of k → k ≤ 16 → {c : ℕ} → c ≡ children kind n → {a : Bool} → a ≡ leb (fewest kind) c && leb c (most kind) →
-      {b : Bool} → b ≡ a && limit_allowed kind l → then_some b c ≡ row_of k n l
-  unfolding row_allowed
-  by_tests is low {c} kids counts {b} all = rw (le-leb k 16 low, ← is, ← kids, ← counts, ← all) (some_if b c)
+  module _ {kind : Kind} (is : kind ≡ kind_of k) (low : k ≤ 16) {b : Bool} (bs : b ≡ limit_allowed kind l) where
+    pub no_limit : b ≡ false → None ≡ row_of k n l
+    unfolding row_allowed
+    no_limit h = rw (le-leb k 16 low, ← is, ← bs, h, and-false (count_allowed kind n))
+
+    pub by_count : b ≡ true → {c : ℕ} → c ≡ children kind n → {a : Bool} → a ≡ leb (fewest kind) c && leb c (most kind) → then_some a c ≡ row_of k n l
+    unfolding row_allowed
+    by_count good {c} kids {a} counts = rw (le-leb k 16 low, ← is, ← kids, ← counts, ← bs, good, and-true a) (some_if a c)
 
 -- ---- an element that is there needs no default
 pub any_default : {A : Type 0} (xs : List A) (i : ℕ) (d d' : A) → i < length xs → get_or xs i d ≡ get_or xs i d'

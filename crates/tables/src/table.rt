@@ -72,8 +72,11 @@ pub fn row_of(number: u8, n: u16, limit: f64) -> Option<u16>
     let Ok(kind) = Kind::try_from(number) else {
         return None;
     };
+    if !limit_allowed(kind, limit) {
+        return None;
+    }
     let children = kind.children(n);
-    (count_allowed(kind, children) && limit_allowed(kind, limit)).then_some(children)
+    count_allowed(kind, children).then_some(children)
 }
 
 // An open node: where it begins, and how many of its parent's children are still to be read.
@@ -92,13 +95,15 @@ pub fn check_table(table: &Table, ends: &mut [u16; 256], deep: usize) -> Result<
 {
     let rows = table.rows();
     let last = rows.min(256);
+    // Each row is read, and through the reference the slices would be loaded anew for each.
+    let Table { kinds, ns, limits } = *table;
     // The stack is fixed memory with its depth beside it: a stack type's pop would answer an Option that is never None.
     let mut opens = [Open { begin: 0, owed: 0 }; 64];
     let mut open: usize = 0;
     // How many of the innermost node's children are still to be read; at first 1, for the root.
     let mut left: u16 = 1;
     for begin in 0..last {
-        let Some(children) = row_of(table.kinds[begin], table.ns[begin], table.limits[begin]) else {
+        let Some(children) = row_of(kinds[begin], ns[begin], limits[begin]) else {
             return Err(BadTable(begin));
         };
         let at = begin + 1;

@@ -16,7 +16,7 @@ returns-in-Due c =
 pub close_decorators-deep-requires : goal.close_decorators-deep-requires
 close_decorators-deep-requires c =
     let held = c.loop-at.invariant.held in
-    record { deep_bound = (omega (arith, held.few), omega (arith, held.few, held.room)); placed = held_placed held }
+    record { deep_bound = (omega (arith, held.few), omega (arith, held.few, held.room), omega (arith, held.few, held.room)); placed = held_placed held }
 
 pub loop-at-preserved-then-deep-gt0 : goal.loop-at-preserved-then-deep-gt0
 loop-at-preserved-then-deep-gt0 c =

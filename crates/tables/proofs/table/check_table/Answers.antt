@@ -31,14 +31,14 @@ told c = sym c.row_of.ensures ∙ c.in-Some.is
 pub loop-begin-init : goal.loop-begin-init
 loop-begin-init c = first (search rules) (search rules) (search rules) (search rules)
 
-pub bounds-table-begin : goal.bounds-table-begin
-bounds-table-begin c = let at = (goal.at.bounds-table-begin c).In-loop-begin in omega (arith, in_table at, long at)
+pub bounds-kinds-begin : goal.bounds-kinds-begin
+bounds-kinds-begin c = let at = (goal.at.bounds-kinds-begin c).In-loop-begin in omega (arith, in_table at, long at)
 
-pub bounds-table-begin-in-loop-begin : goal.bounds-table-begin-in-loop-begin
-bounds-table-begin-in-loop-begin c = let at = (goal.at.bounds-table-begin-in-loop-begin c).In-loop-begin in omega (arith, in_table at, long at)
+pub bounds-ns-begin : goal.bounds-ns-begin
+bounds-ns-begin c = let at = (goal.at.bounds-ns-begin c).In-loop-begin in omega (arith, in_table at, long at)
 
-pub bounds-table-begin-in-loop-begin-2 : goal.bounds-table-begin-in-loop-begin-2
-bounds-table-begin-in-loop-begin-2 c = let at = (goal.at.bounds-table-begin-in-loop-begin-2 c).In-loop-begin in omega (arith, in_table at, long at)
+pub bounds-limits-begin : goal.bounds-limits-begin
+bounds-limits-begin c = let at = (goal.at.bounds-limits-begin c).In-loop-begin in omega (arith, in_table at, long at)
 
 pub returns-in_default : goal.returns-in_default
 returns-in_default c =
