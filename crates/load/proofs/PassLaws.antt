@@ -1,20 +1,19 @@
 -- A Wait that is plainly good, and a run of such Waits.
 use mathlib.Core.Path.{◌≡◌, refl, sym, ◌∙◌}
-use mathlib.Core.Bool.{Bool, true, false, and-true, false≢true}
+use mathlib.Core.Bool.{Bool, true, false, and-true}
 use mathlib.Core.List.{List}
-use Prim.Native.Nat.{ℕ, zero, suc, ◌+◌, ◌*◌, ◌≤◌, ◌<◌}
-use native.Mathlib.Nat.{zero-mul, mul-pos, zero-lt-suc}
+use Prim.Native.Nat.{ℕ, ◌+◌, ◌≤◌, ◌<◌}
 use native.Mathlib.Omega.{arith}
-use borrow.Author.Tests.{ne_eqb, eqb-true, eqb-false, ltb-true, ltb-false}
+use borrow.Author.Tests.{eqb-true, eqb-false, ltb-true, ltb-false}
 use lib.Dec.{eqb, ltb}
-use lib.Ieee.{Float, nan, inf, fin, binary64, of_bits, of_fields, odd, lt, eq, le, up, down}
-use lib.Ieee.Fits.{up_pos}
+use lib.Ieee.{Float, nan, binary64, of_bits, lt, le}
 use lib.ListN.{length, get_or, set, length-set}
 use lib.Seq.{get_or-set_same, get_or-set_other}
 use Rattle.rules.specs.declared.behavior.Kind.TheVariants.{Wait}
 use Rattle.rules.specs.Kinds.{kind_of}
 use Rattle.rules.specs.Table.{cleaned, number, row_allowed}
 use Rattle.rules.specs.Cells.{cell_of, elapsed, in_use, cell_allowed}
+use Rattle.tables.proofs.Bits.{from_zero}
 use Rattle.refine.specs.Words.{pack}
 use Rattle.load.specs.Scans.{PlainWait, Passes}
 
@@ -26,16 +25,7 @@ abbrev infinity : Float
 infinity = of_bits binary64 0x7ff0000000000000
 
 pub between : (x : Float) → le nought x ≡ true → lt x infinity ≡ true → number (cleaned x) ≡ true
-unfolding le lt eq of_bits of_fields odd
-between nan a b = absurd (false≢true a)
-between (inf true) a b = absurd (false≢true a)
-between (inf false) a b = absurd (false≢true b)
-between (fin s zero e) a b = refl
-between (fin false (suc m) e) a b = refl
-between (fin true (suc m) e) a b =
-    let more = mul-pos (zero-lt-suc m) (up_pos e) in
-    let none : eqb 0 (suc m * up e * 1) ≡ false = ne_eqb 0 (suc m * up e * 1) (omega arith) in
-    absurd (false≢true (rw (zero-mul (down e), none) at a))
+between x a b = sym (from_zero x a) ∙ b
 
 -- ---- the cell of a Wait without a place
 module _ (m : Bool) (x : Float) (k : ℕ) where

@@ -1,12 +1,13 @@
 -- A float told by its bits, of which the sign is the top one, and by comparisons.
 use mathlib.Core.Path.{◌≡◌, refl, sym, ap, subst, ◌∙◌}
-use mathlib.Core.Bool.{Bool, true, false, not, cond, and-false}
-use Prim.Native.Nat.{ℕ, zero, suc, ◌+◌, ◌*◌, ◌/◌, ◌%◌, ◌^◌}
+use mathlib.Core.Bool.{Bool, true, false, not, cond, and-false, false≢true}
+use Prim.Native.Nat.{ℕ, zero, suc, ◌+◌, ◌*◌, ◌/◌, ◌%◌, ◌^◌, ◌<◌}
 use native.Mathlib.Nat.{zero-mul, zero-div, mul-pos, zero-lt-suc}
 use native.Mathlib.Omega.{arith}
 use borrow.Author.Tests.{lt-ltb, le-ltb, leb-true, ne_eqb, eqb-true, eqb-false, leb-false}
 use lib.Dec.{T, leb, ltb, eqb}
-use lib.Ieee.{Float, nan, inf, fin, binary64, fits, is_nan, odd, of_fields, of_bits, to_bits, eq, up, down}
+use lib.Ieee.{Float, nan, inf, fin, binary64, fits, is_nan, odd, of_fields, of_bits, to_bits, lt, le, eq, up, down}
+use lib.IntN.{ℤ}
 use lib.Ieee.Bits.{of_bits-to_bits}
 use lib.Ieee.Fits.{up_pos}
 use Rattle.rules.specs.Table.{cleaned, number, zero_bits}
@@ -118,41 +119,40 @@ module _ (x : Float) (ok : T (fits binary64 x)) where
   pub zero_bits_test : zero_bits x ≡ eqb (to_bits binary64 x) 0
   zero_bits_test = zero_test _ refl
 
--- ---- minus zero, which has the sign bit alone
-minus_zero_lem : number (cleaned (of_bits binary64 sign_bit)) ≡ true
-unfolding of_bits of_fields odd
-minus_zero_lem = refl
-
-other_bits : (x : Float) → number x ≡ false → (to_bits binary64 x ≡ sign_bit → ⊥) → number (cleaned x) ≡ false
-unfolding to_bits
-other_bits nan h g = refl
-other_bits (inf s) h g = refl
-other_bits (fin false zero e) h g = h
-other_bits (fin false (suc m) e) h g = h
-other_bits (fin true zero e) h g = absurd (g (simp (zero-mul, zero-div)))
-other_bits (fin true (suc m) e) h g = h
-
-cleaned_number : (x : Float) → number x ≡ true → number (cleaned x) ≡ true
-cleaned_number nan h = h
-cleaned_number (inf s) h = h
-cleaned_number (fin s zero e) h = refl
-cleaned_number (fin s (suc m) e) h = h
-
-module _ (x : Float) (ok : T (fits binary64 x)) where
-  pub number_below : ltb (to_bits binary64 x) infinity_bits ≡ true → number (cleaned x) ≡ true
-  number_below h = cleaned_number x (number_bits x ok ∙ h)
-
-  sign_alone : (b : Bool) → eqb (to_bits binary64 x) sign_bit ≡ b → ltb (to_bits binary64 x) infinity_bits ≡ false → number (cleaned x) ≡ b
-  sign_alone true e h =
-      ap (λ (y : Float). number (cleaned y)) (sym (of_bits-to_bits binary64 x ok)) ∙ ap (λ (b : ℕ). number (cleaned (of_bits binary64 b))) (eqb-true (to_bits binary64 x) sign_bit e) ∙ minus_zero_lem
-  sign_alone false e h = other_bits x (number_bits x ok ∙ h) (eqb-false _ _ e)
-
-  pub number_above : ltb (to_bits binary64 x) infinity_bits ≡ false → number (cleaned x) ≡ eqb (to_bits binary64 x) sign_bit
-  number_above h = sign_alone _ refl h
-
 -- ---- a number
 abbrev nought : Float
 nought = of_bits binary64 0
+
+-- ---- the order from zero on
+abbrev infinity : Float
+infinity = of_bits binary64 0x7ff0000000000000
+
+module _ (m : ℕ) (e : ℤ) where
+  above : 0 < suc m * up e * 1
+  above = let more = mul-pos (zero-lt-suc m) (up_pos e) in omega arith
+
+pub from_zero : (x : Float) → le nought x ≡ true → lt x infinity ≡ number (cleaned x)
+unfolding le lt eq of_bits of_fields odd
+from_zero nan h = refl
+from_zero (inf true) h = absurd (false≢true h)
+from_zero (inf false) h = refl
+from_zero (fin s zero e) h = refl
+from_zero (fin false (suc m) e) h = refl
+from_zero (fin true (suc m) e) h =
+    let none : eqb 0 (suc m * up e * 1) ≡ false = ne_eqb 0 (suc m * up e * 1) (omega (arith, above m e)) in
+    absurd (false≢true (rw (zero-mul (down e), none) at h))
+
+pub under_zero : (x : Float) → le nought x ≡ false → false ≡ number (cleaned x)
+unfolding le lt eq of_bits of_fields odd
+under_zero nan h = refl
+under_zero (inf true) h = refl
+under_zero (inf false) h = absurd (false≢true (sym h))
+under_zero (fin false zero e) h = absurd (false≢true (sym (rw (zero-mul (up e), zero-mul (down e)) at h)))
+under_zero (fin true zero e) h = absurd (false≢true (sym (rw (zero-mul (up e), zero-mul (down e)) at h)))
+under_zero (fin false (suc m) e) h =
+    let some : ltb 0 (suc m * up e * 1) ≡ true = lt-ltb 0 (suc m * up e * 1) (above m e) in
+    absurd (false≢true (sym (rw (zero-mul (down e), some) at h)))
+under_zero (fin true (suc m) e) h = refl
 
 -- ---- a limit where none is allowed
 pub no_limit : (x : Float) → eq x nought ≡ zero_bits (cleaned x)

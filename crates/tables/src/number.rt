@@ -24,15 +24,11 @@ pub fn number_of(x: f64) -> Option<f64>
     (f64::to_bits(number) < INFINITY).then_some(number)
 }
 
-// Whether there is a number to use, told by the bits of x itself: those of minus zero are the sign alone.
+// Whether there is a number to use. From zero, whatever its sign, up to any that is finite: a NaN is in no order.
 pub fn is_number(x: f64) -> bool
     ensures { result ≡ number (cleaned x) }
 {
-    if x.is_nan() {
-        return false;
-    }
-    let bits = f64::to_bits(x);
-    bits < INFINITY || bits == SIGN
+    0.0 <= x && x < f64::INFINITY
 }
 
 // All bits are 0.
